@@ -7,7 +7,8 @@ use Rattle.triple_arena.specs.Recaster.{pointer_in, IsRecaster}
 use Rattle.triple_arena.specs.Compression.{listed_under}
 use Rattle.triple_arena.specs.Copy.{Call, Calls, IsMappedCopy}
 
-module _ {P U E F : Type 0} (index generation : P → ℕ) (step : F → P → Bor U → Result P E → F → Type 0) where
+module _ {P U E F : Type 0} (index generation : P → ℕ)
+    (step : F → P → Bor U → Result P E → F → Type 0) where
   -- each entry holds the pointer that it stands under
   pub holds_itself : {f : F} {old : List (ℕ × (ℕ × U))} {new : List (ℕ × (ℕ × P))}
       → ((g : F) (p : P) (u : Bor U) (t : P) (h : F) → step g p u (Ok t) h → t ≡ p)
@@ -20,18 +21,26 @@ module _ {P U E F : Type 0} (index generation : P → ℕ) (step : F → P → B
       }
     where
       under : (calls : List (Call P U P))
-          → map pointer_of (map (λ (call : Call P U P). listed_under index generation call.pointer call.given) calls)
-          ≡ map pointer_of (map (λ (call : Call P U P). listed_under index generation call.pointer call.lent.now) calls)
+          → map pointer_of (map
+          (λ (call : Call P U P). listed_under index generation call.pointer call.given) calls)
+          ≡ map pointer_of (map
+          (λ (call : Call P U P). listed_under index generation call.pointer call.lent.now)
+          calls)
       under [] = refl
       under (x ∷ calls) = ap (λ l. (index x.pointer, generation x.pointer) ∷ l) (under calls)
 
       held : (calls : List (Call P U P)) (g : F) → Calls step g calls m.last
-          → map (pointer_in index generation) (map (λ (call : Call P U P). listed_under index generation call.pointer call.given) calls)
-          ≡ map pointer_of (map (λ (call : Call P U P). listed_under index generation call.pointer call.lent.now) calls)
+          → map (pointer_in index generation)
+          (map (λ (call : Call P U P). listed_under index generation call.pointer call.given)
+          calls)
+          ≡ map pointer_of (map
+          (λ (call : Call P U P). listed_under index generation call.pointer call.lent.now)
+          calls)
       held [] g made = refl
       held (x ∷ calls) g made =
           let same = one g x.pointer x.lent x.given made.0 made.1 in
           let rest = held calls made.0 made.2 in
           ap (λ p. (index p, generation p) ∷ map (pointer_in index generation)
-          (map (λ (call : Call P U P). listed_under index generation call.pointer call.given) calls)) same
+          (map (λ (call : Call P U P). listed_under index generation call.pointer call.given)
+          calls)) same
           ∙ ap (λ l. (index x.pointer, generation x.pointer) ∷ l) rest

@@ -1,7 +1,8 @@
 //! What a caller learns of insertions by an entry.
 ghost use Rattle.std.specs.Prelude.{◌≡◌, ◌<◌, false, IfSome, IfNone, IsTrue};
 ghost use Rattle.triple_arena_stack.specs.Room.{grown};
-ghost use Rattle.triple_arena.specs.Content.{live_count, arena_capacity, next_index, inserted, in_room};
+ghost use Rattle.triple_arena.specs.Content.{live_count, arena_capacity, next_index, inserted};
+ghost use Rattle.triple_arena.specs.Content.{in_room};
 
 use triple_arena::{Arena, ArenaInsertEntries, ArenaInsertEntryTrait, ArenaSlots, PtrCore};
 

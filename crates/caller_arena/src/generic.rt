@@ -1,12 +1,18 @@
 //! The facts of each call of every arena, from bounds alone.
-ghost use Rattle.std.specs.Prelude.{◌≡◌, ◌≢◌, ℕ, ◌+◌, ◌<◌, ◌≤◌, ◌↔◌, Some, None, IsOk, IsSome, IfSome, IfNone, IfOk, OnOk, OnErr, IsErrOf, unwrap_or, map as list_map, slice_get};
+ghost use Rattle.std.specs.Prelude.{◌≡◌, ◌≢◌, ℕ, ◌+◌, ◌<◌, ◌≤◌, ◌↔◌, Some, None, IsOk, IsSome};
+ghost use Rattle.std.specs.Prelude.{IfSome, IfNone, IfOk, OnOk, OnErr, IsErrOf, unwrap_or};
+ghost use Rattle.std.specs.Prelude.{map as list_map, slice_get};
 ghost use Rattle.std.specs.Option.{option_map};
 ghost use Rattle.triple_arena_ptr.specs.Generation.{second_generation, next_generation, next_wraps};
 ghost use Rattle.triple_arena_ptr.specs.InvalidationOption.{value_of, overflowed};
 ghost use Rattle.triple_arena_ptr.specs.InvalidationResult.{answer_of};
-ghost use Rattle.triple_arena_stack.specs.Room.{capacity as capacity_of, grown, with_reserved, IsBeyond};
-ghost use Rattle.triple_arena.specs.Entries.{number_if, value_if, counter_wraps, with_entry, without, with_generation_at, with_values_exchanged};
-ghost use Rattle.triple_arena.specs.Compression.{renewed, generation_given, compression_wraps, entry_of_listed, generation_of, value_of as value_of_entry, IsCompact, IsMapped};
+ghost use Rattle.triple_arena_stack.specs.Room.{capacity as capacity_of, grown, with_reserved};
+ghost use Rattle.triple_arena_stack.specs.Room.{IsBeyond};
+ghost use Rattle.triple_arena.specs.Entries.{number_if, value_if, counter_wraps, with_entry};
+ghost use Rattle.triple_arena.specs.Entries.{without, with_generation_at, with_values_exchanged};
+ghost use Rattle.triple_arena.specs.Compression.{renewed, generation_given, compression_wraps};
+ghost use Rattle.triple_arena.specs.Compression.{entry_of_listed, generation_of};
+ghost use Rattle.triple_arena.specs.Compression.{value_of as value_of_entry, IsCompact, IsMapped};
 
 use triple_arena::{ArenaInsertTrait, ArenaTrait, DisjointableArenaTrait};
 use triple_arena_ptr::{

@@ -1,6 +1,7 @@
 //! What callers know of an arena whose entries are taken out, by a drain or by a transfer, and of
 //! one with a limit.
-ghost use Rattle.std.specs.Prelude.{◌≡◌, ℕ, ◌≤◌, ◌↔◌, [], None, Some, IsOk, OnOk, OnErr, IsErrOf, map as list_map, replicate, slice_get};
+ghost use Rattle.std.specs.Prelude.{◌≡◌, ℕ, ◌≤◌, ◌↔◌, [], None, Some, IsOk, OnOk, OnErr, IsErrOf};
+ghost use Rattle.std.specs.Prelude.{map as list_map, replicate, slice_get};
 ghost use Rattle.std.specs.Fn.{iterate};
 ghost use Rattle.std.specs.Option.{option_map};
 ghost use Rattle.triple_arena_ptr.specs.Generation.{next_generation};
@@ -8,7 +9,8 @@ ghost use Rattle.triple_arena_stack.specs.Room.{capacity as capacity_of, IsBeyon
 ghost use Rattle.triple_arena.specs.ArenaRoom.{room_with};
 ghost use Rattle.triple_arena.specs.Compression.{generation_of, IsCompact};
 ghost use Rattle.triple_arena.specs.Content.{entry_at, live_count, last_index, with_limit};
-ghost use Rattle.triple_arena.specs.DirectContent.{entry_at as direct_entry_at, live_count as direct_live_count, cleared};
+ghost use Rattle.triple_arena.specs.DirectContent.{entry_at as direct_entry_at};
+ghost use Rattle.triple_arena.specs.DirectContent.{live_count as direct_live_count, cleared};
 ghost use Rattle.triple_arena.specs.Drains.{drained, removals, removal_of};
 ghost use Rattle.triple_arena.specs.LiveEntries.{live_entries};
 ghost use Rattle.triple_arena.specs.Transfer.{IsGivenUp, IsTransferred};

@@ -1,5 +1,6 @@
 //! Nodes in an arena.
-ghost use Rattle.std.specs.Prelude.{false, ◌≡◌, ◌≢◌, ℕ, ◌+◌, ◌<◌, ◌↔◌, Some, None, IsOk, IsTrue, IsSome, IsNone, IfOk, OnOk, OnErr, option_copied};
+ghost use Rattle.std.specs.Prelude.{false, ◌≡◌, ◌≢◌, ℕ, ◌+◌, ◌<◌, ◌↔◌, Some, None, IsOk, IsTrue};
+ghost use Rattle.std.specs.Prelude.{IsSome, IsNone, IfOk, OnOk, OnErr, option_copied};
 ghost use Rattle.triple_arena.specs.Content.{entry_at, live_count, arena_capacity};
 ghost use Rattle.triple_arena.specs.Entries.{with_entry, without};
 ghost use Rattle.caller_arena.specs.Nodes.{value_at};

@@ -1,6 +1,7 @@
 //! A caller whose code names `triple_arena` alone.
 ghost use Rattle.std.specs.Prelude.{◌≡◌, ℕ, ◌+◌, ◌<◌, OnOk, IfOk, IsOk, Some};
-ghost use Rattle.triple_arena.specs.Content.{entry_at, live_count, arena_capacity, inserted, grown_if_full};
+ghost use Rattle.triple_arena.specs.Content.{entry_at, live_count, arena_capacity, inserted};
+ghost use Rattle.triple_arena.specs.Content.{grown_if_full};
 
 use std::alloc::Global;
 use triple_arena::{ArenaInsertTrait, ArenaTrait, HeapArena, P0, PtrCore, ReallocationError};

@@ -1,7 +1,9 @@
 //! What the rules of each exact state give to a function that names them.
-ghost use Rattle.std.specs.Prelude.{◌≡◌, ◌==◌, ◌-◌, ℕ, [], ◌∷◌, length, drop, max, OnOk, OnSome, if◌then◌else◌};
+ghost use Rattle.std.specs.Prelude.{◌≡◌, ◌==◌, ◌-◌, ℕ, [], ◌∷◌, length, drop, max, OnOk, OnSome};
+ghost use Rattle.std.specs.Prelude.{if◌then◌else◌};
 ghost use Rattle.triple_arena_ptr.specs.InvalidationResult.{answer_of};
-ghost use Rattle.triple_arena.specs.DirectContent.{entry_at as direct_entry_at, live_count as direct_live_count};
+ghost use Rattle.triple_arena.specs.DirectContent.{entry_at as direct_entry_at};
+ghost use Rattle.triple_arena.specs.DirectContent.{live_count as direct_live_count};
 ghost use Rattle.triple_arena.specs.Content.{entry_at, live_count, next_index, IsWellFormed};
 
 use triple_arena::{

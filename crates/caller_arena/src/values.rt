@@ -3,7 +3,8 @@ ghost use Rattle.std.specs.Prelude.{◌≡◌, ℕ, ◌+◌, ◌%◌, ◌^◌, f
 ghost use Rattle.std.specs.List.{AllZip};
 ghost use Rattle.triple_arena_ptr.specs.InvalidationOption.{overflowed};
 ghost use Rattle.triple_arena.specs.Changes.{IsCompressed};
-ghost use Rattle.triple_arena.specs.Compression.{value_of, generation_of, compression_wraps, given_in_turn};
+ghost use Rattle.triple_arena.specs.Compression.{value_of, generation_of, compression_wraps};
+ghost use Rattle.triple_arena.specs.Compression.{given_in_turn};
 
 use triple_arena::{ArenaTrait, InvalidationOption, PtrCore};
 

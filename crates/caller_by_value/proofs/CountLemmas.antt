@@ -11,8 +11,10 @@ use Rattle.triple_arena_chain.specs.LinkShape.{IndexLink}
 pub as_many : {T : Type 0} (c : Content T) → length (live_entries c) ≡ live_count c
 as_many c = live_entries-length c
 
-pub as_many_direct : {T : Type 0} (d : DirectContent T) → length (direct.live_entries d) ≡ direct.live_count d
+pub as_many_direct : {T : Type 0} (d : DirectContent T)
+    → length (direct.live_entries d) ≡ direct.live_count d
 as_many_direct d = listed-length 1 d.slots
 
-pub as_many_links : {I T : Type 0} (c : Content (IndexLink I T)) → length (listed_values c) ≡ live_count c
+pub as_many_links : {I T : Type 0} (c : Content (IndexLink I T))
+    → length (listed_values c) ≡ live_count c
 as_many_links c = length-map (live_entries c) listed_value ∙ live_entries-length c

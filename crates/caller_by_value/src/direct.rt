@@ -1,5 +1,6 @@
 //! A direct arena by value.
-ghost use Rattle.std.specs.Prelude.{◌≡◌, ◌≤◌, ◌<◌, ◌%◌, ◌^◌, [], All, Contains, IfNone, IfOk, IfSome, map as list_map};
+ghost use Rattle.std.specs.Prelude.{◌≡◌, ◌≤◌, ◌<◌, ◌%◌, ◌^◌, [], All, Contains, IfNone, IfOk};
+ghost use Rattle.std.specs.Prelude.{IfSome, map as list_map};
 ghost use Rattle.std.specs.List.{sum as sum_of};
 ghost use Rattle.triple_arena.specs.Compression.{value_of};
 ghost use Rattle.triple_arena.specs.DirectContent.{live_count, live_entries};

@@ -1,5 +1,8 @@
--- What becomes of the lists of a playlist where a song is taken out and put in directly after another one.
-use Rattle.std.proofs.Common.{◌≡◌, ◌≢◌, ℕ, ◌&&◌, ◌==◌, Option, Some, None, IsSome, IfSome, Result, Ok, Err, IsOk, IfOk, option_map, refl, sym, ap, subst, ◌∙◌, true, false, true≢false, inl, inr}
+-- What becomes of the lists of a playlist where a song is taken out and put in directly after
+-- another one.
+use Rattle.std.proofs.Common.{◌≡◌, ◌≢◌, ℕ, ◌&&◌, ◌==◌, Option, Some, None, IsSome, IfSome, Result}
+use Rattle.std.proofs.Common.{Ok, Err, IsOk, IfOk, option_map, refl, sym, ap, subst, ◌∙◌, true}
+use Rattle.std.proofs.Common.{false, true≢false, inl, inr}
 use Rattle.std.specs.Result.{result_ok}
 use Rattle.std.proofs.lemmas.Bool.{eq-eqb}
 use Rattle.std.proofs.lemmas.Bool.Decides.{eqb_tells}
@@ -10,22 +13,27 @@ use Rattle.triple_arena_chain.specs.declared.kind.InsertKind.TheVariants.{NextTo
 use Rattle.triple_arena_chain.specs.LinkShape.{IndexLink}
 use Rattle.triple_arena_chain.specs.declared.place.Place.{Place}
 use Rattle.triple_arena_chain.specs.KindLaws.{put-next_to}
-use Rattle.triple_arena_chain.specs.Links.{link_ends, values_in, ends_in, ends_found, place_among, IsChained, IsPlaced, IsTakenOut}
+use Rattle.triple_arena_chain.specs.Links.{link_ends, values_in, ends_in, ends_found, place_among}
+use Rattle.triple_arena_chain.specs.Links.{IsChained, IsPlaced, IsTakenOut}
 use Rattle.examples.proofs.PlaylistLemmas.{told, moved}
 use Rattle.examples.proofs.ReversalLemmas.{generation_of, finds, live_with}
 use Rattle.examples.specs.Playlists.{IsMoved}
 
 -- one entry is taken out, and one is put in
-put_over : {T : Type 0} (old mid new : ℕ → Option (ℕ × T)) (i j : ℕ) (entry : ℕ × T) → ((k : ℕ) → mid k ≡ without old i k)
-    → ((k : ℕ) → new k ≡ with_entry mid j entry k) → (k : ℕ) → new k ≡ with_entry (without old i) j entry k
-put_over old mid new i j entry out put k = put k ∙ elim (eqb_tells k j) [ inl is ↦ rw is.0 refl | inr other ↦ rw other.0 (out k) ]
+put_over : {T : Type 0} (old mid new : ℕ → Option (ℕ × T)) (i j : ℕ) (entry : ℕ × T)
+    → ((k : ℕ) → mid k ≡ without old i k)
+    → ((k : ℕ) → new k ≡ with_entry mid j entry k) → (k : ℕ)
+    → new k ≡ with_entry (without old i) j entry k
+put_over old mid new i j entry out put k = put k
+    ∙ elim (eqb_tells k j) [ inl is ↦ rw is.0 refl | inr other ↦ rw other.0 (out k) ]
 
 some_mapped : {A B : Type 0} (f : A → B) (o : Option A) → IsSome o → IsSome (option_map f o)
 some_mapped f None some = absurd (true≢false (sym some))
 some_mapped f (Some a) some = refl
 
 -- an index has one generation
-one_generation : {T : Type 0} (o : Option (ℕ × T)) (g h : ℕ) → IsSome (value_if g o) → IsSome (value_if h o) → g ≡ h
+one_generation : {T : Type 0} (o : Option (ℕ × T)) (g h : ℕ) → IsSome (value_if g o)
+    → IsSome (value_if h o) → g ≡ h
 one_generation None g h first second = absurd (true≢false (sym first))
 one_generation (Some e) g h first second =
     elim (eqb_tells e.0 g) [
@@ -37,55 +45,74 @@ one_generation (Some e) g h first second =
     ]
 
 -- two pointers that are not equal, and both find something, have two indexes
-pub differ : {T : Type 0} (c : Content T) (i j g h : ℕ) → ((i == j) && (g == h)) ≡ false → IsSome (get c i g) → IsSome (get c j h) → i ≢ j
+pub differ : {T : Type 0} (c : Content T) (i j g h : ℕ) → ((i == j) && (g == h)) ≡ false
+    → IsSome (get c i g) → IsSome (get c j h) → i ≢ j
 differ c i j g h unequal first second same =
     let one : g ≡ h = one_generation (entry_at c i) g h first (rw same second) in
-    absurd (let no : true ≡ false = rw (same, one, eq-eqb j j refl, eq-eqb h h refl) at unequal in cc)
+    absurd (let no : true ≡ false = rw (same, one, eq-eqb j j refl, eq-eqb h h refl) at unequal in
+    cc)
 
 -- what is known of the song that was put in
-pub record Settled {P I T : Type 0} (index generation : P → ℕ) (number : I → ℕ) (last : Option ℕ) (old new : Content (IndexLink I T)) (p q : P) (t : T) (n : P) : Type 0 where
+pub record Settled {P I T : Type 0} (index generation : P → ℕ) (number : I → ℕ) (last : Option ℕ)
+    (old new : Content (IndexLink I T)) (p q : P) (t : T) (n : P) : Type 0 where
   pub lists : IsMoved (index p) (index q) (index n) (ends_in number old) (ends_in number new)
-  pub songs : (k : ℕ) → values_in new k ≡ with_entry (without (values_in old) (index p)) (index n) (generation n, t) k
+  pub songs : (k : ℕ) → values_in new k
+      ≡ with_entry (without (values_in old) (index p)) (index n) (generation n, t) k
   pub live : live_count new ≡ live_count old
   pub counter : new.counter ≡ next_generation last old.counter
 
-module _ {P I T : Type 0} (index generation : P → ℕ) (number : I → ℕ) (last : Option ℕ) (old between : Content (IndexLink I T)) (p q : P)
+module _ {P I T : Type 0} (index generation : P → ℕ) (number : I → ℕ) (last : Option ℕ)
+    (old between : Content (IndexLink I T)) (p q : P)
     (taken : IsTakenOut number last (index p) old between) where
   -- another song is there as before, so that there is a place directly after it
-  pub place_left : index p ≢ index q → IsSome (get old (index q) (generation q)) → IsSome (place_among index generation number between (NextTo q))
-  place_left differs there = some_mapped _ (ends_found number between (index q) (generation q)) found
+  pub place_left : index p ≢ index q → IsSome (get old (index q) (generation q))
+      → IsSome (place_among index generation number between (NextTo q))
+  place_left differs there =
+      some_mapped _ (ends_found number between (index q) (generation q)) found
     where
       before : generation_at (values_in old) (index q) ≡ Some (generation q)
-      before = generation_of number old (index q) (generation q) (some_mapped (link_ends number) (get old (index q) (generation q)) there)
+      before = generation_of number old (index q) (generation q)
+          (some_mapped (link_ends number) (get old (index q) (generation q)) there)
 
       stays : values_in between (index q) ≡ values_in old (index q)
-      stays = taken.values (index q) ∙ elim (eqb_tells (index q) (index p)) [ inl is ↦ absurd (differs (sym is.1)) | inr other ↦ rw other.0 refl ]
+      stays = taken.values (index q)
+          ∙ elim (eqb_tells (index q) (index p))
+          [ inl is ↦ absurd (differs (sym is.1)) | inr other ↦ rw other.0 refl ]
 
       has : generation_at (values_in between) (index q) ≡ Some (generation q)
       has = ap (option_map (λ v. v.0)) stays ∙ before
 
       found : IsSome (ends_found number between (index q) (generation q))
-      found = subst IsSome (sym (finds number between (index q) (generation q) has)) (live_with number between (index q) (generation q) has)
+      found = subst IsSome (sym (finds number between (index q) (generation q) has))
+          (live_with number between (index q) (generation q) has)
 
-  module _ (new : Content (IndexLink I T)) (t : T) (chained : IsChained number between) (there : IsSome (place_among index generation number between (NextTo q))) where
-    settled : (n : P) → IfSome (place_among index generation number between (NextTo q)) (λ place. IsPlaced number place (index n) (generation n) t between new)
+  module _ (new : Content (IndexLink I T)) (t : T) (chained : IsChained number between)
+      (there : IsSome (place_among index generation number between (NextTo q))) where
+    settled : (n : P) → IfSome (place_among index generation number between (NextTo q))
+        (λ place. IsPlaced number place (index n) (generation n) t between new)
         → Settled index generation number last old new p q t n
     settled n placed =
         record {
-          lists = moved (ends_in number old) (ends_in number between) (ends_in number new) (index p) (index q) (index n) taken.lists chained.agreed
-              (put-next_to index generation number between new q (index n) (generation n) t there placed);
+          lists = moved (ends_in number old) (ends_in number between) (ends_in number new) (index p)
+              (index q) (index n) taken.lists chained.agreed
+              (put-next_to index generation number between new q (index n) (generation n) t there
+              placed);
           songs = tell
-              (λ place at. put_over (values_in old) (values_in between) (values_in new) (index p) (index n) (generation n, t) taken.values at.values);
+              (λ place at. put_over (values_in old) (values_in between) (values_in new) (index p)
+              (index n) (generation n, t) taken.values at.values);
           live = tell (λ place at. at.live ∙ taken.live);
           counter = tell (λ place at. at.counter ∙ taken.counter);
         }
       where
-        tell : {X : Type 0} → ((place : Place ℕ) → IsPlaced number place (index n) (generation n) t between new → X) → X
-        tell say = told number between new (index n) (generation n) t (place_among index generation number between (NextTo q)) there placed say
+        tell : {X : Type 0} → ((place : Place ℕ)
+            → IsPlaced number place (index n) (generation n) t between new → X) → X
+        tell say = told number between new (index n) (generation n) t
+            (place_among index generation number between (NextTo q)) there placed say
 
     -- the answer, which is there
     pub answered : {E : Type 0} (r : Result P E) (o : Option P) → IsOk r → o ≡ result_ok r
-        → IfOk r (λ n. IfSome (place_among index generation number between (NextTo q)) (λ place. IsPlaced number place (index n) (generation n) t between new))
+        → IfOk r (λ n. IfSome (place_among index generation number between (NextTo q))
+        (λ place. IsPlaced number place (index n) (generation n) t between new))
         → (n : P) × (o ≡ Some n) × Settled index generation number last old new p q t n
     answered (Ok n) o ok is placed = (n, is, settled n placed)
     answered (Err e) o ok is placed = absurd (true≢false (sym ok))

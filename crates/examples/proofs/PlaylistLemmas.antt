@@ -1,5 +1,7 @@
 -- What the calls of a playlist make of its lists.
-use Rattle.std.proofs.Common.{◌≡◌, ℕ, List, ◌∷◌, ◌++◌, Option, Some, None, IsSome, IfSome, Result, Ok, Err, IsOk, IfOk, OnErr, option_map, refl, sym, ap, subst, ◌∙◌, ◌+◌, ◌%◌, ◌^◌, ◌<◌, length, map, arith, true≢false, inl, inr}
+use Rattle.std.proofs.Common.{◌≡◌, ℕ, List, ◌∷◌, ◌++◌, Option, Some, None, IsSome, IfSome, Result}
+use Rattle.std.proofs.Common.{Ok, Err, IsOk, IfOk, OnErr, option_map, refl, sym, ap, subst, ◌∙◌}
+use Rattle.std.proofs.Common.{◌+◌, ◌%◌, ◌^◌, ◌<◌, length, map, arith, true≢false, inl, inr}
 use Rattle.std.specs.List.{sum}
 use Rattle.std.proofs.lemmas.List.Sums.{sum_by-cons}
 use Rattle.std.proofs.lemmas.Bool.Decides.{eqb_tells}
@@ -12,31 +14,41 @@ use Rattle.triple_arena_chain.specs.declared.kind.InsertKind.TheVariants.{NextTo
 use Rattle.triple_arena_chain.specs.LinkShape.{IndexLink}
 use Rattle.triple_arena_chain.specs.declared.place.Place.{Place}
 use Rattle.triple_arena_chain.specs.Chains.{Ends, next_at, IsAgreed, Off, IsLinear, IsRing}
-use Rattle.triple_arena_chain.specs.InsertionListLaws.{linear-put_after, ring-put_after, others-put_after, linear-moved}
+use Rattle.triple_arena_chain.specs.InsertionListLaws.{linear-put_after, ring-put_after}
+use Rattle.triple_arena_chain.specs.InsertionListLaws.{others-put_after, linear-moved}
 use Rattle.triple_arena_chain.specs.KindLaws.{put-next_to}
 use Rattle.triple_arena_chain.specs.Links.{ends_in, values_in, place_among, IsChained, IsPlaced}
 use Rattle.triple_arena_chain.specs.ListLaws.{turned}
-use Rattle.triple_arena_chain.specs.Lists.{Chain, Linear, Cyclic, members, IsChainOf, IsPutIn, IsTaken}
+use Rattle.triple_arena_chain.specs.Lists.{Chain, Linear, Cyclic, members, IsChainOf, IsPutIn}
+use Rattle.triple_arena_chain.specs.Lists.{IsTaken}
 
 module _ {I T : Type 0} (number : I → ℕ) (c d : Content (IndexLink I T)) (i g : ℕ) (t : T) where
   -- what the place tells where there is one
-  pub told : {X : Type 0} (o : Option (Place ℕ)) → IsSome o → IfSome o (λ place. IsPlaced number place i g t c d)
+  pub told : {X : Type 0} (o : Option (Place ℕ)) → IsSome o
+      → IfSome o (λ place. IsPlaced number place i g t c d)
       → ((place : Place ℕ) → IsPlaced number place i g t c d → X) → X
   told None there placed tell = absurd (true≢false (sym there))
   told (Some place) there placed tell = tell place placed
 
-module _ {P E I T : Type 0} (index generation : P → ℕ) (number : I → ℕ) (c d : Content (IndexLink I T)) (p : P) (t : T) where
+module _ {P E I T : Type 0} (index generation : P → ℕ) (number : I → ℕ)
+    (c d : Content (IndexLink I T)) (p : P) (t : T) where
   -- what an insertion directly after `p` makes of the lists
   pub record Added (r : Result P E) : Type 0 where
-    pub song : IfOk r (λ q. (j : ℕ) → values_in d j ≡ with_entry (values_in c) (index q) (generation q, t) j)
-    pub linear : IfOk r (λ q. (before after : List ℕ) → IsLinear (ends_in number c) (before ++ index p ∷ after)
+    pub song : IfOk r (λ q. (j : ℕ)
+        → values_in d j ≡ with_entry (values_in c) (index q) (generation q, t) j)
+    pub linear : IfOk r (λ q. (before after : List ℕ)
+        → IsLinear (ends_in number c) (before ++ index p ∷ after)
         → IsLinear (ends_in number d) (before ++ (index p ∷ index q ∷ after)))
-    pub ring : IfOk r (λ q. (after : List ℕ) → IsRing (ends_in number c) (index p ∷ after) → IsRing (ends_in number d) (index p ∷ index q ∷ after))
-    pub others : (l : Chain) → IsChainOf (ends_in number c) l → Off (members l) (index p) → IsChainOf (ends_in number d) l
+    pub ring : IfOk r (λ q. (after : List ℕ) → IsRing (ends_in number c) (index p ∷ after)
+        → IsRing (ends_in number d) (index p ∷ index q ∷ after))
+    pub others : (l : Chain) → IsChainOf (ends_in number c) l → Off (members l) (index p)
+        → IsChainOf (ends_in number d) l
     pub counter : d.counter ≡ c.counter
 
-  pub added : (r : Result P E) → IsChained number c → (IsOk r → IsSome (place_among index generation number c (NextTo p)))
-      → IfOk r (λ q. IfSome (place_among index generation number c (NextTo p)) (λ place. IsPlaced number place (index q) (generation q) t c d))
+  pub added : (r : Result P E) → IsChained number c
+      → (IsOk r → IsSome (place_among index generation number c (NextTo p)))
+      → IfOk r (λ q. IfSome (place_among index generation number c (NextTo p))
+      (λ place. IsPlaced number place (index q) (generation q) t c d))
       → OnErr r (d ≡ c) → Added r
   added (Err e) chained there placed same =
       record {
@@ -49,28 +61,40 @@ module _ {P E I T : Type 0} (index generation : P → ℕ) (number : I → ℕ) 
   added (Ok q) chained there placed same =
       let old = ends_in number c in
       let new = ends_in number d in
-      let put = put-next_to index generation number c d p (index q) (generation q) t (there refl) placed in
+      let put = put-next_to index generation number c d p (index q) (generation q) t (there refl)
+      placed in
       record {
-        song = told number c d (index q) (generation q) t (place_among index generation number c (NextTo p)) (there refl) placed (λ place at. at.values);
+        song = told number c d (index q) (generation q) t
+            (place_among index generation number c (NextTo p)) (there refl) placed
+            (λ place at. at.values);
         linear = linear-put_after old new (index p) (index q) put;
         ring = ring-put_after old new (index p) (index q) put;
         others = others-put_after old new (index p) (index q) put chained.agreed;
-        counter = told number c d (index q) (generation q) t (place_among index generation number c (NextTo p)) (there refl) placed (λ place at. at.counter);
+        counter = told number c d (index q) (generation q) t
+            (place_among index generation number c (NextTo p)) (there refl) placed
+            (λ place at. at.counter);
       }
 
 -- what was taken out stands directly after `q` once it is put in there
-pub moved : (old between new : ℕ → Option Ends) (p q n : ℕ) → IsTaken p old between → IsAgreed between
+pub moved : (old between new : ℕ → Option Ends) (p q n : ℕ) → IsTaken p old between
+    → IsAgreed between
     → IsPutIn (Some q, next_at between q) n between new → IsMoved p q n old new
 moved old between new p q n taken agreed put =
     record {
       linear = linear-moved old between new p q n taken put;
       ring = λ before after r.
-          ring-put_after between new q n put (after ++ before) (turned between before q after (taken.from_ring (before ++ q ∷ after) r));
-      left = λ before after s off. others-put_after between new q n put agreed (Linear (before ++ after)) (taken.from_linear before after s) off;
-      left_ring = λ rest r off. others-put_after between new q n put agreed (Cyclic rest) (taken.from_ring rest r) off;
-      reached = λ before after s off. linear-put_after between new q n put before after (taken.others (Linear (before ++ q ∷ after)) s off);
-      reached_ring = λ after r off. ring-put_after between new q n put after (taken.others (Cyclic (q ∷ after)) r off);
-      others = λ c chain off off'. others-put_after between new q n put agreed c (taken.others c chain off) off';
+          ring-put_after between new q n put (after ++ before)
+          (turned between before q after (taken.from_ring (before ++ q ∷ after) r));
+      left = λ before after s off. others-put_after between new q n put agreed
+          (Linear (before ++ after)) (taken.from_linear before after s) off;
+      left_ring = λ rest r off. others-put_after between new q n put agreed (Cyclic rest)
+          (taken.from_ring rest r) off;
+      reached = λ before after s off. linear-put_after between new q n put before after
+          (taken.others (Linear (before ++ q ∷ after)) s off);
+      reached_ring = λ after r off. ring-put_after between new q n put after
+          (taken.others (Cyclic (q ∷ after)) r off);
+      others = λ c chain off off'. others-put_after between new q n put agreed c
+          (taken.others c chain off) off';
     }
 
 seen : (g v : ℕ) (o : Option (ℕ × ℕ)) → value_if g o ≡ Some v → length_of o ≡ v
@@ -82,7 +106,8 @@ seen g v (Some e) is =
     ]
 
 -- a song with this generation has a length
-pub has_length : {T : Type 0} (g : ℕ) (o : Option (ℕ × T)) → option_map (λ e. e.0) o ≡ Some g → value_if g o ≡ None → ⊥
+pub has_length : {T : Type 0} (g : ℕ) (o : Option (ℕ × T)) → option_map (λ e. e.0) o ≡ Some g
+    → value_if g o ≡ None → ⊥
 has_length g None is none = let no : None ≡ Some g = is in absurd (cc)
 has_length g (Some e) is none =
     let at : e.0 ≡ g = cc in
@@ -92,7 +117,8 @@ has_length g (Some e) is none =
     ]
 
 -- what is added goes on with the rest
-pub adds : (t v left s k : ℕ) → s ≡ v + left → (t + s) % 2 ^ 64 ≡ k % 2 ^ 64 → ((t + v) % 2 ^ 64 + left) % 2 ^ 64 ≡ k % 2 ^ 64
+pub adds : (t v left s k : ℕ) → s ≡ v + left → (t + s) % 2 ^ 64 ≡ k % 2 ^ 64
+    → ((t + v) % 2 ^ 64 + left) % 2 ^ 64 ≡ k % 2 ^ 64
 adds t v left s k is whole = omega (arith, is, whole)
 
 pub ends_at : (t s k : ℕ) → s ≡ 0 → (t + s) % 2 ^ 64 ≡ k % 2 ^ 64 → t < 2 ^ 64 → t ≡ k % 2 ^ 64
@@ -103,9 +129,12 @@ module _ {I : Type 0} (number : I → ℕ) (c : Content (IndexLink I ℕ)) (w on
   pub record Heard (v : ℕ) : Type 0 where
     pub ends : IsEnding number c on
     pub less : length (left_over number c on) < length (left_over number c w)
-    pub sums : sum (map (length_at c) (left_over number c w)) ≡ v + sum (map (length_at c) (left_over number c on))
+    pub sums : sum (map (length_at c) (left_over number c w))
+        ≡ v + sum (map (length_at c) (left_over number c on))
 
-  pub heard : (i g v : ℕ) → IsEnding number c w → ChainSteps (ends_in number c) (values_in c) w (Some (i, g)) on → value_if g (values_in c i) ≡ Some v → Heard v
+  pub heard : (i g v : ℕ) → IsEnding number c w
+      → ChainSteps (ends_in number c) (values_in c) w (Some (i, g)) on
+      → value_if g (values_in c i) ≡ Some v → Heard v
   heard i g v ends step value =
       let next = left-after number c w (i, g) on ends step in
       let left = next.0 in
@@ -114,10 +143,13 @@ module _ {I : Type 0} (number : I → ℕ) (c : Content (IndexLink I ℕ)) (w on
         ends = next.1;
         less = omega (arith, long);
         sums =
-            ap (λ l. sum (map (length_at c) l)) left ∙ sum_by-cons (λ x. x) (length_at c i) (map (length_at c) (left_over number c on))
-            ∙ ap (λ x. x + sum (map (length_at c) (left_over number c on))) (seen g v (values_in c i) value);
+            ap (λ l. sum (map (length_at c) l)) left
+            ∙ sum_by-cons (λ x. x) (length_at c i) (map (length_at c) (left_over number c on))
+            ∙ ap (λ x. x + sum (map (length_at c) (left_over number c on)))
+            (seen g v (values_in c i) value);
       }
 
   -- and none is left where none is given
-  pub all_heard : IsEnding number c w → ChainSteps (ends_in number c) (values_in c) w None on → sum (map (length_at c) (left_over number c w)) ≡ 0
+  pub all_heard : IsEnding number c w → ChainSteps (ends_in number c) (values_in c) w None on
+      → sum (map (length_at c) (left_over number c w)) ≡ 0
   all_heard ends step = ap (λ l. sum (map (length_at c) l)) (left-none number c w on ends step)

@@ -1,35 +1,46 @@
 -- What becomes of the lists of a playlist where a song and its next are turned round.
-use Rattle.std.proofs.Common.{◌≡◌, ◌≢◌, ℕ, List, [], ◌∷◌, ◌++◌, Option, Some, None, IsSome, OnSome, is_some, option_map, refl, sym, ap, subst, ◌∙◌, true, false, true≢false, inl, inr}
+use Rattle.std.proofs.Common.{◌≡◌, ◌≢◌, ℕ, List, [], ◌∷◌, ◌++◌, Option, Some, None, IsSome, OnSome}
+use Rattle.std.proofs.Common.{is_some, option_map, refl, sym, ap, subst, ◌∙◌, true, false}
+use Rattle.std.proofs.Common.{true≢false, inl, inr}
 use Rattle.std.proofs.lemmas.Bool.Decides.{eqb_tells}
 use Rattle.triple_arena.specs.Content.{Content, entry_at}
 use Rattle.triple_arena.specs.Entries.{generation_at, value_if}
 use Rattle.triple_arena_chain.specs.declared.kind.InsertKind.TheVariants.{Bridge}
 use Rattle.triple_arena_chain.specs.LinkShape.{IndexLink}
-use Rattle.triple_arena_chain.specs.Chains.{Ends, next_in, prev_in, next_at, prev_at, first_or, Off, IsLinear, IsRing, renext, reprev, with_next, with_prev, linked, unlinked, exchanged}
+use Rattle.triple_arena_chain.specs.Chains.{Ends, next_in, prev_in, next_at, prev_at, first_or, Off}
+use Rattle.triple_arena_chain.specs.Chains.{IsLinear, IsRing, renext, reprev, with_next, with_prev}
+use Rattle.triple_arena_chain.specs.Chains.{linked, unlinked, exchanged}
 use Rattle.triple_arena_chain.specs.ChainLaws.{Stands-back}
-use Rattle.triple_arena_chain.specs.InsertionListLaws.{linear-reversed, ring-reversed, linear-reversed_end}
+use Rattle.triple_arena_chain.specs.InsertionListLaws.{linear-reversed, ring-reversed}
+use Rattle.triple_arena_chain.specs.InsertionListLaws.{linear-reversed_end}
 use Rattle.triple_arena_chain.specs.Kinds.{at_bridge}
-use Rattle.triple_arena_chain.specs.ListLaws.{off_or_not, on_differs, holds_next, holds_prev, live_next_in}
-use Rattle.triple_arena_chain.specs.Links.{valued, values_in, link_ends, entry_ends, ends_in, ends_found, place_among, IsChained, IsRelinked}
-use Rattle.triple_arena_chain.specs.Lists.{Chain, Cyclic, members, IsChainOf, IsAppended, IsSplit, IsExchanged}
+use Rattle.triple_arena_chain.specs.ListLaws.{off_or_not, on_differs, holds_next, holds_prev}
+use Rattle.triple_arena_chain.specs.ListLaws.{live_next_in}
+use Rattle.triple_arena_chain.specs.Links.{valued, values_in, link_ends, entry_ends, ends_in}
+use Rattle.triple_arena_chain.specs.Links.{ends_found, place_among, IsChained, IsRelinked}
+use Rattle.triple_arena_chain.specs.Lists.{Chain, Cyclic, members, IsChainOf, IsAppended, IsSplit}
+use Rattle.triple_arena_chain.specs.Lists.{IsExchanged}
 
 module _ (f : ℕ → Option Ends) where
   next-with_prev : (i : ℕ) (v : Option ℕ) (k : ℕ) → next_at (with_prev f i v) k ≡ next_at f k
-  next-with_prev i v k = elim (eqb_tells k i) [ inl is ↦ rw is.0 (by (f k)) | inr other ↦ rw other.0 refl ]
+  next-with_prev i v k =
+      elim (eqb_tells k i) [ inl is ↦ rw is.0 (by (f k)) | inr other ↦ rw other.0 refl ]
     where
       by : (o : Option Ends) → next_in (reprev v o) ≡ next_in o
       by None = refl
       by (Some w) = refl
 
   next-with_next : (i : ℕ) (v : Option ℕ) → IsSome (f i) → next_at (with_next f i v) i ≡ v
-  next-with_next i v live = elim (eqb_tells i i) [ inl is ↦ rw is.0 (by (f i) live) | inr other ↦ absurd (other.1 refl) ]
+  next-with_next i v live =
+      elim (eqb_tells i i) [ inl is ↦ rw is.0 (by (f i) live) | inr other ↦ absurd (other.1 refl) ]
     where
       by : (o : Option Ends) → IsSome o → next_in (renext v o) ≡ v
       by None some = absurd (true≢false (sym some))
       by (Some w) some = refl
 
   live-with_next : (i : ℕ) (v : Option ℕ) (k : ℕ) → IsSome (f k) → IsSome (with_next f i v k)
-  live-with_next i v k live = elim (eqb_tells k i) [ inl is ↦ rw is.0 (by (f k) live) | inr other ↦ rw other.0 live ]
+  live-with_next i v k live =
+      elim (eqb_tells k i) [ inl is ↦ rw is.0 (by (f k) live) | inr other ↦ rw other.0 live ]
     where
       by : (o : Option Ends) → IsSome o → IsSome (renext v o)
       by None some = some
@@ -37,30 +48,36 @@ module _ (f : ℕ → Option Ends) where
 
   -- one that is parted from itself has no previous one
   parted_alone : (i : ℕ) → prev_at (unlinked f i i) i ≡ None
-  parted_alone i = elim (eqb_tells i i) [ inl is ↦ rw is.0 (by (f i)) | inr other ↦ absurd (other.1 refl) ]
+  parted_alone i = elim (eqb_tells i i)
+      [ inl is ↦ rw is.0 (by (f i)) | inr other ↦ absurd (other.1 refl) ]
     where
       by : (o : Option Ends) → prev_in (reprev None (renext None o)) ≡ None
       by None = refl
       by (Some w) = refl
 
   parted_live : (i : ℕ) → IsSome (f i) → IsSome (unlinked f i i i)
-  parted_live i live = elim (eqb_tells i i) [ inl is ↦ rw is.0 (by (f i) live) | inr other ↦ absurd (other.1 refl) ]
+  parted_live i live = elim (eqb_tells i i)
+      [ inl is ↦ rw is.0 (by (f i) live) | inr other ↦ absurd (other.1 refl) ]
     where
       by : (o : Option Ends) → IsSome o → IsSome (reprev None (renext None o))
       by None some = some
       by (Some w) some = refl
 
   parted_other : (i k : ℕ) → (k ≡ i → ⊥) → unlinked f i i k ≡ f k
-  parted_other i k differs = elim (eqb_tells k i) [ inl is ↦ absurd (differs is.1) | inr other ↦ rw other.0 refl ]
+  parted_other i k differs =
+      elim (eqb_tells k i) [ inl is ↦ absurd (differs is.1) | inr other ↦ rw other.0 refl ]
 
 -- an exchange of the nexts of a link and of the next one leaves this one a ring of one
-own_next : (e : ℕ → Option Ends) (o p q : ℕ) → IsSome (e p) → next_at (exchanged e o p p q) p ≡ Some p
+own_next : (e : ℕ → Option Ends) (o p q : ℕ) → IsSome (e p)
+    → next_at (exchanged e o p p q) p ≡ Some p
 own_next e o p q live =
-    next-with_prev (with_prev (with_next (with_next e o (Some q)) p (Some p)) q (Some o)) p (Some p) p
+    next-with_prev (with_prev (with_next (with_next e o (Some q)) p (Some p)) q (Some o)) p (Some p)
+    p
     ∙ next-with_prev (with_next (with_next e o (Some q)) p (Some p)) q (Some o) p
     ∙ next-with_next (with_next e o (Some q)) p (Some p) (live-with_next e o (Some q) p live)
 
-bridges : (p q : ℕ) (o n : Option Ends) → IsSome o → next_in o ≡ None → IsSome n → prev_in n ≡ None → IsSome (at_bridge p q o n)
+bridges : (p q : ℕ) (o n : Option Ends) → IsSome o → next_in o ≡ None → IsSome n → prev_in n ≡ None
+    → IsSome (at_bridge p q o n)
 bridges p q None n there end there' start = absurd (true≢false (sym there))
 bridges p q (Some v) None there end there' start = absurd (true≢false (sym there'))
 bridges p q (Some v) (Some w) there end there' start = rw (end, start) refl
@@ -81,9 +98,14 @@ module _ {I T : Type 0} (number : I → ℕ) (c : Content (IndexLink I T)) (i g 
   pub generation_of : IsSome (ends_found number c i g) → generation_at (values_in c) i ≡ Some g
   generation_of there = by (entry_at c i) there
     where
-      by : (o : Option (ℕ × IndexLink I T)) → IsSome (option_map (link_ends number) (value_if g o)) → option_map (λ v. v.0) (option_map valued o) ≡ Some g
+      by : (o : Option (ℕ × IndexLink I T)) → IsSome (option_map (link_ends number) (value_if g o))
+          → option_map (λ v. v.0) (option_map valued o) ≡ Some g
       by None some = absurd (true≢false (sym some))
-      by (Some e) some = elim (eqb_tells e.0 g) [ inl is ↦ ap Some is.1 | inr other ↦ absurd (let no : false ≡ true = rw other.0 at some in cc) ]
+      by (Some e) some = elim (eqb_tells e.0 g) [
+        | inl is ↦ ap Some is.1
+        | inr other ↦
+            absurd (let no : false ≡ true = rw other.0 at some in cc)
+      ]
 
   -- and what has this generation is found
   pub finds : generation_at (values_in c) i ≡ Some g → ends_found number c i g ≡ ends_in number c i
@@ -100,28 +122,38 @@ module _ {I T : Type 0} (number : I → ℕ) (c : Content (IndexLink I T)) (i g 
   pub live_with : generation_at (values_in c) i ≡ Some g → IsSome (ends_in number c i)
   live_with is = by (entry_at c i) is
     where
-      by : (o : Option (ℕ × IndexLink I T)) → option_map (λ v. v.0) (option_map valued o) ≡ Some g → IsSome (option_map (entry_ends number) o)
+      by : (o : Option (ℕ × IndexLink I T)) → option_map (λ v. v.0) (option_map valued o) ≡ Some g
+          → IsSome (option_map (entry_ends number) o)
       by None none = absurd (let no : None ≡ Some g = none in cc)
       by (Some e) some = refl
 
-  next_found : (n : ℕ) → next_in (ends_found number c i g) ≡ Some n → next_at (ends_in number c) i ≡ Some n
-  next_found n is = ap next_in (sym (finds (generation_of (live_next_in (ends_found number c i g) n is)))) ∙ is
+  next_found : (n : ℕ) → next_in (ends_found number c i g) ≡ Some n
+      → next_at (ends_in number c) i ≡ Some n
+  next_found n is = ap next_in
+      (sym (finds (generation_of (live_next_in (ends_found number c i g) n is)))) ∙ is
 
 module _ {I T : Type 0} (number : I → ℕ) (c : Content (IndexLink I T)) (o p : ℕ) where
   -- what it makes of the lists
   pub record Reversed (d : Content (IndexLink I T)) : Type 0 where
-    pub linear : (front rest : List ℕ) (q : ℕ) → IsLinear (ends_in number c) (front ++ (o ∷ p ∷ q ∷ rest))
+    pub linear : (front rest : List ℕ) (q : ℕ)
+        → IsLinear (ends_in number c) (front ++ (o ∷ p ∷ q ∷ rest))
         → IsLinear (ends_in number d) (front ++ (o ∷ q ∷ p ∷ rest))
-    pub ring : (rest : List ℕ) (q : ℕ) → IsRing (ends_in number c) (o ∷ p ∷ q ∷ rest) → IsRing (ends_in number d) (o ∷ q ∷ p ∷ rest)
-    pub ring_of_two : IsRing (ends_in number c) (o ∷ p ∷ []) → IsRing (ends_in number d) (o ∷ p ∷ [])
+    pub ring : (rest : List ℕ) (q : ℕ) → IsRing (ends_in number c) (o ∷ p ∷ q ∷ rest)
+        → IsRing (ends_in number d) (o ∷ q ∷ p ∷ rest)
+    pub ring_of_two : IsRing (ends_in number c) (o ∷ p ∷ [])
+        → IsRing (ends_in number d) (o ∷ p ∷ [])
     pub alone : IsRing (ends_in number c) (p ∷ []) → IsRing (ends_in number d) (p ∷ [])
-    pub others : (l : Chain) → IsChainOf (ends_in number c) l → Off (members l) p → IsChainOf (ends_in number d) l
+    pub others : (l : Chain) → IsChainOf (ends_in number c) l → Off (members l) p
+        → IsChainOf (ends_in number d) l
     pub values : (k : ℕ) → values_in d k ≡ values_in c k
 
-module _ {I T : Type 0} (number : I → ℕ) (c m : Content (IndexLink I T)) (o p q go g h : ℕ) (chained : IsChained number c)
-    (to_p : next_in (ends_found number c o go) ≡ Some p) (to_q : next_in (ends_found number c p g) ≡ Some q)
+module _ {I T : Type 0} (number : I → ℕ) (c m : Content (IndexLink I T)) (o p q go g h : ℕ)
+    (chained : IsChained number c)
+    (to_p : next_in (ends_found number c o go) ≡ Some p)
+    (to_q : next_in (ends_found number c p g) ≡ Some q)
     (at_q : generation_at (values_in c) q ≡ Some h)
-    (relinked : (s t : ℕ) → next_at (ends_in number c) o ≡ Some s → next_at (ends_in number c) p ≡ Some t
+    (relinked : (s t : ℕ) → next_at (ends_in number c) o ≡ Some s
+    → next_at (ends_in number c) p ≡ Some t
     → IsRelinked number (exchanged (ends_in number c) o p s t) c m)
     (first : IsExchanged o p (ends_in number c) (ends_in number m)) where
   next_o : next_at (ends_in number c) o ≡ Some p
@@ -134,10 +166,12 @@ module _ {I T : Type 0} (number : I → ℕ) (c m : Content (IndexLink I T)) (o 
   once = relinked p q next_o next_p
 
   own : next_at (ends_in number m) p ≡ Some p
-  own = ap next_in (once.ends p) ∙ own_next (ends_in number c) o p q (live_next_in (ends_in number c p) q next_p)
+  own = ap next_in (once.ends p)
+      ∙ own_next (ends_in number c) o p q (live_next_in (ends_in number c p) q next_p)
 
   at_p : generation_at (values_in m) p ≡ Some g
-  at_p = ap (option_map (λ v. v.0)) (once.values p) ∙ generation_of number c p g (live_next_in (ends_found number c p g) q to_q)
+  at_p = ap (option_map (λ v. v.0)) (once.values p)
+      ∙ generation_of number c p g (live_next_in (ends_found number c p g) q to_q)
 
   -- after the first exchange the first of the two is its own next
   pub still_next : next_in (ends_found number m p g) ≡ Some p
@@ -147,33 +181,47 @@ module _ {I T : Type 0} (number : I → ℕ) (c m : Content (IndexLink I T)) (o 
   found_q = finds number m q h (ap (option_map (λ v. v.0)) (once.values q) ∙ at_q)
 
   off_o : (l : Chain) → IsChainOf (ends_in number c) l → Off (members l) p → Off (members l) o
-  off_o l chain off = off_or_not (members l) o (λ on. on_differs (members l) p p (holds_next (ends_in number c) l o p chain on next_o) off refl)
+  off_o l chain off = off_or_not (members l) o
+      (λ on. on_differs (members l) p p (holds_next (ends_in number c) l o p chain on next_o) off
+      refl)
 
   off_q : (l : Chain) → IsChainOf (ends_in number c) l → Off (members l) p → Off (members l) q
   off_q l chain off =
       off_or_not (members l) q
-      (λ on. on_differs (members l) p p (holds_prev (ends_in number c) l q p chain on (chained.agreed.forward p q next_p)) off refl)
+      (λ on. on_differs (members l) p p
+      (holds_prev (ends_in number c) l q p chain on (chained.agreed.forward p q next_p)) off
+      refl)
 
-  linear_of : (n : ℕ → Option Ends) → ((front rest : List ℕ) → IsLinear (ends_in number c) (front ++ (o ∷ p ∷ q ∷ rest)) → IsLinear n (front ++ (o ∷ q ∷ p ∷ rest)))
-      → (front rest : List ℕ) (x : ℕ) → IsLinear (ends_in number c) (front ++ (o ∷ p ∷ x ∷ rest)) → IsLinear n (front ++ (o ∷ x ∷ p ∷ rest))
+  linear_of : (n : ℕ → Option Ends)
+      → ((front rest : List ℕ) → IsLinear (ends_in number c) (front ++ (o ∷ p ∷ q ∷ rest))
+      → IsLinear n (front ++ (o ∷ q ∷ p ∷ rest)))
+      → (front rest : List ℕ) (x : ℕ) → IsLinear (ends_in number c) (front ++ (o ∷ p ∷ x ∷ rest))
+      → IsLinear n (front ++ (o ∷ x ∷ p ∷ rest))
   linear_of n turns front rest x s =
-      let both : Some q ≡ Some x = sym next_p ∙ ap next_in (Stands-back (ends_in number c) None None front (o ∷ p ∷ x ∷ rest) s).1.0 in
+      let both : Some q ≡ Some x = sym next_p
+      ∙ ap next_in (Stands-back (ends_in number c) None None front (o ∷ p ∷ x ∷ rest) s).1.0 in
       let same : q ≡ x = cc in
-      subst (λ y. IsLinear (ends_in number c) (front ++ (o ∷ p ∷ y ∷ rest)) → IsLinear n (front ++ (o ∷ y ∷ p ∷ rest))) same (turns front rest) s
+      subst (λ y. IsLinear (ends_in number c) (front ++ (o ∷ p ∷ y ∷ rest))
+      → IsLinear n (front ++ (o ∷ y ∷ p ∷ rest))) same (turns front rest) s
 
-  ring_of : (n : ℕ → Option Ends) → ((rest : List ℕ) → IsRing (ends_in number c) (o ∷ p ∷ q ∷ rest) → IsRing n (o ∷ q ∷ p ∷ rest))
-      → (rest : List ℕ) (x : ℕ) → IsRing (ends_in number c) (o ∷ p ∷ x ∷ rest) → IsRing n (o ∷ x ∷ p ∷ rest)
+  ring_of : (n : ℕ → Option Ends)
+      → ((rest : List ℕ) → IsRing (ends_in number c) (o ∷ p ∷ q ∷ rest)
+      → IsRing n (o ∷ q ∷ p ∷ rest))
+      → (rest : List ℕ) (x : ℕ) → IsRing (ends_in number c) (o ∷ p ∷ x ∷ rest)
+      → IsRing n (o ∷ x ∷ p ∷ rest)
   ring_of n turns rest x r =
       let both : Some q ≡ Some x = sym next_p ∙ ap next_in r.stands.1.0 in
       let same : q ≡ x = cc in
-      subst (λ y. IsRing (ends_in number c) (o ∷ p ∷ y ∷ rest) → IsRing n (o ∷ y ∷ p ∷ rest)) same (turns rest) r
+      subst (λ y. IsRing (ends_in number c) (o ∷ p ∷ y ∷ rest) → IsRing n (o ∷ y ∷ p ∷ rest)) same
+      (turns rest) r
 
   -- in a ring of two the second of the pair is the one before it
   second_of_two : IsRing (ends_in number c) (o ∷ p ∷ []) → q ≡ o
   second_of_two r = let both : Some q ≡ Some o = sym next_p ∙ ap next_in r.stands.1.0 in cc
 
   -- and the two are rings of one each after the first exchange
-  parted_two : (r : IsRing (ends_in number c) (o ∷ p ∷ [])) → o ≢ p → IsRing (ends_in number m) (o ∷ []) × IsRing (ends_in number m) (p ∷ [])
+  parted_two : (r : IsRing (ends_in number c) (o ∷ p ∷ [])) → o ≢ p
+      → IsRing (ends_in number m) (o ∷ []) × IsRing (ends_in number m) (p ∷ [])
   parted_two r o_not_p = (first.first o_not_p).parted [] [] r
 
   -- a ring of one is its own second one, and the one before it
@@ -181,7 +229,8 @@ module _ {I T : Type 0} (number : I → ℕ) (c m : Content (IndexLink I T)) (o 
   second_alone r = let both : Some q ≡ Some p = sym next_p ∙ ap next_in r.stands.0 in cc
 
   before_alone : IsRing (ends_in number c) (p ∷ []) → o ≡ p
-  before_alone r = let both : Some o ≡ Some p = sym (chained.agreed.forward o p next_o) ∙ ap prev_in r.stands.0 in cc
+  before_alone r = let both : Some o ≡ Some p = sym (chained.agreed.forward o p next_o)
+      ∙ ap prev_in r.stands.0 in cc
 
   -- where the second one has a next it is put in again by another exchange
   pub exchanged_back : (d : Content (IndexLink I T)) → IsSome (next_in (ends_found number m q h))
@@ -202,56 +251,71 @@ module _ {I T : Type 0} (number : I → ℕ) (c m : Content (IndexLink I T)) (o 
             let parts = parted_two r o_not_p in
             let again_o = subst (λ x. IsExchanged x p between new) (second_of_two r) second in
             (again_o.first o_not_p).merged [] [] parts.0 parts.1 (o_not_p, tt);
-        alone = λ r. second.itself (second_alone r) (Cyclic (p ∷ [])) (first.itself (before_alone r) (Cyclic (p ∷ [])) r);
-        others = λ l chain off. second.others l (first.others l chain (off_o l chain off) off) (off_q l chain off) off;
+        alone = λ r. second.itself (second_alone r) (Cyclic (p ∷ []))
+            (first.itself (before_alone r) (Cyclic (p ∷ [])) r);
+        others = λ l chain off. second.others l (first.others l chain (off_o l chain off) off)
+            (off_q l chain off) off;
         values = λ k. twice.values k ∙ once.values k;
       }
 
   -- where no exchange came about the second one is the end
-  pub is_end : {A : Type 0} (r : Option A) → (IsSome (next_in (ends_found number m q h)) × IsSome (next_in (ends_found number m p g)) → IsSome r) → r ≡ None
+  pub is_end : {A : Type 0} (r : Option A)
+      → (IsSome (next_in (ends_found number m q h)) × IsSome (next_in (ends_found number m p g))
+      → IsSome r) → r ≡ None
       → next_in (ends_found number m q h) ≡ None
   is_end r variant none = by (next_in (ends_found number m q h)) refl
     where
       by : (x : Option ℕ) → next_in (ends_found number m q h) ≡ x → x ≡ None
       by None is = refl
-      by (Some s) is = absurd (true≢false (sym (variant (ap is_some is, ap is_some still_next)) ∙ ap is_some none))
+      by (Some s) is = absurd
+          (true≢false (sym (variant (ap is_some is, ap is_some still_next)) ∙ ap is_some none))
 
   module _ (b : Content (IndexLink I T)) (end : next_in (ends_found number m q h) ≡ None)
-      (breaks : (s : ℕ) → next_at (ends_in number m) p ≡ Some s → IsRelinked number (unlinked (ends_in number m) p s) m b) where
+      (breaks : (s : ℕ) → next_at (ends_in number m) p ≡ Some s
+      → IsRelinked number (unlinked (ends_in number m) p s) m b) where
     ends : next_at (ends_in number m) q ≡ None
     ends = ap next_in (sym found_q) ∙ end
 
     differs : q ≡ p → ⊥
-    differs same = let no : None ≡ Some p = sym ends ∙ ap (next_at (ends_in number m)) same ∙ own in absurd (cc)
+    differs same = let no : None ≡ Some p = sym ends ∙ ap (next_at (ends_in number m)) same
+        ∙ own in absurd (cc)
 
     open_q : ends_in number b q ≡ ends_in number m q
     open_q = (breaks p own).ends q ∙ parted_other (ends_in number m) p q differs
 
     -- else it is the end, behind which the first one fits
-    pub fits : {P : Type 0} (index generation : P → ℕ) (first second : P) → index first ≡ p → generation first ≡ g → index second ≡ q
-        → generation second ≡ h → IsSome (place_among index generation number b (Bridge second first))
+    pub fits : {P : Type 0} (index generation : P → ℕ) (first second : P) → index first ≡ p
+        → generation first ≡ g → index second ≡ q
+        → generation second ≡ h
+        → IsSome (place_among index generation number b (Bridge second first))
     fits index generation first second first_is gen_is second_is gen_is' =
         rw (first_is, gen_is, second_is, gen_is')
         (let before : generation_at (values_in b) q ≡ Some h =
         ap (option_map (λ v. v.0)) ((breaks p own).values q ∙ once.values q) ∙ at_q in
-        let after : generation_at (values_in b) p ≡ Some g = ap (option_map (λ v. v.0)) ((breaks p own).values p) ∙ at_p in
+        let after : generation_at (values_in b) p ≡ Some g =
+        ap (option_map (λ v. v.0)) ((breaks p own).values p) ∙ at_p in
         let q_is = finds number b q h before in
         let p_is = finds number b p g after in
         let out = ap next_in (q_is ∙ open_q) ∙ ends in
         let into = ap prev_in (p_is ∙ (breaks p own).ends p) ∙ parted_alone (ends_in number m) p in
-        bridges q p (ends_found number b q h) (ends_found number b p g) (live_q q_is before) out (live_p p_is) into)
+        bridges q p (ends_found number b q h) (ends_found number b p g) (live_q q_is before) out
+        (live_p p_is) into)
       where
-        live_q : ends_found number b q h ≡ ends_in number b q → generation_at (values_in b) q ≡ Some h → IsSome (ends_found number b q h)
+        live_q : ends_found number b q h ≡ ends_in number b q
+            → generation_at (values_in b) q ≡ Some h → IsSome (ends_found number b q h)
         live_q is at = subst IsSome (sym is) (live_with number b q h at)
 
         live_p : ends_found number b p g ≡ ends_in number b p → IsSome (ends_found number b p g)
         live_p is =
-            subst IsSome (sym (is ∙ (breaks p own).ends p)) (parted_live (ends_in number m) p (live_next_in (ends_in number m p) p own))
+            subst IsSome (sym (is ∙ (breaks p own).ends p))
+            (parted_live (ends_in number m) p (live_next_in (ends_in number m p) p own))
 
     -- and is appended
     pub appended_back : (d : Content (IndexLink I T))
-        → ((s : ℕ) → next_at (ends_in number m) p ≡ Some s → IsSplit p s (ends_in number m) (ends_in number b))
-        → IsRelinked number (linked (ends_in number b) q p) b d → IsAppended q p (ends_in number b) (ends_in number d) → Reversed number c o p d
+        → ((s : ℕ) → next_at (ends_in number m) p ≡ Some s
+        → IsSplit p s (ends_in number m) (ends_in number b))
+        → IsRelinked number (linked (ends_in number b) q p) b d
+        → IsAppended q p (ends_in number b) (ends_in number d) → Reversed number c o p d
     appended_back d splits joined appended =
         let old = ends_in number c in
         let between = ends_in number m in
@@ -259,15 +323,19 @@ module _ {I T : Type 0} (number : I → ℕ) (c m : Content (IndexLink I T)) (o 
         let new = ends_in number d in
         let parted = splits p own in
         record {
-          linear = linear_of new (λ front rest. linear-reversed_end old between broken new o p q first parted appended front rest ends);
+          linear = linear_of new
+              (λ front rest. linear-reversed_end old between broken new o p q first parted appended
+              front rest ends);
           ring = ring_of new (λ rest r. absurd (no_ring rest r));
           ring_of_two = λ r.
               let parts = parted_two r (λ same. r.apart.0.0 (sym same)) in
-              let no : None ≡ Some o = sym ends ∙ ap (next_at between) (second_of_two r) ∙ ap next_in parts.0.stands.0 in
+              let no : None ≡ Some o = sym ends ∙ ap (next_at between) (second_of_two r)
+              ∙ ap next_in parts.0.stands.0 in
               absurd (cc);
           alone = λ r. absurd (differs (second_alone r));
           others = λ l chain off.
-              appended.others l (parted.others l (first.others l chain (off_o l chain off) off) off off) (off_q l chain off) off;
+              appended.others l (parted.others l (first.others l chain (off_o l chain off) off) off
+              off) (off_q l chain off) off;
           values = λ k. joined.values k ∙ (breaks p own).values k ∙ once.values k;
         }
       where

@@ -1,5 +1,6 @@
 -- A document: nodes that name one another by pointers.
-use Rattle.std.specs.Prelude.{◌≡◌, ◌↔◌, ℕ, ◌<◌, List, length, map, slice_index_or, Option, Some, IsSome}
+use Rattle.std.specs.Prelude.{◌≡◌, ◌↔◌, ℕ, ◌<◌, List, length, map, slice_index_or, Option, Some}
+use Rattle.std.specs.Prelude.{IsSome}
 use Rattle.std.specs.Option.{option_map}
 use Rattle.triple_arena_ptr.specs.Recast.{renamed}
 use Rattle.triple_arena.specs.Compression.{compacted, live_values}

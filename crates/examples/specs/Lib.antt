@@ -3,3 +3,4 @@ pub mod Follow
 pub mod Playlists
 pub mod Scene
 pub mod Scheduler
+pub mod SideTable

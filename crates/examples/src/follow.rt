@@ -1,5 +1,6 @@
 //! Pointers that follow their entries through a compression.
-ghost use Rattle.std.specs.Prelude.{◌≡◌, ℕ, ◌-◌, ◌↔◌, false, Some, IsSome, IfSome, map as list_map, slice_get, slice_index_or};
+ghost use Rattle.std.specs.Prelude.{◌≡◌, ℕ, ◌-◌, ◌↔◌, false, Some, IsSome, IfSome, map as list_map};
+ghost use Rattle.std.specs.Prelude.{slice_get, slice_index_or};
 ghost use Rattle.std.specs.Option.{option_map};
 ghost use Rattle.std.specs.List.{AllZip};
 ghost use Rattle.triple_arena.specs.Entries.{value_if};

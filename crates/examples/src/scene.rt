@@ -1,5 +1,6 @@
 //! Nodes in an arena, named by numbers that a compression does not change.
-ghost use Rattle.std.specs.Prelude.{◌≡◌, ◌≢◌, ℕ, ◌+◌, Some, None, IsSome, IfOk, OnOk, OnErr, IsErrOf, option_copied};
+ghost use Rattle.std.specs.Prelude.{◌≡◌, ◌≢◌, ℕ, ◌+◌, Some, None, IsSome, IfOk, OnOk, OnErr};
+ghost use Rattle.std.specs.Prelude.{IsErrOf, option_copied};
 ghost use Rattle.triple_arena.specs.Compression.{IsCompact};
 ghost use Rattle.triple_arena.specs.Content.{live_count};
 ghost use Rattle.triple_arena.specs.LiveEntries.{live_entries};

@@ -1,5 +1,7 @@
 //! Tasks in an arena, named by pointers.
-ghost use Rattle.std.specs.Prelude.{◌≡◌, ◌≢◌, ◌⊎◌, ◌+◌, ◌-◌, ◌^◌, ◌<◌, ◌≤◌, ◌↔◌, ℕ, Some, None, false, IsOk, IsTrue, IsSome, IfOk, IfNone, IsErrOf, OnErr, option_copied, option_map};
+ghost use Rattle.std.specs.Prelude.{◌≡◌, ◌≢◌, ◌⊎◌, ◌+◌, ◌-◌, ◌^◌, ◌<◌, ◌≤◌, ◌↔◌, ℕ, Some, None};
+ghost use Rattle.std.specs.Prelude.{false, IsOk, IsTrue, IsSome, IfOk, IfNone, IsErrOf, OnErr};
+ghost use Rattle.std.specs.Prelude.{option_copied, option_map};
 ghost use Rattle.triple_arena.specs.Content.{live_count, arena_capacity};
 ghost use Rattle.examples.specs.Scheduler.{HasEnded, endings_left, task_at};
 

@@ -1,7 +1,8 @@
 //! Callers that take an ordered arena by value: by a `for`, also one that is left half-way, and by
 //! one `next`. Each says which items come, and in which order. `caller_by_value` has those of the
 //! other arenas.
-ghost use Rattle.std.specs.Prelude.{◌≡◌, ℕ, ◌≤◌, ◌<◌, ◌%◌, ◌^◌, [], All, Contains, IfNone, IfOk, IfSome, map as list_map};
+ghost use Rattle.std.specs.Prelude.{◌≡◌, ℕ, ◌≤◌, ◌<◌, ◌%◌, ◌^◌, [], All, Contains, IfNone, IfOk};
+ghost use Rattle.std.specs.Prelude.{IfSome, map as list_map};
 ghost use Rattle.std.specs.Int.NonZero.{non_zero_usize_get};
 ghost use Rattle.std.specs.List.{sum as sum_of};
 ghost use Rattle.std.specs.List.Sorted.{IsSorted};

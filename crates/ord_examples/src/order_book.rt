@@ -1,12 +1,14 @@
 //! Order books: orders by their prices in an ordered arena, one at a price at most, of which all is
 //! said by pointers and prices.
-ghost use Rattle.std.specs.Prelude.{◌≡◌, ◌≤◌, ◌↔◌, ℕ, None, Some, Ok, IsTrue, IsOk, IsSome, IfOk, IfSome, IfNone, IfErr, OnErr, OnSome, IsErrOf};
+ghost use Rattle.std.specs.Prelude.{◌≡◌, ◌≤◌, ◌↔◌, ℕ, None, Some, Ok, IsTrue, IsOk, IsSome, IfOk};
+ghost use Rattle.std.specs.Prelude.{IfSome, IfNone, IfErr, OnErr, OnSome, IsErrOf};
 ghost use Rattle.triple_arena_stack.specs.Room.{capacity as capacity_of, IsBeyond};
 ghost use Rattle.triple_arena.specs.ArenaRoom.{room_of};
 ghost use Rattle.triple_arena.specs.Content.{live_count, arena_capacity};
 ghost use Rattle.triple_arena.specs.Entries.{with_entry, without, value_if, generation_at};
 ghost use Rattle.triple_arena_ptr.specs.Generation.{next_generation};
-ghost use Rattle.ord_examples.specs.OrderBooks.{orders_in, price_in, IsFreePrice, IsNewOrder, IsBook, IsNextPrice, IsLastPrice, as_order};
+ghost use Rattle.ord_examples.specs.OrderBooks.{orders_in, price_in, IsFreePrice, IsNewOrder};
+ghost use Rattle.ord_examples.specs.OrderBooks.{IsBook, IsNextPrice, IsLastPrice, as_order};
 
 use triple_arena::{
     Advancer, ArenaSlot, ArenaTrait, NonZeroInxGenericStack, PtrCore, ReallocationError,

@@ -1,11 +1,13 @@
 //! Order books that are moved, as into one over narrower pointers.
-ghost use Rattle.std.specs.Prelude.{◌≡◌, ◌≤◌, ◌↔◌, OnOk, OnErr, IsOk, IsErrOf, IsTrue, map as list_map};
+ghost use Rattle.std.specs.Prelude.{◌≡◌, ◌≤◌, ◌↔◌, OnOk, OnErr, IsOk, IsErrOf, IsTrue};
+ghost use Rattle.std.specs.Prelude.{map as list_map};
 ghost use Rattle.std.specs.List.{range_with_len};
 ghost use Rattle.triple_arena_stack.specs.Room.{capacity as capacity_of, IsBeyond};
 ghost use Rattle.triple_arena.specs.ArenaRoom.{room_with};
 ghost use Rattle.triple_arena.specs.Transfer.{IsFilled};
 ghost use Rattle.triple_arena_ord.specs.Indexed.{indexed};
-ghost use Rattle.triple_arena_ord.specs.Ordered.{entry_in, size_in, counter_in, room_in, order_in, ordered_entries};
+ghost use Rattle.triple_arena_ord.specs.Ordered.{entry_in, size_in, counter_in, room_in, order_in};
+ghost use Rattle.triple_arena_ord.specs.Ordered.{ordered_entries};
 ghost use Rattle.triple_arena_ord.specs.States.{drained_in};
 ghost use Rattle.ord_examples.specs.OrderBooks.{listed_order};
 

@@ -4,7 +4,9 @@
 //! public; those of the arena's own files are in its `wrong-bodies.txt`.
 #![tactic(auto)]
 
-ghost use Rattle.std.specs.Prelude.{◌≡◌, ℕ, length, ◌<◌, ◌↔◌, None, Some, IsOk, IfOk, IfSome, IfNone, OnOk, OnSome, OnErr, option_copied, ◌≤◌, IsErrOf, IsTrue};
+ghost use Rattle.std.specs.Prelude.{◌≡◌, ℕ, length, ◌<◌, ◌↔◌, None, Some, IsOk, IfOk, IfSome};
+ghost use Rattle.std.specs.Prelude.{IfNone, OnOk, OnSome, OnErr, option_copied, ◌≤◌, IsErrOf};
+ghost use Rattle.std.specs.Prelude.{IsTrue};
 ghost use Rattle.std.specs.Fn.{iterate};
 ghost use Rattle.std.specs.Int.NonZero.{non_zero_usize_get};
 ghost use Rattle.std.specs.Option.{option_map};
@@ -14,7 +16,8 @@ ghost use Rattle.triple_arena_ptr.specs.InvalidationResult.{answer_of};
 ghost use Rattle.triple_arena_stack.specs.Room.{capacity as capacity_of, IsBeyond};
 ghost use Rattle.triple_arena.specs.ArenaRoom.{room_with};
 ghost use Rattle.triple_arena.specs.Changes.{IsInserted, IsRemoved};
-ghost use Rattle.triple_arena.specs.Content.{entry_at, live_count, arena_capacity, next_index, inserted};
+ghost use Rattle.triple_arena.specs.Content.{entry_at, live_count, arena_capacity, next_index};
+ghost use Rattle.triple_arena.specs.Content.{inserted};
 ghost use Rattle.triple_arena.specs.Drains.{drained};
 ghost use Rattle.triple_arena.specs.Entries.{value_if, counter_wraps, generation_at};
 ghost use Rattle.triple_arena.specs.FreeLinks.{neighbors};

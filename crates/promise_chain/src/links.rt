@@ -1,11 +1,14 @@
 //! Interlinks, read and changed.
-ghost use Rattle.std.specs.Prelude.{◌≡◌, ◌↔◌, ℕ, None, Some, IsSome, IsTrue, IfSome, IfNone, OnSome};
+ghost use Rattle.std.specs.Prelude.{◌≡◌, ◌↔◌, ℕ, None, Some, IsSome, IsTrue, IfSome, IfNone};
+ghost use Rattle.std.specs.Prelude.{OnSome};
 ghost use Rattle.std.specs.Option.{option_map};
 ghost use Rattle.triple_arena.specs.Content.{get};
 ghost use Rattle.triple_arena.specs.Entries.{value_if};
 ghost use Rattle.triple_arena_chain.specs.declared.kind.InsertKind.TheVariants.{Bridge};
-ghost use Rattle.triple_arena_chain.specs.Chains.{next_in, prev_in, next_at, prev_at, linked, unlinked, exchanged};
-ghost use Rattle.triple_arena_chain.specs.Links.{ends_in, ends_found, values_in, place_among, IsChained, IsRelinked};
+ghost use Rattle.triple_arena_chain.specs.Chains.{next_in, prev_in, next_at, prev_at, linked};
+ghost use Rattle.triple_arena_chain.specs.Chains.{unlinked, exchanged};
+ghost use Rattle.triple_arena_chain.specs.Links.{ends_in, ends_found, values_in, place_among};
+ghost use Rattle.triple_arena_chain.specs.Links.{IsChained, IsRelinked};
 ghost use Rattle.triple_arena_chain.specs.Lists.{IsAppended, IsSplit, IsExchanged};
 ghost use Rattle.triple_arena_chain.specs.Values.{IsLivePtr};
 

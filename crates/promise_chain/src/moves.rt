@@ -1,10 +1,12 @@
 //! Calls on all links at once: compressions, copies, and arenas of links that become chains.
-ghost use Rattle.std.specs.Prelude.{◌≡◌, ◌≤◌, ◌↔◌, ℕ, IsSome, IsOk, IfNone, IsErrOf, OnOk, OnSome, map as list_map};
+ghost use Rattle.std.specs.Prelude.{◌≡◌, ◌≤◌, ◌↔◌, ℕ, IsSome, IsOk, IfNone, IsErrOf, OnOk, OnSome};
+ghost use Rattle.std.specs.Prelude.{map as list_map};
 ghost use Rattle.triple_arena_ptr.specs.InvalidationOption.{overflowed};
 ghost use Rattle.triple_arena_stack.specs.Room.{capacity as capacity_of, IsBeyond};
 ghost use Rattle.triple_arena.specs.Compression.{renewal_wraps, value_of, IsMapped};
 ghost use Rattle.triple_arena.specs.Content.{live_count, some_counter, reallocated, cleared};
-ghost use Rattle.triple_arena.specs.Copy.{last_listed, copied, MayRefuse, NeverRefuses, IsMappedCopy, IsRefusedCopy, IsCopy, IsUnmadeCopy};
+ghost use Rattle.triple_arena.specs.Copy.{last_listed, copied, MayRefuse, NeverRefuses};
+ghost use Rattle.triple_arena.specs.Copy.{IsMappedCopy, IsRefusedCopy, IsCopy, IsUnmadeCopy};
 ghost use Rattle.triple_arena.specs.LiveEntries.{live_entries};
 ghost use Rattle.triple_arena_chain.specs.CanonicalLayout.{IsCanonical};
 ghost use Rattle.triple_arena_chain.specs.Chains.{IsAgreed};

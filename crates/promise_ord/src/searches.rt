@@ -1,12 +1,13 @@
 //! Searches by key: what each finds, and how often it compares.
 ghost use Rattle.std.specs.Prelude.{◌≡◌, ◌+◌, ◌≤◌, None, IsSome};
-ghost use Rattle.counted_search.specs.Searches.{most_comparisons};
+ghost use Rattle.rank_tree.specs.Comparisons.{most_comparisons};
 ghost use Rattle.triple_arena.specs.Entries.{value_if};
 ghost use Rattle.rank_tree.specs.Search.{asked_down};
 ghost use Rattle.triple_arena_chain.specs.Chains.{On};
 ghost use Rattle.triple_arena_ord.specs.Near.{IsEndNear, IsKeyCounted, path_from};
 ghost use Rattle.triple_arena_ord.specs.Found.{IsFound};
-ghost use Rattle.triple_arena_ord.specs.Ordered.{IsAscending, tree_in, order_in, entry_in, size_in, asked_at};
+ghost use Rattle.triple_arena_ord.specs.Ordered.{IsAscending, tree_in, order_in, entry_in, size_in};
+ghost use Rattle.triple_arena_ord.specs.Ordered.{asked_at};
 
 use triple_arena::PtrCore;
 use triple_arena_ord::{OrdSlots, Probes, SimpleOrdArena, SimpleOrdItem};

@@ -3,19 +3,23 @@ use Rattle.std.proofs.Common.{◌≡◌, ℕ, Option, Some, None, IsSome, IfSome
 use Rattle.rank_tree.specs.Store.{Store}
 
 module _ {I : Type 0} (number : I → ℕ) where
-  pub not_some : (o : Option I) (h : ℕ) → option_map number o ≡ Some h → ((x : I) → o ≡ Some x → ⊥) → ⊥
+  pub not_some : (o : Option I) (h : ℕ) → option_map number o ≡ Some h → ((x : I) → o ≡ Some x → ⊥)
+      → ⊥
   not_some None h e n = absurd (cc)
   not_some (Some x) h e n = n x refl
 
-  pub if_live : (n : Store) (o : Option I) → ((i : ℕ) → option_map number o ≡ Some i → IsSome (n i)) → IfSome o (λ x. IsSome (n (number x)))
+  pub if_live : (n : Store) (o : Option I) → ((i : ℕ) → option_map number o ≡ Some i → IsSome (n i))
+      → IfSome o (λ x. IsSome (n (number x)))
   if_live n None h = tt
   if_live n (Some x) h = h (number x) refl
 
   -- what holds of the number that a link names holds of the link's index, and the other way round
-  pub if_named : (Q : ℕ → Type 0) (o : Option I) → IfSome (option_map number o) Q → IfSome o (λ x. Q (number x))
+  pub if_named : (Q : ℕ → Type 0) (o : Option I) → IfSome (option_map number o) Q
+      → IfSome o (λ x. Q (number x))
   if_named Q None h = tt
   if_named Q (Some x) h = h
 
-  pub if_numbered : (Q : ℕ → Type 0) (o : Option I) → IfSome o (λ x. Q (number x)) → IfSome (option_map number o) Q
+  pub if_numbered : (Q : ℕ → Type 0) (o : Option I) → IfSome o (λ x. Q (number x))
+      → IfSome (option_map number o) Q
   if_numbered Q None h = tt
   if_numbered Q (Some x) h = h

@@ -91,6 +91,7 @@ small_rank (node l i k r) w h =
     let p : (size t + 1) * (size t + 1) ≤ 2 ^ 64 * 2 ^ 64 = mul-le-mul g g in
     elim (cases_lt 127 k) [
       | inl q ↦ let m : 2 ^ 129 ≤ 2 ^ (k + 1) =
-          pow-le-pow_right {n = 2} (lit< tt) {i = 129} {j = k + 1} (omega arith) in absurd (omega arith)
+          pow-le-pow_right {n = 2} (lit< tt) {i = 129} {j = k + 1} (omega arith) in
+          absurd (omega arith)
       | inr q ↦ q
     ]

@@ -1,12 +1,14 @@
 -- A halving tree is written: its left part, its right part, and then the root over them.
-use Rattle.std.proofs.Common.{◌≡◌, ℕ, ◌+◌, ◌-◌, ◌/◌, ◌<◌, ◌≤◌, List, [], ◌∷◌, ◌++◌, length, Option, Some, None, arith, refl, sym, ap, subst, ◌∙◌}
+use Rattle.std.proofs.Common.{◌≡◌, ℕ, ◌+◌, ◌-◌, ◌/◌, ◌<◌, ◌≤◌, List, [], ◌∷◌, ◌++◌, length, Option}
+use Rattle.std.proofs.Common.{Some, None, arith, refl, sym, ap, subst, ◌∙◌}
 use Rattle.rank_tree.specs.declared.side.Side.TheVariants.{Left}
 use Rattle.rank_tree.specs.Store.{Store, Written, Reparented}
 use Rattle.rank_tree.specs.Tree.{Tree, leaf, node, walk, size}
 use Rattle.rank_tree.specs.Shape.{knot, root_of, Represents, one, count, IsDistinct}
 use Rattle.rank_tree.specs.Halving.{part_rank, IsBuilt}
 use Rattle.rank_tree.specs.ClimbLaws.{size-walk}
-use Rattle.rank_tree.specs.FrameLaws.{Represents-keep, Represents-reparent, reparent-elsewhere, write-elsewhere}
+use Rattle.rank_tree.specs.FrameLaws.{Represents-keep, Represents-reparent, reparent-elsewhere}
+use Rattle.rank_tree.specs.FrameLaws.{write-elsewhere}
 
 pub built_none : (k : ℕ) (n : Store) → IsBuilt k [] None n n
 built_none k n = record {

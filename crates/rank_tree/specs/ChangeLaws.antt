@@ -7,7 +7,9 @@ use Rattle.rank_tree.specs.Store.{Store, Written, Reparented, Relinked}
 use Rattle.rank_tree.specs.Tree.{node, walk}
 use Rattle.rank_tree.specs.Shape.{knot, root_of, plug, holder, Stands, one, count, count_round}
 use Rattle.rank_tree.specs.Repair.{Exchange, KeptOff}
-use Rattle.rank_tree.specs.FrameLaws.{Represents-keep, Hangs-keep, plug-count, plug-opens, plug-closes, Represents-reparent, reparent-elsewhere, relink-elsewhere, Hangs-relink, write-elsewhere, count-walk}
+use Rattle.rank_tree.specs.FrameLaws.{Represents-keep, Hangs-keep, plug-count, plug-opens}
+use Rattle.rank_tree.specs.FrameLaws.{plug-closes, Represents-reparent, reparent-elsewhere}
+use Rattle.rank_tree.specs.FrameLaws.{relink-elsewhere, Hangs-relink, write-elsewhere, count-walk}
 use Rattle.rank_tree.specs.SpotLaws.{is_some, root-lives, holder-lives}
 
 pub exchanged : (n n1 n2 n3 n4 : Store) (root new_root : Option ℕ) (old new : ℕ)

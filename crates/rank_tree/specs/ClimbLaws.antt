@@ -5,13 +5,17 @@ use Rattle.std.specs.Option.{IsSome, IfSome}
 use Rattle.rank_tree.specs.Knot.{Knot}
 use Rattle.rank_tree.specs.declared.side.Side.{Side}
 use Rattle.rank_tree.specs.declared.side.Side.TheVariants.{Left, Right}
-use Rattle.rank_tree.specs.Store.{Store, other_side, child_of, Written, with_rank, rank_in, rank_or_zero}
+use Rattle.rank_tree.specs.Store.{Store, other_side, child_of, Written, with_rank, rank_in}
+use Rattle.rank_tree.specs.Store.{rank_or_zero}
 use Rattle.rank_tree.specs.Tree.{Tree, leaf, node, walk, size, rank_of, IsRanked, Fits}
 use Rattle.rank_tree.specs.Shape.{make, knot, root_of, Context, top, under, plug, holder, Hangs}
 use Rattle.rank_tree.specs.Shape.{Stands, one, count, count_round, IsDistinct}
 use Rattle.rank_tree.specs.Repair.{Spot, IsRankedRound, Restored, Grown, Leaning, KeptOff}
 use Rattle.rank_tree.specs.BoundLaws.{small_rank}
-use Rattle.rank_tree.specs.FrameLaws.{one-same, Represents-keep, Hangs-keep, make-count, make-root, make-rank, make-opens, make-closes, plug-count, plug-opens, plug-closes, plug-walk, IsDistinct-walk, write-elsewhere, write_kept}
+use Rattle.rank_tree.specs.FrameLaws.{one-same, Represents-keep, Hangs-keep, make-count, make-root}
+use Rattle.rank_tree.specs.FrameLaws.{make-rank, make-opens, make-closes, plug-count, plug-opens}
+use Rattle.rank_tree.specs.FrameLaws.{plug-closes, plug-walk, IsDistinct-walk, write-elsewhere}
+use Rattle.rank_tree.specs.FrameLaws.{write_kept}
 use Rattle.rank_tree.specs.SpotLaws.{is_some, root-lives, knot_rank, knot_ranked, both_ranks}
 use Rattle.rank_tree.specs.SpotLaws.{spot_child_of, spotted}
 use Rattle.rank_tree.specs.TurningLaws.{make-ranked, make-ranked-opens, restored}
@@ -220,8 +224,7 @@ climb_ends n root low high w h less =
       near_left = omega arith;
       above_right = omega arith;
       near_right = omega arith;
-      childless =
-          omega arith;
+      childless = omega arith;
     } in
     restored n root h.context (make h.side t high h.high_rank h.far)
     (make h.side t high h.high_rank h.far) w h.stands
@@ -284,8 +287,7 @@ climb_up n m root low high w h same less written =
       near_left = omega arith;
       above_right = omega arith;
       near_right = omega arith;
-      childless
-          = omega arith;
+      childless = omega arith;
     } in
     let sum = near_ranks s t h.far in
     let new_walk = plug-walk h.context (make s t high h.high_rank h.far) new

@@ -1,5 +1,6 @@
 -- A search goes down.
-use Rattle.std.proofs.Common.{◌≡◌, ℕ, ◌+◌, ◌<◌, ◌≤◌, List, [], append-nil, ◌∷◌, ◌++◌, Option, Some, None, refl, sym, ap, ◌∙◌, subst, arith, append_assoc}
+use Rattle.std.proofs.Common.{◌≡◌, ℕ, ◌+◌, ◌<◌, ◌≤◌, List, [], append-nil, ◌∷◌, ◌++◌, Option, Some}
+use Rattle.std.proofs.Common.{None, refl, sym, ap, ◌∙◌, subst, arith, append_assoc}
 use Rattle.std.specs.Option.{IsSome}
 use Rattle.std.specs.declared.cmp.Ordering.{Ordering}
 use Rattle.std.specs.declared.cmp.Ordering.TheVariants.{Less, Equal, Greater}
@@ -7,8 +8,10 @@ use Rattle.rank_tree.specs.Knot.{Knot}
 use Rattle.rank_tree.specs.declared.side.Side.TheVariants.{Left, Right}
 use Rattle.rank_tree.specs.Store.{Store, rank_in, rank_or_zero, rank_or_link}
 use Rattle.rank_tree.specs.Tree.{Tree, leaf, node, walk, rank_of, IsRanked}
-use Rattle.rank_tree.specs.Shape.{knot, root_of, Context, top, under, plug, holder, Represents, Hangs, Stands, count, count_round}
-use Rattle.rank_tree.specs.Search.{AllIn, Before, IsParted, Places, IsAnswer, IsFreeAt, led_by, asked_down}
+use Rattle.rank_tree.specs.Shape.{knot, root_of, Context, top, under, plug, holder, Represents}
+use Rattle.rank_tree.specs.Shape.{Hangs, Stands, count, count_round}
+use Rattle.rank_tree.specs.Search.{AllIn, Before, IsParted, Places, IsAnswer, IsFreeAt, led_by}
+use Rattle.rank_tree.specs.Search.{asked_down}
 use Rattle.rank_tree.specs.FrameLaws.{one-same, plug-count, plug-opens, root-counted}
 use Rattle.rank_tree.specs.SpotLaws.{root-lives, rank_link}
 
@@ -95,8 +98,7 @@ descent_begins n f root t stands ranked =
       ranked = ranked;
       left_over = omega arith;
       counted = omega arith;
-      answered = λ i d u.
-          absurd (cc);
+      answered = λ i d u. absurd (cc);
       parted = λ o. (tt, tt);
     }
 
@@ -336,8 +338,7 @@ descent_lives n f whole link place asked i e h =
     let p = root-counted h.rest i z in
     let q = plug-count h.context i h.rest in (
       subst (λ t. 0 < count i t) h.is (omega arith),
-      root-lives n
-          (holder h.context) h.rest i h.stands z,
+      root-lives n (holder h.context) h.rest i h.stands z,
     )
 
 pub falls_down : (n : Store) (link next : Option ℕ) (i : ℕ) → link ≡ Some i

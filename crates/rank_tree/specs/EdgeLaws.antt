@@ -1,5 +1,6 @@
 -- A node is attached, or taken away.
-use Rattle.std.proofs.Common.{◌≡◌, ℕ, ◌+◌, ◌≤◌, length, ◌∷◌, ◌++◌, Option, Some, None, refl, sym, ap, ◌∙◌, subst, arith, inl, inr, length-append}
+use Rattle.std.proofs.Common.{◌≡◌, ℕ, ◌+◌, ◌≤◌, length, ◌∷◌, ◌++◌, Option, Some, None, refl, sym}
+use Rattle.std.proofs.Common.{ap, ◌∙◌, subst, arith, inl, inr, length-append}
 use Rattle.std.proofs.lemmas.Bool.{cases_eq}
 use Rattle.std.specs.Option.{IsSome, IfSome}
 use Rattle.rank_tree.specs.Knot.{Knot}
@@ -7,11 +8,17 @@ use Rattle.rank_tree.specs.declared.side.Side.{Side}
 use Rattle.rank_tree.specs.declared.side.Side.TheVariants.{Left, Right}
 use Rattle.rank_tree.specs.Store.{Store, with_child, Written, Reparented, Relinked}
 use Rattle.rank_tree.specs.Tree.{Tree, leaf, node, walk, rank_of, IsRanked}
-use Rattle.rank_tree.specs.Shape.{make, knot, root_of, Context, top, under, plug, holder, Hangs, one, count, count_round}
+use Rattle.rank_tree.specs.Shape.{make, knot, root_of, Context, top, under, plug, holder, Hangs}
+use Rattle.rank_tree.specs.Shape.{one, count, count_round}
 use Rattle.rank_tree.specs.Repair.{IsRankedRound, Grown, Pending, Gap, new_below, filled}
 use Rattle.rank_tree.specs.Repair.{Loose, KeptOff}
-use Rattle.rank_tree.specs.FrameLaws.{one-same, one-other, Represents-keep, Hangs-keep, make-count, make-root, make-rank, make-opens, make-closes, plug-count, plug-opens, plug-closes, write-elsewhere, Represents-reparent, reparent-elsewhere, relink-elsewhere, Hangs-relink, count-walk}
-use Rattle.rank_tree.specs.SpotLaws.{is_some as some_at, if_some, root-lives, holder-lives, knot_parent}
+use Rattle.rank_tree.specs.FrameLaws.{one-same, one-other, Represents-keep, Hangs-keep, make-count}
+use Rattle.rank_tree.specs.FrameLaws.{make-root, make-rank, make-opens, make-closes, plug-count}
+use Rattle.rank_tree.specs.FrameLaws.{plug-opens, plug-closes, write-elsewhere, Represents-reparent}
+use Rattle.rank_tree.specs.FrameLaws.{reparent-elsewhere, relink-elsewhere, Hangs-relink}
+use Rattle.rank_tree.specs.FrameLaws.{count-walk}
+use Rattle.rank_tree.specs.SpotLaws.{is_some as some_at, if_some, root-lives, holder-lives}
+use Rattle.rank_tree.specs.SpotLaws.{knot_parent}
 use Rattle.rank_tree.specs.TurningLaws.{make-ranked-opens}
 use Rattle.rank_tree.specs.DescentLaws.{before, after, plug-walk_is}
 use Rattle.rank_tree.specs.ClimbLaws.{size-walk, size-make}

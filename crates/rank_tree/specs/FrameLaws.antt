@@ -1,12 +1,15 @@
 -- What a tree or a context keeps while other indexes are written.
-use Rattle.std.proofs.Common.{◌≡◌, ◌≢◌, ℕ, ◌+◌, ◌<◌, ◌≤◌, List, [], ◌∷◌, ◌++◌, Option, Some, refl, sym, ap, ◌∙◌, subst, arith}
+use Rattle.std.proofs.Common.{◌≡◌, ◌≢◌, ℕ, ◌+◌, ◌<◌, ◌≤◌, List, [], ◌∷◌, ◌++◌, Option, Some, refl}
+use Rattle.std.proofs.Common.{sym, ap, ◌∙◌, subst, arith}
 use Rattle.std.proofs.lemmas.Bool.{eq-eqb, ne_eqb}
 use Rattle.rank_tree.specs.Knot.{Knot}
 use Rattle.rank_tree.specs.declared.side.Side.{Side}
 use Rattle.rank_tree.specs.declared.side.Side.TheVariants.{Left, Right}
 use Rattle.rank_tree.specs.Store.{Store, Written, Reparented, Relinked}
 use Rattle.rank_tree.specs.Tree.{Tree, leaf, node, walk, rank_of}
-use Rattle.rank_tree.specs.Shape.{make, knot, root_of, Context, top, under, plug, holder, Represents, Hangs, Stands, one, count, count_in, count_round, IsDistinct}
+use Rattle.rank_tree.specs.Shape.{make, knot, root_of, Context, top, under, plug, holder}
+use Rattle.rank_tree.specs.Shape.{Represents, Hangs, Stands, one, count, count_in, count_round}
+use Rattle.rank_tree.specs.Shape.{IsDistinct}
 use Rattle.rank_tree.specs.Repair.{KeptOff}
 
 pub one-same : (i : ℕ) → one i i ≡ 1

@@ -1,5 +1,6 @@
 -- The halving tree keeps the rank rules, at every length.
-use Rattle.std.proofs.Common.{◌≡◌, ℕ, zero, suc, ◌+◌, ◌-◌, ◌*◌, ◌/◌, ◌^◌, ◌<◌, ◌≤◌, ◌⊎◌, arith, inl, inr, refl, sym, ap, subst, ◌∙◌, lit<, List, [], ◌∷◌, ◌++◌, length}
+use Rattle.std.proofs.Common.{◌≡◌, ℕ, zero, suc, ◌+◌, ◌-◌, ◌*◌, ◌/◌, ◌^◌, ◌<◌, ◌≤◌, ◌⊎◌, arith, inl}
+use Rattle.std.proofs.Common.{inr, refl, sym, ap, subst, ◌∙◌, lit<, List, [], ◌∷◌, ◌++◌, length}
 use Rattle.std.specs.Prelude.{min}
 use Rattle.std.proofs.lemmas.Bool.Decides.{leb_tells, nat_tests}
 use Rattle.std.proofs.Math.Nat.{pow-succ', pow-le-pow_right}
@@ -89,8 +90,7 @@ ranked k (node l i r t) p h
     = (
       fits p,
       ranked (k - 1) l (part (size l) (omega arith) (omega arith) p) h.2,
-      ranked (k - 1) t
-          (part (size t) (omega arith) (omega arith) p) h.3,
+      ranked (k - 1) t (part (size t) (omega arith) (omega arith) p) h.3,
     )
   where
     m : ℕ
@@ -111,11 +111,9 @@ ranked k (node l i r t) p h
           rank_is (k - 1) l h.2,
           rank_is (k - 1) t h.3,
           h.1,
-          small k
-              (size l + size t + 1) few,
+          small k (size l + size t + 1) few,
           small (k - 1) (size l) (omega arith),
-          small (k - 1) (size t)
-              (omega arith),
+          small (k - 1) (size t) (omega arith),
         )
         (record {
           above_left = omega arith;
@@ -148,9 +146,6 @@ ranked k (node l i r t) p h
           | inl few ↦ few_fits few.1
           | inr many ↦ many_fits (omega (arith, many.1)) w
         ]
-
-pow-pos : (s : ℕ) → 1 ≤ 2 ^ s
-pow-pos s = pow-le-pow_right {n = 2} (lit< tt) {i = 0} {j = s} (omega arith)
 
 -- the least exponent is that of the size
 top-within : (n k : ℕ) → 5 ≤ n → IsTopRank n k → Within k n

@@ -1,22 +1,28 @@
 -- The steps of a repair after a removal.
-use Rattle.std.proofs.Common.{◌≡◌, ◌≢◌, ℕ, ◌+◌, ◌-◌, ◌^◌, ◌<◌, ◌≤◌, List, length, Option, Some, None, refl, sym, ap, ◌∙◌, subst, arith, inl, inr}
+use Rattle.std.proofs.Common.{◌≡◌, ◌≢◌, ℕ, ◌+◌, ◌-◌, ◌^◌, ◌<◌, ◌≤◌, List, length, Option, Some}
+use Rattle.std.proofs.Common.{None, refl, sym, ap, ◌∙◌, subst, arith, inl, inr}
 use Rattle.std.proofs.Common.{max, Bool, false, IsTrue, ◌↔◌}
 use Rattle.std.proofs.lemmas.Bool.{cases_lt, false≢true}
 use Rattle.std.specs.Option.{IsSome, IfSome}
 use Rattle.rank_tree.specs.Knot.{Knot}
 use Rattle.rank_tree.specs.declared.side.Side.{Side}
 use Rattle.rank_tree.specs.declared.side.Side.TheVariants.{Left, Right}
-use Rattle.rank_tree.specs.Store.{Store, other_side, child_of, Written, with_rank, rank_in, rank_or_zero, ahead}
+use Rattle.rank_tree.specs.Store.{Store, other_side, child_of, Written, with_rank, rank_in}
+use Rattle.rank_tree.specs.Store.{rank_or_zero, ahead}
 use Rattle.rank_tree.specs.Tree.{Tree, node, walk, rank_of, IsRanked, Fits}
-use Rattle.rank_tree.specs.Shape.{make, knot, root_of, Context, top, under, plug, holder, Represents, Hangs, Stands, IsDistinct, one, count}
-use Rattle.rank_tree.specs.Repair.{Spot, IsRankedRound, Restored, Broken, Nearly, Pending, Short, KeptOff}
+use Rattle.rank_tree.specs.Shape.{make, knot, root_of, Context, top, under, plug, holder}
+use Rattle.rank_tree.specs.Shape.{Represents, Hangs, Stands, IsDistinct, one, count}
+use Rattle.rank_tree.specs.Repair.{Spot, IsRankedRound, Restored, Broken, Nearly, Pending, Short}
+use Rattle.rank_tree.specs.Repair.{KeptOff}
 use Rattle.rank_tree.specs.FrameLaws.{one-same, make-count, plug-count, make-rank, make-root}
 use Rattle.rank_tree.specs.FrameLaws.{make-walk, make-closes, plug-opens, plug-walk}
 use Rattle.rank_tree.specs.FrameLaws.{IsDistinct-walk, write_kept, both_kept}
 use Rattle.rank_tree.specs.SpotLaws.{is_some, if_some, root-lives, spotted, knot_rank, knot_ranked}
 use Rattle.rank_tree.specs.SpotLaws.{knot_parent, rank_read, both_ranks, write-lives}
-use Rattle.rank_tree.specs.TurningLaws.{make-ranked, make-ranked-opens, plug-ranked, open_tree, root-some}
-use Rattle.rank_tree.specs.ClimbLaws.{ranked-write, same-walk-rank, near_of, as_make, as_node, near_ranks, plug-small}
+use Rattle.rank_tree.specs.TurningLaws.{make-ranked, make-ranked-opens, plug-ranked, open_tree}
+use Rattle.rank_tree.specs.TurningLaws.{root-some}
+use Rattle.rank_tree.specs.ClimbLaws.{ranked-write, same-walk-rank, near_of, as_make, as_node}
+use Rattle.rank_tree.specs.ClimbLaws.{near_ranks, plug-small}
 
 -- the child that a side names keeps what both keep
 near_ranked : (s : Side) (a b : Tree) → IsRanked a → IsRanked b → IsRanked (near_of s a b)

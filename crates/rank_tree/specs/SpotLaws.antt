@@ -6,11 +6,14 @@ use Rattle.std.proofs.lemmas.Bool.{cases_eq, false≢true}
 use Rattle.rank_tree.specs.Knot.{Knot}
 use Rattle.rank_tree.specs.declared.side.Side.{Side}
 use Rattle.rank_tree.specs.declared.side.Side.TheVariants.{Left, Right}
-use Rattle.rank_tree.specs.Store.{Store, other_side, child_of, rank_or_link, rank_or_zero, Written, Reparented, Relinked, with_parent, with_child, with_rank}
+use Rattle.rank_tree.specs.Store.{Store, other_side, child_of, rank_or_link, rank_or_zero, Written}
+use Rattle.rank_tree.specs.Store.{Reparented, Relinked, with_parent, with_child, with_rank}
 use Rattle.rank_tree.specs.Tree.{Tree, leaf, node, walk, rank_of}
-use Rattle.rank_tree.specs.Shape.{make, knot, root_of, Context, top, under, holder, Represents, Hangs, Stands}
+use Rattle.rank_tree.specs.Shape.{make, knot, root_of, Context, top, under, holder, Represents}
+use Rattle.rank_tree.specs.Shape.{Hangs, Stands}
 use Rattle.rank_tree.specs.Repair.{Spot, turned, KeptOff}
-use Rattle.rank_tree.specs.FrameLaws.{one-same, make-count, make-root, make-opens, plug-count, plug-opens, root-counted}
+use Rattle.rank_tree.specs.FrameLaws.{one-same, make-count, make-root, make-opens, plug-count}
+use Rattle.rank_tree.specs.FrameLaws.{plug-opens, root-counted}
 use Rattle.rank_tree.specs.TurnLaws.{turned_stands, turned_kept}
 
 pub is_some : {A : Type 0} (o : Option A) (v : A) → o ≡ Some v → IsSome o
@@ -179,8 +182,7 @@ turn_works n n1 n2 n3 n4 root new_root low jx jy below above high t middle lower
     let high_is : high ≡ spot.high =
     cc (
       ap (λ v. v.parent) below_is,
-      knot_parent s (Some spot.high)
-          (root_of spot.outer) spot.low_rank (root_of spot.inner),
+      knot_parent s (Some spot.high) (root_of spot.outer) spot.low_rank (root_of spot.inner),
     ) in
     let above_is : above ≡ knot s (holder spot.context) (Some low) spot.high_rank
     (root_of spot.far) = cc (f.at_high, ap n high_is) in
@@ -327,8 +329,7 @@ reads n root low spot below above high t eb eh ea left right =
     let high_is : high ≡ spot.high =
     cc (
       ap (λ v. v.parent) below_is,
-      knot_parent s (Some spot.high)
-          (root_of spot.outer) spot.low_rank (root_of spot.inner),
+      knot_parent s (Some spot.high) (root_of spot.outer) spot.low_rank (root_of spot.inner),
     ) in
     let above_is : above ≡ knot s (holder spot.context) (Some low) spot.high_rank
     (root_of spot.far) = cc (f.at_high, ap n high_is) in

@@ -1,13 +1,18 @@
 -- A node turns up over its parent.
-use Rattle.std.proofs.Common.{◌≡◌, ℕ, ◌+◌, ◌≤◌, ◌∷◌, Option, Some, sym, ap, ◌∙◌, subst, arith, append_assoc}
+use Rattle.std.proofs.Common.{◌≡◌, ℕ, ◌+◌, ◌≤◌, ◌∷◌, Option, Some, sym, ap, ◌∙◌, subst, arith}
+use Rattle.std.proofs.Common.{append_assoc}
 use Rattle.rank_tree.specs.declared.side.Side.{Side}
 use Rattle.rank_tree.specs.declared.side.Side.TheVariants.{Left, Right}
 use Rattle.rank_tree.specs.Knot.{Knot}
 use Rattle.rank_tree.specs.Store.{Store, Written, Reparented, Relinked}
 use Rattle.rank_tree.specs.Tree.{Tree, walk}
-use Rattle.rank_tree.specs.Shape.{make, knot, root_of, Context, plug, holder, Hangs, Stands, one, count, count_round, IsDistinct}
+use Rattle.rank_tree.specs.Shape.{make, knot, root_of, Context, plug, holder, Hangs, Stands, one}
+use Rattle.rank_tree.specs.Shape.{count, count_round, IsDistinct}
 use Rattle.rank_tree.specs.Repair.{KeptOff}
-use Rattle.rank_tree.specs.FrameLaws.{one-same, Represents-keep, Hangs-keep, make-count, make-root, make-opens, make-closes, plug-count, plug-opens, plug-closes, Represents-reparent, reparent-elsewhere, relink-elsewhere, Hangs-relink, write-elsewhere, count-walk}
+use Rattle.rank_tree.specs.FrameLaws.{one-same, Represents-keep, Hangs-keep, make-count, make-root}
+use Rattle.rank_tree.specs.FrameLaws.{make-opens, make-closes, plug-count, plug-opens, plug-closes}
+use Rattle.rank_tree.specs.FrameLaws.{Represents-reparent, reparent-elsewhere, relink-elsewhere}
+use Rattle.rank_tree.specs.FrameLaws.{Hangs-relink, write-elsewhere, count-walk}
 
 -- the writes of a turn, one after another; both nodes may get other ranks
 pub turned_stands : (n n1 n2 n3 n4 : Store) (root new_root : Option ℕ) (c : Context) (s : Side)

@@ -1,12 +1,14 @@
 -- The nodes determine the tree.
-use Rattle.std.proofs.Common.{◌≡◌, ℕ, zero, suc, ◌≤◌, Option, Some, None, refl, sym, ap, ◌∙◌, arith, ◌∷◌, ◌++◌}
+use Rattle.std.proofs.Common.{◌≡◌, ℕ, zero, suc, ◌≤◌, Option, Some, None, refl, sym, ap, ◌∙◌, arith}
+use Rattle.std.proofs.Common.{◌∷◌, ◌++◌}
 use Rattle.rank_tree.specs.declared.side.Side.TheVariants.{Left}
 use Rattle.rank_tree.specs.Store.{Store, rank_or_link}
 use Rattle.rank_tree.specs.Whole.{read_tree, tree_of}
 use Rattle.rank_tree.specs.BoundLaws.{height-le-rank}
 use Rattle.rank_tree.specs.SpotLaws.{rank_link}
 use Rattle.rank_tree.specs.Tree.{Tree, leaf, node, walk, height, IsRanked}
-use Rattle.rank_tree.specs.Shape.{knot, make, root_of, Represents, Stands, Context, top, under, plug}
+use Rattle.rank_tree.specs.Shape.{knot, make, root_of, Represents, Stands, Context, top, under}
+use Rattle.rank_tree.specs.Shape.{plug}
 
 pub unique : (n : Store) (p q : Option ℕ) (t u : Tree) → Represents n p t → Represents n q u
     → root_of t ≡ root_of u → t ≡ u
@@ -35,8 +37,7 @@ read_back (suc fuel) n p (node l i k r) h e =
     rw (
       h.0,
       read_back fuel n (Some i) l h.1 (omega arith),
-      read_back fuel n (Some i) r h.2
-          (omega arith),
+      read_back fuel n (Some i) r h.2 (omega arith),
     ) refl
 
 -- the tree that is read from the links is the one that stands there

@@ -1,7 +1,8 @@
 //! Where the nodes of a tree are kept, and changes of its links.
 ghost use Rattle.std.specs.Prelude.{◌≡◌, ℕ, Some, None, IsSome, IfSome, ⊤};
 ghost use Rattle.std.specs.Option.{option_map};
-ghost use Rattle.rank_tree.specs.Store.{Store, Written, Reparented, Relinked, with_child, with_parent, with_rank};
+ghost use Rattle.rank_tree.specs.Store.{Store, Written, Reparented, Relinked, with_child};
+ghost use Rattle.rank_tree.specs.Store.{with_parent, with_rank};
 ghost use Rattle.rank_tree.specs.Knot.{Knot};
 ghost use Rattle.rank_tree.specs.Named.{named};
 

@@ -1,5 +1,6 @@
-//! What follows from the rules of ranks.
+//! What follows from the rules of ranks, and what the bound on comparisons is.
 ghost use Rattle.std.specs.Prelude.{◌≡◌, ◌+◌, ◌*◌, ◌^◌, ◌<◌, ◌≤◌, ℕ, List, Option};
+ghost use Rattle.rank_tree.specs.Comparisons.{most_comparisons};
 ghost use Rattle.rank_tree.specs.Halving.{IsHalvingOf};
 ghost use Rattle.rank_tree.specs.Store.{Store};
 ghost use Rattle.rank_tree.specs.Tree.{Tree, IsRanked, height, rank_of, size};
@@ -11,6 +12,14 @@ pub fn paths_are_short()
     ensures high { (t : Tree) → IsRanked t → height t ≤ rank_of t }
     ensures low { (t : Tree) → IsRanked t → 0 < size t
         → 2 ^ (rank_of t + 1) ≤ (size t + 1) * (size t + 1) }
+{}
+
+/// The bound on a search's comparisons among n entries is the greatest c with `2^(c+1) <= (n+1)^2`,
+/// and 0 among none.
+pub fn the_bound_is_the_greatest()
+    ensures bound { (n : ℕ) → 0 < n → 2 ^ (most_comparisons n + 1) ≤ (n + 1) * (n + 1) }
+    ensures greatest { (n c : ℕ) → 2 ^ (c + 1) ≤ (n + 1) * (n + 1) → c ≤ most_comparisons n }
+    ensures none { most_comparisons 0 ≡ 0 }
 {}
 
 /// The nodes determine the tree that hangs from a root.

@@ -1,5 +1,7 @@
--- What the removal of a mark leaves of what is held, and of what ties a store's parts. No reference is to a mark.
-use Rattle.std.proofs.Common.{◌≡◌, ◌≢◌, ◌∙◌, sym, ap, subst, refl, ◌==◌, if◌then◌else◌, ℕ, ◌+◌, ◌≤◌, List, length, Option, Some, None, IsSome, is_some, arith}
+-- What the removal of a mark leaves of what is held, and of what ties a store's parts. No reference
+-- is to a mark.
+use Rattle.std.proofs.Common.{◌≡◌, ◌≢◌, ◌∙◌, sym, ap, subst, refl, ◌==◌, if◌then◌else◌, ℕ, ◌+◌, ◌≤◌}
+use Rattle.std.proofs.Common.{List, length, Option, Some, None, IsSome, is_some, arith}
 use Rattle.std.specs.Option.{option_map}
 use Rattle.triple_arena_stack.specs.Room.{capacity}
 use Rattle.triple_arena.specs.Changes.{IsRemoved}
@@ -10,24 +12,31 @@ use Rattle.triple_arena_chain.specs.Chains.{Ends}
 use Rattle.triple_arena_chain.specs.Links.{ends_in}
 use Rattle.triple_arena_ord.specs.Ordered.{Ordered}
 use Rattle.ticket_book.specs.declared.entry.Kind.{Kind}
-use Rattle.ticket_book.specs.declared.entry.Kind.TheVariants.{Place as OfPlace, Stop as OfStop, Mark as OfMark}
+use Rattle.ticket_book.specs.declared.entry.Kind.TheVariants.{Place as OfPlace, Stop as OfStop}
+use Rattle.ticket_book.specs.declared.entry.Kind.TheVariants.{Mark as OfMark}
 use Rattle.ticket_book.specs.Tickets.{Entry, lookup, without_ticket}
 use Rattle.route_lines.specs.Calls.{without_mark}
 use Rattle.route_lines.specs.Routes.{next_stop}
 use Rattle.route_lines.specs.Sound.{IsSound}
-use Rattle.route_lines.specs.State.{State, Rooms, Place, Stop, Mark, place_of, stop_of, mark_of, stop_list}
+use Rattle.route_lines.specs.State.{State, Rooms, Place, Stop, Mark, place_of, stop_of, mark_of}
+use Rattle.route_lines.specs.State.{stop_list}
 use Rattle.route_book.specs.Book.{found_in, in_order, IsBook}
 use Rattle.route_book.specs.Item.{StopView, MarkView}
-use Rattle.route_book.specs.Holds.{Found, state_stop, state_mark, mark_under, place_at, stop_at, mark_at, IsFilled, entry, Rise, IsHeld}
-use Rattle.route_book.proofs.EndLemmas.{others_stay, was_other, still_found, IsKept, still_booked, still_filled, places_still, stops_still, marks_still, none_there, unchanged, rise_without, length_without}
+use Rattle.route_book.specs.Holds.{Found, state_stop, state_mark, mark_under, place_at, stop_at}
+use Rattle.route_book.specs.Holds.{mark_at, IsFilled, entry, Rise, IsHeld}
+use Rattle.route_book.proofs.EndLemmas.{others_stay, was_other, still_found, IsKept, still_booked}
+use Rattle.route_book.proofs.EndLemmas.{still_filled, places_still, stops_still, marks_still}
+use Rattle.route_book.proofs.EndLemmas.{none_there, unchanged, rise_without, length_without}
 use Rattle.route_book.proofs.HoldLemmas.{booked_once}
 use Rattle.route_book.proofs.OrderLemmas.{differ_of_rise}
 use Rattle.route_book.proofs.OptionLemmas.{found_has, some_same, stands_under}
 
 -- ---- what is held
 
-module _ (s s' : State) (f : Found) (order : List Place) (ends : ℕ → Option Ends) (book : List Entry) (h : IsHeld s f order ends book)
-    (i g : ℕ) (v : MarkView) (stood : f.marks i ≡ Some (g, v)) (at : ℕ → Option (ℕ × MarkView)) (entries : (k : ℕ) → at k ≡ without f.marks i k) where
+module _ (s s' : State) (f : Found) (order : List Place) (ends : ℕ → Option Ends)
+    (book : List Entry) (h : IsHeld s f order ends book)
+    (i g : ℕ) (v : MarkView) (stood : f.marks i ≡ Some (g, v)) (at : ℕ → Option (ℕ × MarkView))
+    (entries : (k : ℕ) → at k ≡ without f.marks i k) where
   abbrev pub mark_left : Found
   mark_left = record f { marks = at }
 
@@ -52,22 +61,33 @@ module _ (s s' : State) (f : Found) (order : List Place) (ends : ℕ → Option 
   abbrev same_mark : Mark → Mark
   same_mark x = x
 
-  kept : (u : ℕ) (e : Entry) → lookup book u ≡ Some e → u ≢ t → IsKept s s' f now order ends book h t same_stop same_mark e.kind e.index e.generation
+  kept : (u : ℕ) (e : Entry) → lookup book u ≡ Some e → u ≢ t
+      → IsKept s s' f now order ends book h t same_stop same_mark e.kind e.index e.generation
   kept u e is other = by e.kind refl (h.filled u e is)
     where
-      by : (k : Kind) → e.kind ≡ k → IsFilled f k e.index e.generation → IsKept s s' f now order ends book h t same_stop same_mark k e.index e.generation
+      by : (k : Kind) → e.kind ≡ k → IsFilled f k e.index e.generation
+          → IsKept s s' f now order ends book h t same_stop same_mark k e.index e.generation
       by OfPlace kind filled = record { place = refl; stop = refl; mark = refl; filled = filled }
-      by OfStop kind filled = record { place = refl; stop = unchanged (option_map (state_stop f) (value_if e.generation (f.stops e.index))); mark = refl; filled = filled }
+      by OfStop kind filled =
+          record {
+            place = refl;
+            stop = unchanged (option_map (state_stop f) (value_if e.generation (f.stops e.index)));
+            mark = refl;
+            filled = filled;
+          }
       by OfMark kind filled =
           let st = stands_under f.marks e.index e.generation filled in
           let named : st.0.ticket ≡ u =
           found_has (λ (x : Mark). x.ticket) u s.marks (state_mark f st.0)
-          (h.marks u ∙ ap (mark_at f) is ∙ ap (λ k. mark_under f k e.index e.generation) kind ∙ ap (option_map (state_mark f)) st.1.0) in
-          let still = still_found τ f.marks at i g v stood entries own_mark e.index e.generation st.0 st.1.0 (λ same. other (sym named ∙ same)) in
+          (h.marks u ∙ ap (mark_at f) is ∙ ap (λ k. mark_under f k e.index e.generation) kind
+          ∙ ap (option_map (state_mark f)) st.1.0) in
+          let still = still_found τ f.marks at i g v stood entries own_mark e.index e.generation
+          st.0 st.1.0 (λ same. other (sym named ∙ same)) in
           record {
             place = refl;
             stop = refl;
-            mark = ap (option_map (state_mark f)) still ∙ unchanged (option_map (state_mark f) (value_if e.generation (f.marks e.index)));
+            mark = ap (option_map (state_mark f)) still
+                ∙ unchanged (option_map (state_mark f) (value_if e.generation (f.marks e.index)));
             filled = subst IsSome (sym still) filled;
           }
 
@@ -75,27 +95,40 @@ module _ (s s' : State) (f : Found) (order : List Place) (ends : ℕ → Option 
       → ((u : ℕ) → mark_of s'.marks u ≡ (if u == t then None else mark_of s.marks u))
       → IsHeld s' now order ends (without_ticket t book)
   mark_ended last_same places routes marks = record {
-    rise = subst (Rise 0 (without_ticket t book)) (sym last_same) (rise_without t book 0 s.last h.rise);
+    rise = subst (Rise 0 (without_ticket t book)) (sym last_same)
+        (rise_without t book 0 s.last h.rise);
     filled = still_filled s s' f now order ends book h t same_stop same_mark kept;
-    places_in = λ j k q is. still q.ticket _ (h.places_in j k q is) (λ same. not_place (ap (λ (e : Entry). e.kind) (twice q.ticket _ (h.places_in j k q is) same)));
-    stops_in = λ j k w is. still w.ticket _ (h.stops_in j k w is) (λ same. not_stop (ap (λ (e : Entry). e.kind) (twice w.ticket _ (h.stops_in j k w is) same)));
-    marks_in = λ j k w is. (let was = was_other τ f.marks at i g v stood entries own_mark j k w is in still w.ticket _ (h.marks_in j k w was.0) was.1);
+    places_in = λ j k q is. still q.ticket _ (h.places_in j k q is)
+        (λ same. not_place (ap (λ (e : Entry). e.kind)
+        (twice q.ticket _ (h.places_in j k q is) same)));
+    stops_in = λ j k w is. still w.ticket _ (h.stops_in j k w is)
+        (λ same. not_stop (ap (λ (e : Entry). e.kind)
+        (twice w.ticket _ (h.stops_in j k w is) same)));
+    marks_in = λ j k w is. (let was =
+        was_other τ f.marks at i g v stood entries own_mark j k w is in
+        still w.ticket _ (h.marks_in j k w was.0) was.1);
     stop_place = h.stop_place;
-    mark_place = λ j k w is. h.mark_place j k w (was_other τ f.marks at i g v stood entries own_mark j k w is).0;
-    mark_stop = λ j k w is. h.mark_stop j k w (was_other τ f.marks at i g v stood entries own_mark j k w is).0;
+    mark_place = λ j k w is. h.mark_place j k w
+        (was_other τ f.marks at i g v stood entries own_mark j k w is).0;
+    mark_stop = λ j k w is. h.mark_stop j k w
+        (was_other τ f.marks at i g v stood entries own_mark j k w is).0;
     places_up_to = h.places_up_to;
     stops_up_to = h.stops_up_to;
     places = places_still s s' f now order ends book h t same_stop same_mark kept
-        (none_there t (place_of s'.places) (place_of s.places) (λ u. ap (λ ps. place_of ps u) places) (h.places t ∙ ap (place_at f) booked));
+        (none_there t (place_of s'.places) (place_of s.places)
+        (λ u. ap (λ ps. place_of ps u) places) (h.places t ∙ ap (place_at f) booked));
     stops = stops_still s s' f now order ends book h t same_stop same_mark kept
-        (none_there t (stop_of s'.routes) (λ u. option_map same_stop (stop_of s.routes u)) (λ u. ap (λ rs. stop_of rs u) routes ∙ unchanged (stop_of s.routes u))
+        (none_there t (stop_of s'.routes) (λ u. option_map same_stop (stop_of s.routes u))
+        (λ u. ap (λ rs. stop_of rs u) routes ∙ unchanged (stop_of s.routes u))
         (ap (option_map same_stop) (h.stops t ∙ ap (stop_at f) booked)));
-    marks = marks_still s s' f now order ends book h t same_stop same_mark kept (λ u. marks u ∙ ap (λ o. if u == t then None else o) (unchanged (mark_of s.marks u)));
+    marks = marks_still s s' f now order ends book h t same_stop same_mark kept
+        (λ u. marks u ∙ ap (λ o. if u == t then None else o) (unchanged (mark_of s.marks u)));
     in_order = places ∙ h.in_order;
     routes = λ j k w is. ap (λ rs. next_stop rs w.ticket) routes ∙ h.routes j k w is;
   }
     where
-      still : (u : ℕ) (e : Entry) → lookup book u ≡ Some e → u ≢ t → lookup (without_ticket t book) u ≡ Some e
+      still : (u : ℕ) (e : Entry) → lookup book u ≡ Some e → u ≢ t
+          → lookup (without_ticket t book) u ≡ Some e
       still = still_booked s s' f now order ends book h t same_stop same_mark
 
       twice : (u : ℕ) (e : Entry) → lookup book u ≡ Some e → u ≡ t → e ≡ entry t OfMark i g
@@ -115,24 +148,34 @@ pub record IsMarkGone (s s' : State) (t : ℕ) : Type 0 where
   pub marks : (u : ℕ) → mark_of s'.marks u ≡ (if u == t then None else mark_of s.marks u)
   pub mark_count : length s'.marks + 1 ≡ length s.marks
 
-module _ {I : Type 0} (number : I → ℕ) (rooms : Rooms) (last : ℕ) (s : State) (places : Ordered I Place) (stops : Content (IndexLink I StopView)) (marks marks' : Content MarkView)
+module _ {I : Type 0} (number : I → ℕ) (rooms : Rooms) (last : ℕ) (s : State)
+    (places : Ordered I Place) (stops : Content (IndexLink I StopView))
+    (marks marks' : Content MarkView)
     (book : List Entry) (b : IsBook number rooms last s places stops marks book)
     (i g : ℕ) (v : MarkView) (found : value_if g (entry_at marks i) ≡ Some v)
-    (final : Option ℕ) (removed : IsRemoved entry_at live_count some_counter (λ (c : Content MarkView). c.room) final i marks marks') where
+    (final : Option ℕ) (removed : IsRemoved entry_at live_count some_counter
+    (λ (c : Content MarkView). c.room) final i marks marks') where
   stood : entry_at marks i ≡ Some (g, v)
-  stood = let st = stands_under (entry_at marks) i g (ap is_some found) in st.1.1 ∙ ap (λ w. Some (g, w)) (some_same (sym st.1.0 ∙ found))
+  stood = let st = stands_under (entry_at marks) i g (ap is_some found) in st.1.1
+      ∙ ap (λ w. Some (g, w)) (some_same (sym st.1.0 ∙ found))
 
   own : (j k : ℕ) (w : MarkView) → entry_at marks j ≡ Some (k, w) → w.ticket ≡ v.ticket → j ≡ i
-  own = own_mark s s (found_in places stops marks) (in_order number places) (ends_in number stops) book b.held i g v stood (entry_at marks') removed.entries
+  own = own_mark s s (found_in places stops marks) (in_order number places) (ends_in number stops)
+      book b.held i g v stood (entry_at marks') removed.entries
 
   -- the other marks keep their pointers
-  pub marks_stay : (k h : ℕ) (w : MarkView) → entry_at marks k ≡ Some (h, w) → w.ticket ≢ v.ticket → entry_at marks' k ≡ Some (h, w)
-  marks_stay = others_stay (λ (w : MarkView). w.ticket) (entry_at marks) (entry_at marks') i g v stood removed.entries own
+  pub marks_stay : (k h : ℕ) (w : MarkView) → entry_at marks k ≡ Some (h, w) → w.ticket ≢ v.ticket
+      → entry_at marks' k ≡ Some (h, w)
+  marks_stay = others_stay (λ (w : MarkView). w.ticket) (entry_at marks) (entry_at marks') i g v
+      stood removed.entries own
 
   module _ (s' : State) (laws : IsMarkGone s s' v.ticket) (sound : IsSound s') where
-    held : IsHeld s' (found_in places stops marks') (in_order number places) (ends_in number stops) (without_ticket v.ticket book)
-    held = mark_ended s s' (found_in places stops marks) (in_order number places) (ends_in number stops) book b.held i g v stood (entry_at marks') removed.entries
-        (ap (λ (x : State). x.last) laws.is) (ap (λ (x : State). x.places) laws.is) (ap (λ (x : State). x.routes) laws.is) laws.marks
+    held : IsHeld s' (found_in places stops marks') (in_order number places) (ends_in number stops)
+        (without_ticket v.ticket book)
+    held = mark_ended s s' (found_in places stops marks) (in_order number places)
+        (ends_in number stops) book b.held i g v stood (entry_at marks') removed.entries
+        (ap (λ (x : State). x.last) laws.is) (ap (λ (x : State). x.places) laws.is)
+        (ap (λ (x : State). x.routes) laws.is) laws.marks
 
     pub mark_leaves : IsBook number rooms last s' places stops marks' (without_ticket v.ticket book)
     mark_leaves = record {
@@ -142,7 +185,8 @@ module _ {I : Type 0} (number : I → ℕ) (rooms : Rooms) (last : ℕ) (s : Sta
         rooms_are = ap (λ (x : State). x.rooms) laws.is ∙ b.within.rooms_are;
         place_count = ap (λ (x : State). length x.places) laws.is ∙ b.within.place_count;
         stop_count = ap (λ (x : State). length (stop_list x.routes)) laws.is ∙ b.within.stop_count;
-        mark_count = (let n = b.within.mark_count in let z = removed.live in let l = laws.mark_count in omega (arith, n, z, l));
+        mark_count = (let n = b.within.mark_count in let z = removed.live in let l =
+            laws.mark_count in omega (arith, n, z, l));
         places_fit = b.within.places_fit;
         stops_fit = b.within.stops_fit;
         marks_fit = (let n = b.within.marks_fit in let z = removed.live in omega (arith, n, z));
@@ -151,6 +195,8 @@ module _ {I : Type 0} (number : I → ℕ) (rooms : Rooms) (last : ℕ) (s : Sta
         mark_room = subst (λ r. rooms.marks ≤ capacity r) (sym removed.room) b.within.mark_room;
       };
       last_is = ap (λ (x : State). x.last) laws.is ∙ b.last_is;
-      entries = (let n = b.entries in let z = removed.live in let l = length_without v.ticket book 0 s.last _ b.held.rise (b.held.marks_in i g v stood) in omega (arith, n, z, l));
+      entries = (let n = b.entries in let z = removed.live in let l =
+          length_without v.ticket book 0 s.last _ b.held.rise (b.held.marks_in i g v stood) in
+          omega (arith, n, z, l));
       marks_differ = differ_of_rise s'.marks sound.marks;
     }

@@ -1,5 +1,7 @@
 -- What the removal of a place leaves of what is held, and of what ties a store's parts.
-use Rattle.std.proofs.Common.{◌≡◌, ◌≢◌, ◌∙◌, sym, ap, subst, refl, false, not, ◌==◌, if◌then◌else◌, ℕ, ◌+◌, ◌≤◌, List, [], ◌∷◌, ◌++◌, length, map, filter, Option, Some, None, IsSome, is_some, arith}
+use Rattle.std.proofs.Common.{◌≡◌, ◌≢◌, ◌∙◌, sym, ap, subst, refl, false, not, ◌==◌, if◌then◌else◌}
+use Rattle.std.proofs.Common.{ℕ, ◌+◌, ◌≤◌, List, [], ◌∷◌, ◌++◌, length, map, filter, Option, Some}
+use Rattle.std.proofs.Common.{None, IsSome, is_some, arith}
 use Rattle.std.specs.Option.{option_map}
 use Rattle.std.proofs.lemmas.Bool.{ne_eqb, eq-eqb}
 use Rattle.triple_arena_ptr.specs.Generation.{next_wraps}
@@ -15,7 +17,8 @@ use Rattle.triple_arena_ord.specs.Ascending.{entries_along}
 use Rattle.triple_arena_ord.specs.Ordered.{Ordered, IsOrdered, entry_in, order_in}
 use Rattle.triple_arena_ord.specs.Removal.{IsEntryRemoved}
 use Rattle.ticket_book.specs.declared.entry.Kind.{Kind}
-use Rattle.ticket_book.specs.declared.entry.Kind.TheVariants.{Place as OfPlace, Stop as OfStop, Mark as OfMark}
+use Rattle.ticket_book.specs.declared.entry.Kind.TheVariants.{Place as OfPlace, Stop as OfStop}
+use Rattle.ticket_book.specs.declared.entry.Kind.TheVariants.{Mark as OfMark}
 use Rattle.ticket_book.specs.Tickets.{Entry, lookup, without_ticket}
 use Rattle.route_lines.specs.Calls.{clear_mark, clear_stop, unless_is, without_place}
 use Rattle.route_lines.specs.Routes.{next_stop}
@@ -23,9 +26,13 @@ use Rattle.route_lines.specs.Sound.{IsSound}
 use Rattle.route_lines.specs.State.{State, Rooms, Place, place_of, stop_of, mark_of, stop_list}
 use Rattle.route_book.specs.Book.{found_in, in_order, IsBook}
 use Rattle.route_book.specs.Item.{StopView, MarkView}
-use Rattle.route_book.specs.Holds.{Found, found_by, state_stop, state_mark, place_under, place_at, IsFilled, entry, Rise, IsSettled, stop_at, mark_at, IsHeld}
+use Rattle.route_book.specs.Holds.{Found, found_by, state_stop, state_mark, place_under, place_at}
+use Rattle.route_book.specs.Holds.{IsFilled, entry, Rise, IsSettled, stop_at, mark_at, IsHeld}
 use Rattle.route_book.proofs.SettledLemmas.{settled_left, up_to_left}
-use Rattle.route_book.proofs.EndLemmas.{unnamed, others_stay, was_other, still_found, IsKept, still_booked, still_filled, places_still, stops_still, marks_still, none_there, each_mapped, rise_without, length_without}
+use Rattle.route_book.proofs.EndLemmas.{unnamed, others_stay, was_other, still_found, IsKept}
+use Rattle.route_book.proofs.EndLemmas.{still_booked, still_filled, places_still, stops_still}
+use Rattle.route_book.proofs.EndLemmas.{marks_still, none_there, each_mapped, rise_without}
+use Rattle.route_book.proofs.EndLemmas.{length_without}
 use Rattle.route_book.proofs.OrderLemmas.{differ_of_rise, one_up}
 use Rattle.route_book.proofs.HoldLemmas.{booked_once}
 use Rattle.route_book.proofs.OptionLemmas.{found_has, some_same, stands_under}
@@ -35,12 +42,14 @@ use Rattle.route_book.proofs.OptionLemmas.{found_has, some_same, stands_under}
 abbrev along : (ℕ → Option (ℕ × Place)) → List ℕ → List Place
 along at w = map (λ x. x.1.1) (entries_along at w)
 
-module _ (at at' : ℕ → Option (ℕ × Place)) (i g : ℕ) (p : Place) (stood : at i ≡ Some (g, p)) (entries : (k : ℕ) → at' k ≡ without at i k)
+module _ (at at' : ℕ → Option (ℕ × Place)) (i g : ℕ) (p : Place) (stood : at i ≡ Some (g, p))
+    (entries : (k : ℕ) → at' k ≡ without at i k)
     (own : (j k : ℕ) (q : Place) → at j ≡ Some (k, q) → q.ticket ≡ p.ticket → j ≡ i) where
   abbrev others : List Place → List Place
   others ps = filter (λ q. not (q.ticket == p.ticket)) ps
 
-  step : (j : ℕ) (js js' : List ℕ) → j ≢ i → along at' js' ≡ others (along at js) → along at' (j ∷ js') ≡ others (along at (j ∷ js))
+  step : (j : ℕ) (js js' : List ℕ) → j ≢ i → along at' js' ≡ others (along at js)
+      → along at' (j ∷ js') ≡ others (along at (j ∷ js))
   step j js js' other rest = by (at j) refl
     where
       by : (o : Option (ℕ × Place)) → at j ≡ o → along at' (j ∷ js') ≡ others (along at (j ∷ js))
@@ -53,25 +62,31 @@ module _ (at at' : ℕ → Option (ℕ × Place)) (i g : ℕ) (p : Place) (stood
           let now : at' j ≡ Some e = entries j ∙ rw (ne_eqb j i other) is in
           let new : along at' (j ∷ js') ≡ e.1 ∷ along at' js' = rw now refl in
           let old : along at (j ∷ js) ≡ e.1 ∷ along at js = rw is refl in
-          let stays : others (e.1 ∷ along at js) ≡ e.1 ∷ others (along at js) = rw (ne_eqb e.1.ticket p.ticket (λ same. other (own j e.0 e.1 is same))) refl in
+          let stays : others (e.1 ∷ along at js) ≡ e.1 ∷ others (along at js) =
+          rw (ne_eqb e.1.ticket p.ticket (λ same. other (own j e.0 e.1 is same))) refl in
           new ∙ ap (λ l. e.1 ∷ l) rest ∙ sym stays ∙ ap others (sym old)
 
   behind : (js : List ℕ) → Off js i → along at' js ≡ others (along at js)
   behind [] off = refl
   behind (j ∷ js) off = step j js js off.0 (behind js off.1)
 
-  along_left : (before after : List ℕ) → Off before i → Off after i → along at' (before ++ after) ≡ others (along at (before ++ i ∷ after))
+  along_left : (before after : List ℕ) → Off before i → Off after i
+      → along at' (before ++ after) ≡ others (along at (before ++ i ∷ after))
   along_left [] after off off' =
       let whole : along at (i ∷ after) ≡ p ∷ along at after = rw stood refl in
-      let goes : others (p ∷ along at after) ≡ others (along at after) = rw (eq-eqb p.ticket p.ticket refl) refl in
+      let goes : others (p ∷ along at after) ≡ others (along at after) =
+      rw (eq-eqb p.ticket p.ticket refl) refl in
       behind after off' ∙ sym goes ∙ ap others (sym whole)
-  along_left (j ∷ before) after off off' = step j (before ++ i ∷ after) (before ++ after) off.0 (along_left before after off.1 off')
+  along_left (j ∷ before) after off off' =
+      step j (before ++ i ∷ after) (before ++ after) off.0 (along_left before after off.1 off')
 
 -- ---- what is held
 
 -- the place at an index ends, and its arena's counter goes one up; stops and marks are as they were
-module _ (s s' : State) (f : Found) (order order' : List Place) (ends : ℕ → Option Ends) (book : List Entry) (h : IsHeld s f order ends book)
-    (i g : ℕ) (p : Place) (stood : f.places i ≡ Some (g, p)) (at : ℕ → Option (ℕ × Place)) (entries : (k : ℕ) → at k ≡ without f.places i k)
+module _ (s s' : State) (f : Found) (order order' : List Place) (ends : ℕ → Option Ends)
+    (book : List Entry) (h : IsHeld s f order ends book)
+    (i g : ℕ) (p : Place) (stood : f.places i ≡ Some (g, p)) (at : ℕ → Option (ℕ × Place))
+    (entries : (k : ℕ) → at k ≡ without f.places i k)
     (counter : ℕ) (steps : counter ≡ f.place_counter + 1) where
   abbrev pub place_left : Found
   place_left = record f { places = at; place_counter = counter }
@@ -86,42 +101,64 @@ module _ (s s' : State) (f : Found) (order order' : List Place) (ends : ℕ → 
   τ q = q.ticket
 
   pub own_place : (j k : ℕ) (q : Place) → f.places j ≡ Some (k, q) → q.ticket ≡ t → j ≡ i
-  own_place j k q is same = booked_once τ OfPlace f.places book h.places_in j i k g q p is stood same
+  own_place j k q is same =
+      booked_once τ OfPlace f.places book h.places_in j i k g q p is stood same
 
   booked : lookup book t ≡ Some (entry t OfPlace i g)
   booked = h.places_in i g p stood
 
   settled : (r : Option (ℕ × ℕ)) → IsSettled f.places f.place_counter r → IsSettled at counter r
-  settled = settled_left f.places at i g f.place_counter counter p stood entries steps h.places_up_to
+  settled = settled_left f.places at i g f.place_counter counter p stood entries steps
+      h.places_up_to
 
-  forgot : (r : Option (ℕ × ℕ)) → option_map τ (found_by at r) ≡ unless_is t (option_map τ (found_by f.places r))
+  forgot : (r : Option (ℕ × ℕ))
+      → option_map τ (found_by at r) ≡ unless_is t (option_map τ (found_by f.places r))
   forgot = unnamed τ f.places at i g p stood entries own_place
 
   stop_now : (v : StopView) → state_stop now v ≡ clear_stop t (state_stop f v)
   stop_now v = ap (λ r. record { ticket = v.ticket; place = r }) (forgot v.place)
 
   mark_now : (v : MarkView) → state_mark now v ≡ clear_mark t (state_mark f v)
-  mark_now v = ap (λ r. record { ticket = v.ticket; place = r; stop = option_map (λ (q : StopView). q.ticket) (found_by f.stops v.stop) }) (forgot v.place)
+  mark_now v = ap (λ r. record {
+    ticket = v.ticket;
+    place = r;
+    stop = option_map (λ (q : StopView). q.ticket) (found_by f.stops v.stop);
+  }) (forgot v.place)
 
-  kept : (u : ℕ) (e : Entry) → lookup book u ≡ Some e → u ≢ t → IsKept s s' f now order ends book h t (clear_stop t) (clear_mark t) e.kind e.index e.generation
+  kept : (u : ℕ) (e : Entry) → lookup book u ≡ Some e → u ≢ t
+      → IsKept s s' f now order ends book h t (clear_stop t) (clear_mark t) e.kind e.index
+      e.generation
   kept u e is other = by e.kind refl (h.filled u e is)
     where
-      by : (k : Kind) → e.kind ≡ k → IsFilled f k e.index e.generation → IsKept s s' f now order ends book h t (clear_stop t) (clear_mark t) k e.index e.generation
+      by : (k : Kind) → e.kind ≡ k → IsFilled f k e.index e.generation
+          → IsKept s s' f now order ends book h t (clear_stop t) (clear_mark t) k e.index
+          e.generation
       by OfPlace kind filled =
           let st = stands_under f.places e.index e.generation filled in
-          let named : st.0.ticket ≡ u = found_has τ u s.places st.0 (h.places u ∙ ap (place_at f) is ∙ ap (λ k. place_under f k e.index e.generation) kind ∙ st.1.0) in
-          let still = still_found τ f.places at i g p stood entries own_place e.index e.generation st.0 st.1.0 (λ same. other (sym named ∙ same)) in
-          record { place = still; stop = refl; mark = refl; filled = subst IsSome (sym still) filled }
+          let named : st.0.ticket ≡ u =
+          found_has τ u s.places st.0
+          (h.places u ∙ ap (place_at f) is ∙ ap (λ k. place_under f k e.index e.generation) kind
+          ∙ st.1.0) in
+          let still = still_found τ f.places at i g p stood entries own_place e.index e.generation
+          st.0 st.1.0 (λ same. other (sym named ∙ same)) in
+          record {
+            place = still;
+            stop = refl;
+            mark = refl;
+            filled = subst IsSome (sym still) filled;
+          }
       by OfStop kind filled = record {
         place = refl;
-        stop = each_mapped (clear_stop t) (state_stop now) (state_stop f) stop_now (value_if e.generation (f.stops e.index));
+        stop = each_mapped (clear_stop t) (state_stop now) (state_stop f) stop_now
+            (value_if e.generation (f.stops e.index));
         mark = refl;
         filled = filled;
       }
       by OfMark kind filled = record {
         place = refl;
         stop = refl;
-        mark = each_mapped (clear_mark t) (state_mark now) (state_mark f) mark_now (value_if e.generation (f.marks e.index));
+        mark = each_mapped (clear_mark t) (state_mark now) (state_mark f) mark_now
+            (value_if e.generation (f.marks e.index));
         filled = filled;
       }
 
@@ -132,26 +169,37 @@ module _ (s s' : State) (f : Found) (order order' : List Place) (ends : ℕ → 
       → ((u : ℕ) → next_stop s'.routes u ≡ next_stop s.routes u)
       → IsHeld s' now order' ends (without_ticket t book)
   place_ended last_same in_order places stops marks next = record {
-    rise = subst (Rise 0 (without_ticket t book)) (sym last_same) (rise_without t book 0 s.last h.rise);
+    rise = subst (Rise 0 (without_ticket t book)) (sym last_same)
+        (rise_without t book 0 s.last h.rise);
     filled = still_filled s s' f now order ends book h t (clear_stop t) (clear_mark t) kept;
-    places_in = λ j k q is. (let was = was_other τ f.places at i g p stood entries own_place j k q is in still q.ticket _ (h.places_in j k q was.0) was.1);
-    stops_in = λ j k v is. still v.ticket _ (h.stops_in j k v is) (λ same. not_stop (ap (λ (e : Entry). e.kind) (twice v.ticket _ (h.stops_in j k v is) same)));
-    marks_in = λ j k v is. still v.ticket _ (h.marks_in j k v is) (λ same. not_mark (ap (λ (e : Entry). e.kind) (twice v.ticket _ (h.marks_in j k v is) same)));
+    places_in = λ j k q is. (let was =
+        was_other τ f.places at i g p stood entries own_place j k q is in
+        still q.ticket _ (h.places_in j k q was.0) was.1);
+    stops_in = λ j k v is. still v.ticket _ (h.stops_in j k v is)
+        (λ same. not_stop (ap (λ (e : Entry). e.kind)
+        (twice v.ticket _ (h.stops_in j k v is) same)));
+    marks_in = λ j k v is. still v.ticket _ (h.marks_in j k v is)
+        (λ same. not_mark (ap (λ (e : Entry). e.kind)
+        (twice v.ticket _ (h.marks_in j k v is) same)));
     stop_place = λ j k v is. settled v.place (h.stop_place j k v is);
     mark_place = λ j k v is. settled v.place (h.mark_place j k v is);
     mark_stop = h.mark_stop;
-    places_up_to = up_to_left f.places at i g f.place_counter counter p stood entries steps h.places_up_to;
+    places_up_to = up_to_left f.places at i g f.place_counter counter p stood entries steps
+        h.places_up_to;
     stops_up_to = h.stops_up_to;
     places = places_still s s' f now order ends book h t (clear_stop t) (clear_mark t) kept places;
     stops = stops_still s s' f now order ends book h t (clear_stop t) (clear_mark t) kept
-        (none_there t (stop_of s'.routes) (λ u. option_map (clear_stop t) (stop_of s.routes u)) stops (ap (option_map (clear_stop t)) (h.stops t ∙ ap (stop_at f) booked)));
+        (none_there t (stop_of s'.routes) (λ u. option_map (clear_stop t) (stop_of s.routes u))
+        stops (ap (option_map (clear_stop t)) (h.stops t ∙ ap (stop_at f) booked)));
     marks = marks_still s s' f now order ends book h t (clear_stop t) (clear_mark t) kept
-        (none_there t (mark_of s'.marks) (λ u. option_map (clear_mark t) (mark_of s.marks u)) marks (ap (option_map (clear_mark t)) (h.marks t ∙ ap (mark_at f) booked)));
+        (none_there t (mark_of s'.marks) (λ u. option_map (clear_mark t) (mark_of s.marks u)) marks
+        (ap (option_map (clear_mark t)) (h.marks t ∙ ap (mark_at f) booked)));
     in_order = sym in_order;
     routes = λ j k v is. next v.ticket ∙ h.routes j k v is;
   }
     where
-      still : (u : ℕ) (e : Entry) → lookup book u ≡ Some e → u ≢ t → lookup (without_ticket t book) u ≡ Some e
+      still : (u : ℕ) (e : Entry) → lookup book u ≡ Some e → u ≢ t
+          → lookup (without_ticket t book) u ≡ Some e
       still = still_booked s s' f now order ends book h t (clear_stop t) (clear_mark t)
 
       twice : (u : ℕ) (e : Entry) → lookup book u ≡ Some e → u ≡ t → e ≡ entry t OfPlace i g
@@ -176,47 +224,68 @@ pub record IsPlaceGone (s s' : State) (t : ℕ) : Type 0 where
   pub stop_count : length (stop_list s'.routes) ≡ length (stop_list s.routes)
   pub mark_count : length s'.marks ≡ length s.marks
 
-module _ {I : Type 0} (number : I → ℕ) (rooms : Rooms) (last : ℕ) (s : State) (places places' : Ordered I Place) (stops : Content (IndexLink I StopView)) (marks : Content MarkView)
+module _ {I : Type 0} (number : I → ℕ) (rooms : Rooms) (last : ℕ) (s : State)
+    (places places' : Ordered I Place) (stops : Content (IndexLink I StopView))
+    (marks : Content MarkView)
     (book : List Entry) (b : IsBook number rooms last s places stops marks book)
-    (i g : ℕ) (p : Place) (found : value_if g (entry_in places i) ≡ Some p) (ordered : IsOrdered number places)
-    (final : Option ℕ) (top : ℕ) (counts : final ≡ Some top) (calm : next_wraps final places.chains.counter ≡ false) (removed : IsEntryRemoved number final i places places') where
+    (i g : ℕ) (p : Place) (found : value_if g (entry_in places i) ≡ Some p)
+    (ordered : IsOrdered number places)
+    (final : Option ℕ) (top : ℕ) (counts : final ≡ Some top)
+    (calm : next_wraps final places.chains.counter ≡ false)
+    (removed : IsEntryRemoved number final i places places') where
   stood : entry_in places i ≡ Some (g, p)
-  stood = let st = stands_under (entry_in places) i g (ap is_some found) in st.1.1 ∙ ap (λ q. Some (g, q)) (some_same (sym st.1.0 ∙ found))
+  stood = let st = stands_under (entry_in places) i g (ap is_some found) in st.1.1
+      ∙ ap (λ q. Some (g, q)) (some_same (sym st.1.0 ∙ found))
 
   pub place_steps : places'.chains.counter ≡ places.chains.counter + 1
   place_steps = removed.counter ∙ one_up final places.chains.counter top counts calm
 
   own : (j k : ℕ) (q : Place) → entry_in places j ≡ Some (k, q) → q.ticket ≡ p.ticket → j ≡ i
-  own = own_place s s (found_in places stops marks) (in_order number places) (in_order number places) (ends_in number stops) book b.held i g p stood (entry_in places') removed.entries
+  own = own_place s s (found_in places stops marks) (in_order number places)
+      (in_order number places) (ends_in number stops) book b.held i g p stood (entry_in places')
+      removed.entries
       places'.chains.counter place_steps
 
   apart : Off removed.order.before i × Off removed.order.after i
-  apart = Apart-split removed.order.before removed.order.after i (subst Apart removed.order.was (linear_apart (ends_in number places.chains) None (order_in number places) ordered.linear))
+  apart = Apart-split removed.order.before removed.order.after i
+      (subst Apart removed.order.was
+      (linear_apart (ends_in number places.chains) None (order_in number places) ordered.linear))
 
-  order_is : in_order number places' ≡ filter (λ (q : Place). not (q.ticket == p.ticket)) (in_order number places)
+  order_is : in_order number places'
+      ≡ filter (λ (q : Place). not (q.ticket == p.ticket)) (in_order number places)
   order_is =
       ap (along (entry_in places')) removed.order.is
-      ∙ along_left (entry_in places) (entry_in places') i g p stood removed.entries own removed.order.before removed.order.after apart.0 apart.1
-      ∙ ap (λ w. filter (λ (q : Place). not (q.ticket == p.ticket)) (along (entry_in places) w)) (sym removed.order.was)
+      ∙ along_left (entry_in places) (entry_in places') i g p stood removed.entries own
+      removed.order.before removed.order.after apart.0 apart.1
+      ∙ ap (λ w. filter (λ (q : Place). not (q.ticket == p.ticket)) (along (entry_in places) w))
+      (sym removed.order.was)
 
   -- the other places keep their pointers
-  pub places_stay : (k h : ℕ) (q : Place) → entry_in places k ≡ Some (h, q) → q.ticket ≢ p.ticket → entry_in places' k ≡ Some (h, q)
-  places_stay = others_stay (λ (q : Place). q.ticket) (entry_in places) (entry_in places') i g p stood removed.entries own
+  pub places_stay : (k h : ℕ) (q : Place) → entry_in places k ≡ Some (h, q) → q.ticket ≢ p.ticket
+      → entry_in places' k ≡ Some (h, q)
+  places_stay = others_stay (λ (q : Place). q.ticket) (entry_in places) (entry_in places') i g p
+      stood removed.entries own
 
   module _ (s' : State) (laws : IsPlaceGone s s' p.ticket) (sound : IsSound s') where
-    held : IsHeld s' (found_in places' stops marks) (in_order number places') (ends_in number stops) (without_ticket p.ticket book)
-    held = place_ended s s' (found_in places stops marks) (in_order number places) (in_order number places') (ends_in number stops) book b.held
-        i g p stood (entry_in places') removed.entries places'.chains.counter place_steps (ap (λ (x : State). x.last) laws.is)
-        (order_is ∙ ap (filter (λ (q : Place). not (q.ticket == p.ticket))) (sym b.held.in_order) ∙ sym (ap (λ (x : State). x.places) laws.is))
+    held : IsHeld s' (found_in places' stops marks) (in_order number places') (ends_in number stops)
+        (without_ticket p.ticket book)
+    held = place_ended s s' (found_in places stops marks) (in_order number places)
+        (in_order number places') (ends_in number stops) book b.held
+        i g p stood (entry_in places') removed.entries places'.chains.counter place_steps
+        (ap (λ (x : State). x.last) laws.is)
+        (order_is ∙ ap (filter (λ (q : Place). not (q.ticket == p.ticket))) (sym b.held.in_order)
+        ∙ sym (ap (λ (x : State). x.places) laws.is))
         laws.places laws.stops laws.marks laws.next
 
-    pub place_leaves : IsBook number rooms last s' places' stops marks (without_ticket p.ticket book)
+    pub place_leaves : IsBook number rooms last s' places' stops marks
+        (without_ticket p.ticket book)
     place_leaves = record {
       held = held;
       places_rise = sound.order;
       within = record {
         rooms_are = ap (λ (x : State). x.rooms) laws.is ∙ b.within.rooms_are;
-        place_count = (let n = b.within.place_count in let z = removed.size in let l = laws.place_count in omega (arith, n, z, l));
+        place_count = (let n = b.within.place_count in let z = removed.size in let l =
+            laws.place_count in omega (arith, n, z, l));
         stop_count = laws.stop_count ∙ b.within.stop_count;
         mark_count = laws.mark_count ∙ b.within.mark_count;
         places_fit = (let n = b.within.places_fit in let z = removed.size in omega (arith, n, z));
@@ -227,6 +296,8 @@ module _ {I : Type 0} (number : I → ℕ) (rooms : Rooms) (last : ℕ) (s : Sta
         mark_room = b.within.mark_room;
       };
       last_is = ap (λ (x : State). x.last) laws.is ∙ b.last_is;
-      entries = (let n = b.entries in let z = removed.size in let l = length_without p.ticket book 0 s.last _ b.held.rise (b.held.places_in i g p stood) in omega (arith, n, z, l));
+      entries = (let n = b.entries in let z = removed.size in let l =
+          length_without p.ticket book 0 s.last _ b.held.rise (b.held.places_in i g p stood) in
+          omega (arith, n, z, l));
       marks_differ = differ_of_rise s'.marks sound.marks;
     }

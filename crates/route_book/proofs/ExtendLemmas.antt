@@ -1,5 +1,7 @@
 -- What `extend` makes of what ties a store's parts.
-use Rattle.std.proofs.Common.{◌≡◌, ◌≢◌, ◌∙◌, sym, ap, subst, refl, true, false, ℕ, ◌+◌, ◌<◌, ◌≤◌, List, [], ◌∷◌, ◌++◌, length, Option, Some, None, IsSome, IfSome, Ok, Err, arith, length-append}
+use Rattle.std.proofs.Common.{◌≡◌, ◌≢◌, ◌∙◌, sym, ap, subst, refl, true, false, ℕ, ◌+◌, ◌<◌, ◌≤◌}
+use Rattle.std.proofs.Common.{List, [], ◌∷◌, ◌++◌, length, Option, Some, None, IsSome, IfSome, Ok}
+use Rattle.std.proofs.Common.{Err, arith, length-append}
 use Rattle.std.specs.Option.{option_map}
 use Rattle.triple_arena.specs.Entries.{value_if}
 use Rattle.triple_arena.specs.Content.{Content, entry_at, live_count, arena_capacity}
@@ -9,13 +11,15 @@ use Rattle.triple_arena_chain.specs.Kinds.{after_link}
 use Rattle.triple_arena_chain.specs.LinkShape.{IndexLink}
 use Rattle.triple_arena_chain.specs.declared.place.Place.{Place as LinkPlace}
 use Rattle.triple_arena_chain.specs.declared.place.Place.TheVariants.{Between}
-use Rattle.triple_arena_chain.specs.Links.{ends_in, ends_found, entry_ends, values_in, valued, IsChained, IsPlaced}
+use Rattle.triple_arena_chain.specs.Links.{ends_in, ends_found, entry_ends, values_in, valued}
+use Rattle.triple_arena_chain.specs.Links.{IsChained, IsPlaced}
 use Rattle.triple_arena_ord.specs.Ordered.{Ordered, entry_in}
 use Rattle.ticket_book.specs.declared.entry.Kind.TheVariants.{Stop as OfStop}
 use Rattle.ticket_book.specs.Tickets.{Entry, AreBelow}
 use Rattle.route_lines.specs.Calls.{place_holder, stop_holder, extended, after_extend}
 use Rattle.route_lines.specs.Routes.{next_stop, put_behind}
-use Rattle.route_lines.specs.State.{State, Rooms, Place, Stop, Route, stop_list, stop_of, is_full_of_stops}
+use Rattle.route_lines.specs.State.{State, Rooms, Place, Stop, Route, stop_list, stop_of}
+use Rattle.route_lines.specs.State.{is_full_of_stops}
 use Rattle.route_lines.specs.declared.refusal.Refusal.{Refusal}
 use Rattle.route_lines.specs.declared.refusal.Refusal.TheVariants.{Full}
 use Rattle.route_book.specs.Follows.{LeadAs}
@@ -33,52 +37,77 @@ use Rattle.route_book.proofs.OptionLemmas.{found_has}
 -- ---- what it answers
 
 module _ (s : State) (t at : ℕ) where
-  pub extended_no_stop : (e : Refusal) → stop_holder s t ≡ Err e → (extended s t at ≡ Err e) × (after_extend s t at ≡ s)
+  pub extended_no_stop : (e : Refusal) → stop_holder s t ≡ Err e
+      → (extended s t at ≡ Err e) × (after_extend s t at ≡ s)
   extended_no_stop e refused = (rw refused refl, rw refused refl)
 
-  pub extended_no_place : (x : Stop) (e : Refusal) → stop_holder s t ≡ Ok x → place_holder s at ≡ Err e → (extended s t at ≡ Err e) × (after_extend s t at ≡ s)
+  pub extended_no_place : (x : Stop) (e : Refusal) → stop_holder s t ≡ Ok x
+      → place_holder s at ≡ Err e → (extended s t at ≡ Err e) × (after_extend s t at ≡ s)
   extended_no_place x e held refused = (rw (held, refused) refl, rw (held, refused) refl)
 
-  pub extended_full : (x : Stop) (p : Place) → stop_holder s t ≡ Ok x → place_holder s at ≡ Ok p → is_full_of_stops s ≡ true → (extended s t at ≡ Err Full) × (after_extend s t at ≡ s)
+  pub extended_full : (x : Stop) (p : Place) → stop_holder s t ≡ Ok x → place_holder s at ≡ Ok p
+      → is_full_of_stops s ≡ true → (extended s t at ≡ Err Full) × (after_extend s t at ≡ s)
   extended_full x p stop place full = (rw (stop, place, full) refl, rw (stop, place, full) refl)
 
-  pub extended_new : (x : Stop) (p : Place) → stop_holder s t ≡ Ok x → place_holder s at ≡ Ok p → is_full_of_stops s ≡ false
-      → (extended s t at ≡ Ok (s.last + 1)) × (after_extend s t at ≡ record s { last = s.last + 1; routes = put_behind t (record { ticket = s.last + 1; place = Some at }) s.routes })
+  pub extended_new : (x : Stop) (p : Place) → stop_holder s t ≡ Ok x → place_holder s at ≡ Ok p
+      → is_full_of_stops s ≡ false
+      → (extended s t at ≡ Ok (s.last + 1))
+      × (after_extend s t at
+      ≡ record s {
+        last = s.last + 1;
+        routes = put_behind t (record { ticket = s.last + 1; place = Some at }) s.routes;
+      })
   extended_new x p stop place free = (rw (stop, place, free) refl, rw (stop, place, free) refl)
 
 -- ---- where there is room
 
 -- a stop directly behind one that a pointer finds
-behind_is : {I T : Type 0} (number : I → ℕ) (c : Content (IndexLink I T)) (i g : ℕ) (v : T) → IsAt number c i g v
-    → after_link i (ends_found number c i g) ≡ Some (Between (Some i) (next_at (ends_in number c) i))
+behind_is : {I T : Type 0} (number : I → ℕ) (c : Content (IndexLink I T)) (i g : ℕ) (v : T)
+    → IsAt number c i g v
+    → after_link i (ends_found number c i g)
+    ≡ Some (Between (Some i) (next_at (ends_in number c) i))
 behind_is number c i g v at = by (ends_in number c i) refl at.live
   where
-    by : (o : Option Ends) → ends_in number c i ≡ o → IsSome o → after_link i (ends_found number c i g) ≡ Some (Between (Some i) (next_at (ends_in number c) i))
+    by : (o : Option Ends) → ends_in number c i ≡ o → IsSome o
+        → after_link i (ends_found number c i g)
+        ≡ Some (Between (Some i) (next_at (ends_in number c) i))
     by None none some = absurd (let never : false ≡ true = some in cc)
-    by (Some e) is some = ap (after_link i) (at.ends ∙ is) ∙ sym (ap (λ o. Some (Between (Some i) (next_of o))) is)
+    by (Some e) is some = ap (after_link i) (at.ends ∙ is)
+        ∙ sym (ap (λ o. Some (Between (Some i) (next_of o))) is)
       where
         next_of : Option Ends → Option ℕ
         next_of o = next_at (λ k. o) i
 
-module _ {I : Type 0} (number : I → ℕ) (rooms : Rooms) (last : ℕ) (s : State) (places : Ordered I Place) (stops : Content (IndexLink I StopView)) (marks : Content MarkView)
-    (book : List Entry) (b : IsBook number rooms last s places stops marks book) (t i g : ℕ) (v : StopView) (found : value_if g (values_in stops i) ≡ Some v)
-    (held : stop_holder s t ≡ Ok (state_stop (found_in places stops marks) v)) (pt : ℕ) (p : Place) (place : place_holder s pt ≡ Ok p) (free : is_full_of_stops s ≡ false) where
+module _ {I : Type 0} (number : I → ℕ) (rooms : Rooms) (last : ℕ) (s : State)
+    (places : Ordered I Place) (stops : Content (IndexLink I StopView)) (marks : Content MarkView)
+    (book : List Entry) (b : IsBook number rooms last s places stops marks book) (t i g : ℕ)
+    (v : StopView) (found : value_if g (values_in stops i) ≡ Some v)
+    (held : stop_holder s t ≡ Ok (state_stop (found_in places stops marks) v)) (pt : ℕ) (p : Place)
+    (place : place_holder s pt ≡ Ok p) (free : is_full_of_stops s ≡ false) where
   own_at : IsAt number stops i g v
   own_at = is_at number stops i g v found
 
   -- there is room
-  pub extend_fits : IsSome (after_link i (ends_found number stops i g)) × (live_count stops < arena_capacity stops)
+  pub extend_fits : IsSome (after_link i (ends_found number stops i g))
+      × (live_count stops < arena_capacity stops)
   extend_fits = (
     subst IsSome (sym (behind_is number stops i g v own_at)) refl,
-    (let n = b.within.stop_count in let r = ap (λ (r : Rooms). r.stops) b.within.rooms_are in let less = stops_not_full s free in let room = b.within.stop_room in omega (arith, less, n, r, room)),
+    (let n = b.within.stop_count in let r = ap (λ (r : Rooms). r.stops) b.within.rooms_are in
+        let less = stops_not_full s free in let room = b.within.stop_room in
+        omega (arith, less, n, r, room)),
   )
 
-  module _ (agreed : IsAgreed (ends_in number stops)) (pi pg : ℕ) (at_place : value_if pg (entry_in places pi) ≡ Some p) (w : StopView) (n h : ℕ) (ticket : w.ticket ≡ last + 1)
+  module _ (agreed : IsAgreed (ends_in number stops)) (pi pg : ℕ)
+      (at_place : value_if pg (entry_in places pi) ≡ Some p) (w : StopView) (n h : ℕ)
+      (ticket : w.ticket ≡ last + 1)
       (to : w.place ≡ Some (pi, pg))
-      (stops' : Content (IndexLink I StopView)) (placed : IfSome (after_link i (ends_found number stops i g)) (λ place. IsPlaced number place n h w stops stops'))
+      (stops' : Content (IndexLink I StopView))
+      (placed : IfSome (after_link i (ends_found number stops i g))
+      (λ place. IsPlaced number place n h w stops stops'))
       (same_room : stops'.room ≡ stops.room) where
     put : IsPlaced number (Between (Some i) (next_at (ends_in number stops) i)) n h w stops stops'
-    put = subst (λ o. IfSome o (λ (place : LinkPlace ℕ). IsPlaced number place n h w stops stops')) (behind_is number stops i g v own_at) placed
+    put = subst (λ o. IfSome o (λ (place : LinkPlace ℕ). IsPlaced number place n h w stops stops'))
+        (behind_is number stops i g v own_at) placed
 
     vacant : values_in stops n ≡ None
     vacant = ap (option_map valued) put.vacant
@@ -90,10 +119,14 @@ module _ {I : Type 0} (number : I → ℕ) (rooms : Rooms) (last : ℕ) (s : Sta
     next = ticket ∙ ap (λ k. k + 1) (sym b.last_is)
 
     live : IfSome w.place (λ q. IsSome (value_if q.1 (entry_in places q.0)))
-    live = subst (λ r. IfSome r (λ q. IsSome (value_if q.1 (entry_in places q.0)))) (sym to) (subst IsSome (sym at_place) refl)
+    live = subst (λ r. IfSome r (λ q. IsSome (value_if q.1 (entry_in places q.0)))) (sym to)
+        (subst IsSome (sym at_place) refl)
 
-    stop_is : state_stop (found_in places stops marks) w ≡ record { ticket = s.last + 1; place = Some pt }
-    stop_is = let named = found_has (λ (x : Place). x.ticket) pt s.places p (held_place s pt p place) in rw (next, to, at_place, named) refl
+    stop_is : state_stop (found_in places stops marks) w
+        ≡ record { ticket = s.last + 1; place = Some pt }
+    stop_is = let named =
+        found_has (λ (x : Place). x.ticket) pt s.places p (held_place s pt p place) in
+        rw (next, to, at_place, named) refl
 
     own_ticket : v.ticket ≡ t
     own_ticket = held_ticket s t _ held
@@ -104,32 +137,51 @@ module _ {I : Type 0} (number : I → ℕ) (rooms : Rooms) (last : ℕ) (s : Sta
     abbrev later : List Route
     later = (after_extend s t pt).routes
 
-    pub extend_kept : (extended s t pt ≡ Ok (s.last + 1) → next_stop later t ≡ Some (s.last + 1)) → (extended s t pt ≡ Ok (s.last + 1) → next_stop later (s.last + 1) ≡ next_stop s.routes t)
-        → ((k : ℕ) → extended s t pt ≡ Ok (s.last + 1) → k ≢ t → k ≢ s.last + 1 → next_stop later k ≡ next_stop s.routes k)
-        → (extended s t pt ≡ Ok (s.last + 1) → stop_of later (s.last + 1) ≡ Some (record { ticket = s.last + 1; place = Some pt }))
-        → ((k : ℕ) → extended s t pt ≡ Ok (s.last + 1) → k ≢ s.last + 1 → stop_of later k ≡ stop_of s.routes k)
-        → (extended s t pt ≡ Ok (s.last + 1) → length (stop_list later) ≡ length (stop_list s.routes) + 1)
-        → IsBook number rooms (last + 1) (after_extend s t pt) places stops' marks (book ++ entry w.ticket OfStop n h ∷ [])
+    pub extend_kept : (extended s t pt ≡ Ok (s.last + 1) → next_stop later t ≡ Some (s.last + 1))
+        → (extended s t pt ≡ Ok (s.last + 1) → next_stop later (s.last + 1) ≡ next_stop s.routes t)
+        → ((k : ℕ) → extended s t pt ≡ Ok (s.last + 1) → k ≢ t → k ≢ s.last + 1
+        → next_stop later k ≡ next_stop s.routes k)
+        → (extended s t pt ≡ Ok (s.last + 1)
+        → stop_of later (s.last + 1) ≡ Some (record { ticket = s.last + 1; place = Some pt }))
+        → ((k : ℕ) → extended s t pt ≡ Ok (s.last + 1) → k ≢ s.last + 1
+        → stop_of later k ≡ stop_of s.routes k)
+        → (extended s t pt ≡ Ok (s.last + 1)
+        → length (stop_list later) ≡ length (stop_list s.routes) + 1)
+        → IsBook number rooms (last + 1) (after_extend s t pt) places stops' marks
+        (book ++ entry w.ticket OfStop n h ∷ [])
     extend_kept leads through leads_others own others count =
-        subst (λ z. IsBook number rooms (last + 1) z places stops' marks (book ++ entry w.ticket OfStop n h ∷ [])) (sym whole) (record {
-          held = subst (λ (c : ℕ). IsHeld now (record { places = entry_in places; stops = values_in stops'; marks = entry_at marks; place_counter = places.chains.counter; stop_counter = c })
-              (in_order number places) (ends_in number stops') (book ++ entry w.ticket OfStop n h ∷ []))
+        subst (λ z. IsBook number rooms (last + 1) z places stops' marks
+        (book ++ entry w.ticket OfStop n h ∷ [])) (sym whole) (record {
+          held = subst (λ (c : ℕ). IsHeld now
+              (record {
+                places = entry_in places;
+                stops = values_in stops';
+                marks = entry_at marks;
+                place_counter = places.chains.counter;
+                stop_counter = c;
+              })
+              (in_order number places) (ends_in number stops')
+              (book ++ entry w.ticket OfStop n h ∷ []))
               (sym put.counter) held_now;
           places_rise = b.places_rise;
           within = record {
             rooms_are = b.within.rooms_are;
             place_count = b.within.place_count;
-            stop_count = (let c = count answer in let k = b.within.stop_count in let l = put.live in omega (arith, c, k, l));
+            stop_count = (let c = count answer in let k = b.within.stop_count in let l = put.live in
+                omega (arith, c, k, l));
             mark_count = b.within.mark_count;
             places_fit = b.within.places_fit;
-            stops_fit = (let l = put.live in let k = b.within.stop_count in let r = ap (λ (r : Rooms). r.stops) b.within.rooms_are in let less = stops_not_full s free in omega (arith, less, l, k, r));
+            stops_fit = (let l = put.live in let k = b.within.stop_count in let r =
+                ap (λ (r : Rooms). r.stops) b.within.rooms_are in let less =
+                stops_not_full s free in omega (arith, less, l, k, r));
             marks_fit = b.within.marks_fit;
             place_room = b.within.place_room;
             stop_room = subst (λ r. rooms.stops ≤ capacity r) (sym same_room) b.within.stop_room;
             mark_room = b.within.mark_room;
           };
           last_is = ap (λ k. k + 1) b.last_is;
-          entries = (let a = length-append book (entry w.ticket OfStop n h ∷ []) in let k = b.entries in let l = put.live in omega (arith, a, k, l));
+          entries = (let a = length-append book (entry w.ticket OfStop n h ∷ []) in let k =
+              b.entries in let l = put.live in omega (arith, a, k, l));
           marks_differ = b.marks_differ;
         })
       where
@@ -137,25 +189,47 @@ module _ {I : Type 0} (number : I → ℕ) (rooms : Rooms) (last : ℕ) (s : Sta
         now = record s { last = s.last + 1; routes = later }
 
         whole : after_extend s t pt ≡ now
-        whole = let e = (extended_new s t pt _ p held place free).1 in e ∙ sym (ap (λ (z : State). record s { last = s.last + 1; routes = z.routes }) e)
+        whole = let e = (extended_new s t pt _ p held place free).1 in e
+            ∙ sym (ap (λ (z : State). record s { last = s.last + 1; routes = z.routes }) e)
 
-        lead : LeadAs (λ (x : StopView). x.ticket) (values_in stops') (ends_in number stops') (next_stop later)
+        lead : LeadAs (λ (x : StopView). x.ticket) (values_in stops') (ends_in number stops')
+            (next_stop later)
         lead =
-            lead_extended (λ (x : StopView). x.ticket) (values_in stops) (ends_in number stops) (ends_in number stops') (next_stop s.routes) (next_stop later) b.held.routes
-            (values_in stops') n h w agreed (live_ends number stops) absent (unknown s (found_in places stops marks) (in_order number places) (ends_in number stops) book b.held w next) put.values
-            (distinct s (found_in places stops marks) (in_order number places) (ends_in number stops) book b.held) i g v own_at.here
-            (ap (next_stop later) own_ticket ∙ leads answer ∙ ap Some (sym next)) (ap (next_stop later) next ∙ through answer ∙ ap (next_stop s.routes) (sym own_ticket))
-            (λ k apart off. leads_others k answer (λ is. apart (is ∙ sym own_ticket)) (λ is. off (is ∙ sym next))) put.ends
+            lead_extended (λ (x : StopView). x.ticket) (values_in stops) (ends_in number stops)
+            (ends_in number stops') (next_stop s.routes) (next_stop later) b.held.routes
+            (values_in stops') n h w agreed (live_ends number stops) absent
+            (unknown s (found_in places stops marks) (in_order number places)
+            (ends_in number stops) book b.held w next) put.values
+            (distinct s (found_in places stops marks) (in_order number places)
+            (ends_in number stops) book b.held) i g v own_at.here
+            (ap (next_stop later) own_ticket ∙ leads answer ∙ ap Some (sym next))
+            (ap (next_stop later) next ∙ through answer
+            ∙ ap (next_stop s.routes) (sym own_ticket))
+            (λ k apart off. leads_others k answer (λ is. apart (is ∙ sym own_ticket))
+            (λ is. off (is ∙ sym next))) put.ends
 
-        held_now : IsHeld now (record { places = entry_in places; stops = values_in stops'; marks = entry_at marks; place_counter = places.chains.counter; stop_counter = stops.counter })
-            (in_order number places) (ends_in number stops') (book ++ entry w.ticket OfStop n h ∷ [])
+        held_now : IsHeld now
+            (record {
+              places = entry_in places;
+              stops = values_in stops';
+              marks = entry_at marks;
+              place_counter = places.chains.counter;
+              stop_counter = stops.counter;
+            })
+            (in_order number places) (ends_in number stops')
+            (book ++ entry w.ticket OfStop n h ∷ [])
         held_now =
-            stop_added s (found_in places stops marks) (in_order number places) (ends_in number stops) (ends_in number stops') book b.held w n h (values_in stops') vacant put.values next
+            stop_added s (found_in places stops marks) (in_order number places)
+            (ends_in number stops) (ends_in number stops') book b.held w n h (values_in stops')
+            vacant put.values next
             put.generation live later
-            (λ k other. others k answer other) (λ k is. ap (stop_of later) is ∙ own answer ∙ ap Some (sym stop_is)) lead
+            (λ k other. others k answer other)
+            (λ k is. ap (stop_of later) is ∙ own answer ∙ ap Some (sym stop_is)) lead
 
     -- each item keeps its pointer
-    pub extend_keeps : (s' : State) → KeepsItems {I = I} (record { state = s; places = places; stops = stops; marks = marks }) (record { state = s'; places = places; stops = stops'; marks = marks })
+    pub extend_keeps : (s' : State)
+        → KeepsItems {I = I} (record { state = s; places = places; stops = stops; marks = marks })
+        (record { state = s'; places = places; stops = stops'; marks = marks })
     extend_keeps s' =
         kept_stop number s s' places stops stops' marks w n h
         put.values vacant put.generation put.counter same_room
@@ -163,46 +237,77 @@ module _ {I : Type 0} (number : I → ℕ) (rooms : Rooms) (last : ℕ) (s : Sta
 -- ---- the same of the store that the calls see
 
 -- the next ticket is above those of the book
-pub next_above : {I : Type 0} (number : I → ℕ) (rooms : Rooms) (last : ℕ) (s : State) (places : Ordered I Place) (stops : Content (IndexLink I StopView)) (marks : Content MarkView)
-    (book : List Entry) → IsBook number rooms last s places stops marks book → AreBelow book (last + 1)
-next_above number rooms last s places stops marks book b = subst (λ n. AreBelow book (n + 1)) b.last_is (below_next book 0 s.last b.held.rise)
+pub next_above : {I : Type 0} (number : I → ℕ) (rooms : Rooms) (last : ℕ) (s : State)
+    (places : Ordered I Place) (stops : Content (IndexLink I StopView)) (marks : Content MarkView)
+    (book : List Entry) → IsBook number rooms last s places stops marks book
+    → AreBelow book (last + 1)
+next_above number rooms last s places stops marks book b =
+    subst (λ n. AreBelow book (n + 1)) b.last_is (below_next book 0 s.last b.held.rise)
 
-module _ {I : Type 0} (number : I → ℕ) (rooms : Rooms) (last : ℕ) (s : State) (places : Ordered I Place) (stops : Content (IndexLink I StopView)) (marks : Content MarkView)
-    (book : List Entry) (b : IsBook number rooms last s places stops marks book) (k : Book I) (view : record { state = s; places = places; stops = stops; marks = marks } ≡ k)
-    (t i g : ℕ) (from : (v : StopView) × (value_if g (values_in k.stops i) ≡ Some v) × (stop_holder k.state t ≡ Ok (state_stop (found_of k) v)))
-    (pt pi pg : ℕ) (at : (p : Place) × (value_if pg (entry_in k.places pi) ≡ Some p) × (place_holder k.state pt ≡ Ok p)) (free : false ≡ is_full_of_stops k.state) where
-  abbrev stop : (v : StopView) × (value_if g (values_in stops i) ≡ Some v) × (stop_holder s t ≡ Ok (state_stop (found_in places stops marks) v))
-  stop = subst (λ (x : Book I). (v : StopView) × (value_if g (values_in x.stops i) ≡ Some v) × (stop_holder x.state t ≡ Ok (state_stop (found_of x) v))) (sym view) from
+module _ {I : Type 0} (number : I → ℕ) (rooms : Rooms) (last : ℕ) (s : State)
+    (places : Ordered I Place) (stops : Content (IndexLink I StopView)) (marks : Content MarkView)
+    (book : List Entry) (b : IsBook number rooms last s places stops marks book) (k : Book I)
+    (view : record { state = s; places = places; stops = stops; marks = marks } ≡ k)
+    (t i g : ℕ) (from : (v : StopView) × (value_if g (values_in k.stops i) ≡ Some v)
+    × (stop_holder k.state t ≡ Ok (state_stop (found_of k) v)))
+    (pt pi pg : ℕ) (at : (p : Place) × (value_if pg (entry_in k.places pi) ≡ Some p)
+    × (place_holder k.state pt ≡ Ok p)) (free : false ≡ is_full_of_stops k.state) where
+  abbrev stop : (v : StopView) × (value_if g (values_in stops i) ≡ Some v)
+      × (stop_holder s t ≡ Ok (state_stop (found_in places stops marks) v))
+  stop = subst (λ (x : Book I). (v : StopView) × (value_if g (values_in x.stops i) ≡ Some v)
+      × (stop_holder x.state t ≡ Ok (state_stop (found_of x) v))) (sym view) from
 
-  abbrev place : (p : Place) × (value_if pg (entry_in places pi) ≡ Some p) × (place_holder s pt ≡ Ok p)
-  place = subst (λ (x : Book I). (p : Place) × (value_if pg (entry_in x.places pi) ≡ Some p) × (place_holder x.state pt ≡ Ok p)) (sym view) at
+  abbrev place : (p : Place) × (value_if pg (entry_in places pi) ≡ Some p)
+      × (place_holder s pt ≡ Ok p)
+  place = subst (λ (x : Book I). (p : Place) × (value_if pg (entry_in x.places pi) ≡ Some p)
+      × (place_holder x.state pt ≡ Ok p)) (sym view) at
 
   abbrev room : is_full_of_stops s ≡ false
   room = ap (λ (x : Book I). is_full_of_stops x.state) view ∙ sym free
 
-  pub extend_has_room : IsSome (after_link i (ends_found number stops i g)) × (live_count stops < arena_capacity stops)
-  extend_has_room = extend_fits number rooms last s places stops marks book b t i g stop.0 stop.1 stop.2 pt place.0 place.2 room
+  pub extend_has_room : IsSome (after_link i (ends_found number stops i g))
+      × (live_count stops < arena_capacity stops)
+  extend_has_room = extend_fits number rooms last s places stops marks book b t i g stop.0 stop.1
+      stop.2 pt place.0 place.2 room
 
-  module _ (chained : IsChained number k.stops) (w : StopView) (n h : ℕ) (ticket : w.ticket ≡ last + 1) (to : w.place ≡ Some (pi, pg))
-      (stops' : Content (IndexLink I StopView)) (placed : IfSome (after_link i (ends_found number stops i g)) (λ place. IsPlaced number place n h w stops stops'))
+  module _ (chained : IsChained number k.stops) (w : StopView) (n h : ℕ)
+      (ticket : w.ticket ≡ last + 1) (to : w.place ≡ Some (pi, pg))
+      (stops' : Content (IndexLink I StopView))
+      (placed : IfSome (after_link i (ends_found number stops i g))
+      (λ place. IsPlaced number place n h w stops stops'))
       (same_room : stops'.room ≡ stops.room) where
     abbrev agreed : IsAgreed (ends_in number stops)
     agreed = (subst (λ (x : Book I). IsChained number x.stops) (sym view) chained).agreed
 
-    pub extend_leaves : (z : State) (book' : List Entry) → z ≡ after_extend s t pt → book' ≡ book ++ entry (last + 1) OfStop n h ∷ []
-        → ((m : ℕ) → extended s t pt ≡ Ok m → next_stop (after_extend s t pt).routes t ≡ Some m) → ((m : ℕ) → extended s t pt ≡ Ok m → next_stop (after_extend s t pt).routes m ≡ next_stop s.routes t)
-        → ((m x : ℕ) → extended s t pt ≡ Ok m → x ≢ t → x ≢ m → next_stop (after_extend s t pt).routes x ≡ next_stop s.routes x)
-        → ((m : ℕ) → extended s t pt ≡ Ok m → stop_of (after_extend s t pt).routes m ≡ Some (record { ticket = m; place = Some pt }))
-        → ((m x : ℕ) → extended s t pt ≡ Ok m → x ≢ m → stop_of (after_extend s t pt).routes x ≡ stop_of s.routes x)
-        → ((m : ℕ) → extended s t pt ≡ Ok m → length (stop_list (after_extend s t pt).routes) ≡ length (stop_list s.routes) + 1)
+    pub extend_leaves : (z : State) (book' : List Entry) → z ≡ after_extend s t pt
+        → book' ≡ book ++ entry (last + 1) OfStop n h ∷ []
+        → ((m : ℕ) → extended s t pt ≡ Ok m → next_stop (after_extend s t pt).routes t ≡ Some m)
+        → ((m : ℕ) → extended s t pt ≡ Ok m
+        → next_stop (after_extend s t pt).routes m ≡ next_stop s.routes t)
+        → ((m x : ℕ) → extended s t pt ≡ Ok m → x ≢ t → x ≢ m
+        → next_stop (after_extend s t pt).routes x ≡ next_stop s.routes x)
+        → ((m : ℕ) → extended s t pt ≡ Ok m
+        → stop_of (after_extend s t pt).routes m
+        ≡ Some (record { ticket = m; place = Some pt }))
+        → ((m x : ℕ) → extended s t pt ≡ Ok m → x ≢ m
+        → stop_of (after_extend s t pt).routes x ≡ stop_of s.routes x)
+        → ((m : ℕ) → extended s t pt ≡ Ok m
+        → length (stop_list (after_extend s t pt).routes) ≡ length (stop_list s.routes) + 1)
         → IsBook number rooms (last + 1) z places stops' marks book'
     extend_leaves z book' is more leads through leads_others own others count =
-        subst (λ l. IsBook number rooms (last + 1) z places stops' marks l) (ap (λ m. book ++ entry m OfStop n h ∷ []) ticket ∙ sym more)
-        (subst (λ x. IsBook number rooms (last + 1) x places stops' marks (book ++ entry w.ticket OfStop n h ∷ [])) (sym is)
-        (extend_kept number rooms last s places stops marks book b t i g stop.0 stop.1 stop.2 pt place.0 place.2 room agreed pi pg place.1 w n h ticket to stops' placed same_room
-        (leads (s.last + 1)) (through (s.last + 1)) (λ x. leads_others (s.last + 1) x) (own (s.last + 1)) (λ x. others (s.last + 1) x) (count (s.last + 1))))
+        subst (λ l. IsBook number rooms (last + 1) z places stops' marks l)
+        (ap (λ m. book ++ entry m OfStop n h ∷ []) ticket ∙ sym more)
+        (subst (λ x. IsBook number rooms (last + 1) x places stops' marks
+        (book ++ entry w.ticket OfStop n h ∷ [])) (sym is)
+        (extend_kept number rooms last s places stops marks book b t i g stop.0 stop.1 stop.2 pt
+        place.0 place.2 room agreed pi pg place.1 w n h ticket to stops' placed same_room
+        (leads (s.last + 1)) (through (s.last + 1)) (λ x. leads_others (s.last + 1) x)
+        (own (s.last + 1)) (λ x. others (s.last + 1) x) (count (s.last + 1))))
 
-    pub extend_keeps_in : (s' : State) → KeepsItems k (record { state = s'; places = places; stops = stops'; marks = marks })
+    pub extend_keeps_in : (s' : State)
+        → KeepsItems k (record { state = s'; places = places; stops = stops'; marks = marks })
     extend_keeps_in s' =
-        subst (λ x. KeepsItems x (record { state = s'; places = places; stops = stops'; marks = marks })) view
-        (extend_keeps number rooms last s places stops marks book b t i g stop.0 stop.1 stop.2 pt place.0 place.2 room agreed pi pg place.1 w n h ticket to stops' placed same_room s')
+        subst (λ x. KeepsItems x
+        (record { state = s'; places = places; stops = stops'; marks = marks })) view
+        (extend_keeps number rooms last s places stops marks book b t i g stop.0 stop.1 stop.2 pt
+        place.0 place.2 room agreed pi pg place.1 w n h ticket to stops' placed same_room s')

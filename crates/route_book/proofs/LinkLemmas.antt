@@ -1,5 +1,8 @@
--- What a stop that a ticket names is in the arena of the stops, and what other interlinks make of what ties a store's parts.
-use Rattle.std.proofs.Common.{◌≡◌, ◌≢◌, ◌∙◌, sym, ap, subst, refl, Bool, true, false, ◌==◌, ◌||◌, nat_lt, ℕ, ◌+◌, ◌≤◌, List, length, Option, Some, None, IsSome, Result, Ok, Err, arith, cond, inl, inr}
+-- What a stop that a ticket names is in the arena of the stops, and what other interlinks make of
+-- what ties a store's parts.
+use Rattle.std.proofs.Common.{◌≡◌, ◌≢◌, ◌∙◌, sym, ap, subst, refl, Bool, true, false, ◌==◌, ◌||◌}
+use Rattle.std.proofs.Common.{nat_lt, ℕ, ◌+◌, ◌≤◌, List, length, Option, Some, None, IsSome, Result}
+use Rattle.std.proofs.Common.{Ok, Err, arith, cond, inl, inr}
 use Rattle.std.specs.Option.{option_map}
 use Rattle.std.proofs.lemmas.Bool.Decides.{eqb_tells}
 use Rattle.triple_arena.specs.Entries.{value_if}
@@ -7,14 +10,17 @@ use Rattle.triple_arena.specs.Content.{Content, entry_at, get}
 use Rattle.triple_arena_stack.specs.Room.{capacity}
 use Rattle.triple_arena_chain.specs.LinkShape.{IndexLink}
 use Rattle.triple_arena_chain.specs.Chains.{Ends}
-use Rattle.triple_arena_chain.specs.Links.{ends_in, ends_found, link_ends, values_in, valued, entry_ends, IsKept}
+use Rattle.triple_arena_chain.specs.Links.{ends_in, ends_found, link_ends, values_in, valued}
+use Rattle.triple_arena_chain.specs.Links.{entry_ends, IsKept}
 use Rattle.triple_arena_ord.specs.Ordered.{Ordered, entry_in}
 use Rattle.ticket_book.specs.declared.entry.Kind.{Kind as ItemKind}
-use Rattle.ticket_book.specs.declared.entry.Kind.TheVariants.{Place as OfPlace, Stop as OfStop, Mark as OfMark}
+use Rattle.ticket_book.specs.declared.entry.Kind.TheVariants.{Place as OfPlace, Stop as OfStop}
+use Rattle.ticket_book.specs.declared.entry.Kind.TheVariants.{Mark as OfMark}
 use Rattle.ticket_book.specs.Tickets.{Entry, lookup}
 use Rattle.route_lines.specs.Calls.{stop_holder}
 use Rattle.route_lines.specs.Routes.{next_stop}
-use Rattle.route_lines.specs.State.{State, Rooms, Place, Stop, Route, Mark, stop_list, place_of, stop_of, mark_of}
+use Rattle.route_lines.specs.State.{State, Rooms, Place, Stop, Route, Mark, stop_list, place_of}
+use Rattle.route_lines.specs.State.{stop_of, mark_of}
 use Rattle.route_lines.specs.declared.refusal.Refusal.{Refusal}
 use Rattle.route_lines.specs.declared.refusal.Refusal.TheVariants.{Unknown, Gone, Kind}
 use Rattle.route_book.specs.Follows.{LeadAs, AreDistinct}
@@ -30,14 +36,16 @@ module _ {I T : Type 0} (number : I → ℕ) (c : Content (IndexLink I T)) where
   pub live_ends : (i : ℕ) → IsSome (values_in c i) → IsSome (ends_in number c i)
   live_ends i = by (entry_at c i)
     where
-      by : (o : Option (ℕ × IndexLink I T)) → IsSome (option_map valued o) → IsSome (option_map (entry_ends number) o)
+      by : (o : Option (ℕ × IndexLink I T)) → IsSome (option_map valued o)
+          → IsSome (option_map (entry_ends number) o)
       by None some = some
       by (Some e) some = refl
 
   pub live_values : (i : ℕ) → IsSome (ends_in number c i) → IsSome (values_in c i)
   live_values i = by (entry_at c i)
     where
-      by : (o : Option (ℕ × IndexLink I T)) → IsSome (option_map (entry_ends number) o) → IsSome (option_map valued o)
+      by : (o : Option (ℕ × IndexLink I T)) → IsSome (option_map (entry_ends number) o)
+          → IsSome (option_map valued o)
       by None some = some
       by (Some e) some = refl
 
@@ -51,35 +59,47 @@ module _ {I T : Type 0} (number : I → ℕ) (c : Content (IndexLink I T)) where
   is_at i g v found = by (entry_at c i) refl
     where
       by : (o : Option (ℕ × IndexLink I T)) → entry_at c i ≡ o → IsAt i g v
-      by None none = absurd (let no : ◌≡◌ {A = Option T} None (Some v) = sym (ap (λ o. value_if g (option_map valued o)) none) ∙ found in cc)
+      by None none = absurd
+          (let no : ◌≡◌ {A = Option T} None (Some v) =
+          sym (ap (λ o. value_if g (option_map valued o)) none) ∙ found in cc)
       by (Some e) some = elim (eqb_tells e.0 g) [
         | inl own ↦
-            let value : value_if g (values_in c i) ≡ Some e.1.t = ap (λ o. value_if g (option_map valued o)) some ∙ rw own.0 refl in
+            let value : value_if g (values_in c i) ≡ Some e.1.t =
+            ap (λ o. value_if g (option_map valued o)) some ∙ rw own.0 refl in
             let same : e.1.t ≡ v = some_same (sym value ∙ found) in
             let there : get c i g ≡ Some e.1 = ap (value_if g) some ∙ rw own.0 refl in
             record {
-              here = ap (option_map valued) some ∙ ap (λ n. Some (n, e.1.t)) own.1 ∙ ap (λ x. Some (g, x)) same;
-              ends = ap (option_map (link_ends number)) there ∙ sym (ap (option_map (entry_ends number)) some);
+              here = ap (option_map valued) some ∙ ap (λ n. Some (n, e.1.t)) own.1
+                  ∙ ap (λ x. Some (g, x)) same;
+              ends = ap (option_map (link_ends number)) there
+                  ∙ sym (ap (option_map (entry_ends number)) some);
               live = subst IsSome (sym (ap (option_map (entry_ends number)) some)) refl;
             }
-        | inr other ↦ absurd (let none : value_if g (values_in c i) ≡ None = ap (λ o. value_if g (option_map valued o)) some ∙ rw other.0 refl in
+        | inr other ↦ absurd (let none : value_if g (values_in c i) ≡ None =
+            ap (λ o. value_if g (option_map valued o)) some ∙ rw other.0 refl in
             let no : ◌≡◌ {A = Option T} None (Some v) = sym none ∙ found in cc)
       ]
 
 -- ---- tickets
 
-module _ (s : State) (f : Found) (order : List Place) (ends : ℕ → Option Ends) (book : List Entry) (h : IsHeld s f order ends book) where
+module _ (s : State) (f : Found) (order : List Place) (ends : ℕ → Option Ends) (book : List Entry)
+    (h : IsHeld s f order ends book) where
   pub distinct : AreDistinct (λ (x : StopView). x.ticket) f.stops
   distinct i j g k v w here there same =
-      let one : Some (entry v.ticket OfStop i g) ≡ Some (entry w.ticket OfStop j k) = sym (h.stops_in i g v here) ∙ ap (lookup book) same ∙ h.stops_in j k w there in
+      let one : Some (entry v.ticket OfStop i g) ≡ Some (entry w.ticket OfStop j k) =
+      sym (h.stops_in i g v here) ∙ ap (lookup book) same ∙ h.stops_in j k w there in
       ap (λ (e : Entry). e.index) (some_same one)
 
   -- no stop has the next ticket
-  pub unknown : (v : StopView) → v.ticket ≡ s.last + 1 → (i g : ℕ) (w : StopView) → f.stops i ≡ Some (g, w) → w.ticket ≢ v.ticket
-  unknown v next i g w there same = let given = lookup_given book 0 s.last w.ticket (entry w.ticket OfStop i g) h.rise (h.stops_in i g w there) in let top = given.2 in omega (arith, top, same, next)
+  pub unknown : (v : StopView) → v.ticket ≡ s.last + 1 → (i g : ℕ) (w : StopView)
+      → f.stops i ≡ Some (g, w) → w.ticket ≢ v.ticket
+  unknown v next i g w there same = let given =
+      lookup_given book 0 s.last w.ticket (entry w.ticket OfStop i g) h.rise
+      (h.stops_in i g w there) in let top = given.2 in omega (arith, top, same, next)
 
   -- a stop of the state is at an index
-  pub stop_index : (t : ℕ) (x : Stop) → stop_of s.routes t ≡ Some x → (i : ℕ) × ((e : ℕ × StopView) × ((f.stops i ≡ Some e) × (e.1.ticket ≡ x.ticket)))
+  pub stop_index : (t : ℕ) (x : Stop) → stop_of s.routes t ≡ Some x
+      → (i : ℕ) × ((e : ℕ × StopView) × ((f.stops i ≡ Some e) × (e.1.ticket ≡ x.ticket)))
   stop_index t x is = by (lookup book t) refl
     where
       Indexed : Type 0
@@ -88,7 +108,8 @@ module _ (s : State) (f : Found) (order : List Place) (ends : ℕ → Option End
       no_stop : None ≡ Some x → Indexed
       no_stop never = absurd (let e : ◌≡◌ {A = Option Stop} None (Some x) = never in cc)
 
-      at_index : (i g : ℕ) (o : Option (ℕ × StopView)) → f.stops i ≡ o → option_map (state_stop f) (value_if g o) ≡ Some x → Indexed
+      at_index : (i g : ℕ) (o : Option (ℕ × StopView)) → f.stops i ≡ o
+          → option_map (state_stop f) (value_if g o) ≡ Some x → Indexed
       at_index i g None none under = no_stop under
       at_index i g (Some e) some under = go (e.0 == g) under
         where
@@ -103,20 +124,28 @@ module _ (s : State) (f : Found) (order : List Place) (ends : ℕ → Option End
 
       by : (o : Option Entry) → lookup book t ≡ o → Indexed
       by None none = no_stop (sym (h.stops t ∙ ap (stop_at f) none) ∙ is)
-      by (Some e) some = of_kind e.kind e.index e.generation (sym (h.stops t ∙ ap (stop_at f) some) ∙ is)
+      by (Some e) some = of_kind e.kind e.index e.generation
+          (sym (h.stops t ∙ ap (stop_at f) some) ∙ is)
 
 -- the stop that a ticket names has it
-pub held_stop : (s : State) (t : ℕ) (q : Stop) → stop_holder s t ≡ Ok q → stop_of s.routes t ≡ Some q
-held_stop s t q held = by ((t == 0) || nat_lt s.last t) refl (place_of s.places t) refl (stop_of s.routes t) refl (mark_of s.marks t) refl
+pub held_stop : (s : State) (t : ℕ) (q : Stop) → stop_holder s t ≡ Ok q
+    → stop_of s.routes t ≡ Some q
+held_stop s t q held =
+    by ((t == 0) || nat_lt s.last t) refl (place_of s.places t) refl (stop_of s.routes t) refl
+    (mark_of s.marks t) refl
   where
     no_ok : {e : Refusal} → stop_holder s t ≡ Err e → stop_of s.routes t ≡ Some q
-    no_ok err = absurd (let no : ◌≡◌ {A = Result Stop Refusal} (Ok q) (Err _) = sym held ∙ err in cc)
+    no_ok err = absurd (let no : ◌≡◌ {A = Result Stop Refusal} (Ok q) (Err _) = sym held
+        ∙ err in cc)
 
-    by : (a : Bool) → ((t == 0) || nat_lt s.last t) ≡ a → (b : Option Place) → place_of s.places t ≡ b → (c : Option Stop) → stop_of s.routes t ≡ c → (d : Option Mark) → mark_of s.marks t ≡ d
+    by : (a : Bool) → ((t == 0) || nat_lt s.last t) ≡ a → (b : Option Place)
+        → place_of s.places t ≡ b → (c : Option Stop) → stop_of s.routes t ≡ c → (d : Option Mark)
+        → mark_of s.marks t ≡ d
         → stop_of s.routes t ≡ Some q
     by true one b two c three d four = no_ok {e = Unknown} (rw one refl)
     by false one None two None three None four = no_ok {e = Gone} (rw (one, two, three, four) refl)
-    by false one None two None three (Some m) four = no_ok {e = Kind} (rw (one, two, three, four) refl)
+    by false one None two None three (Some m) four =
+        no_ok {e = Kind} (rw (one, two, three, four) refl)
     by false one (Some p) two c three d four = no_ok {e = Kind} (rw (one, two) refl)
     by false one None two (Some u) three d four =
         let there : stop_holder s t ≡ Ok u = rw (one, two, three) refl in
@@ -124,7 +153,8 @@ held_stop s t q held = by ((t == 0) || nat_lt s.last t) refl (place_of s.places 
         three ∙ ap Some (let is : u ≡ q = cc in is)
 
 pub held_ticket : (s : State) (t : ℕ) (q : Stop) → stop_holder s t ≡ Ok q → q.ticket ≡ t
-held_ticket s t q held = found_has (λ (x : Stop). x.ticket) t (stop_list s.routes) q (held_stop s t q held)
+held_ticket s t q held =
+    found_has (λ (x : Stop). x.ticket) t (stop_list s.routes) q (held_stop s t q held)
 
 -- ---- other interlinks of the same stops
 
@@ -132,16 +162,35 @@ held_ticket s t q held = found_has (λ (x : Stop). x.ticket) t (stop_list s.rout
 equal_if_alike : {T : Type 0} (at at' : ℕ → T) → ((k : ℕ) → at k ≡ at' k) → at ≡ at'
 equal_if_alike at at' same = λ i k. same k i
 
-module _ {I : Type 0} (number : I → ℕ) (rooms : Rooms) (last : ℕ) (s : State) (places : Ordered I Place) (stops stops' : Content (IndexLink I StopView)) (marks : Content MarkView)
-    (book : List Entry) (b : IsBook number rooms last s places stops marks book) (same : (k : ℕ) → values_in stops' k ≡ values_in stops k) (kept : IsKept stops stops') (routes : List Route) where
-  pub relinked_kept : ((k : ℕ) → stop_of routes k ≡ stop_of s.routes k) → length (stop_list routes) ≡ length (stop_list s.routes)
-      → LeadAs (λ (x : StopView). x.ticket) (values_in stops) (ends_in number stops') (next_stop routes)
+module _ {I : Type 0} (number : I → ℕ) (rooms : Rooms) (last : ℕ) (s : State)
+    (places : Ordered I Place) (stops stops' : Content (IndexLink I StopView))
+    (marks : Content MarkView)
+    (book : List Entry) (b : IsBook number rooms last s places stops marks book)
+    (same : (k : ℕ) → values_in stops' k ≡ values_in stops k) (kept : IsKept stops stops')
+    (routes : List Route) where
+  pub relinked_kept : ((k : ℕ) → stop_of routes k ≡ stop_of s.routes k)
+      → length (stop_list routes) ≡ length (stop_list s.routes)
+      → LeadAs (λ (x : StopView). x.ticket) (values_in stops) (ends_in number stops')
+      (next_stop routes)
       → IsBook number rooms last (record s { routes = routes }) places stops' marks book
   relinked_kept stay count lead = record {
-    held = subst (λ (c : ℕ). IsHeld now (record { places = entry_in places; stops = values_in stops'; marks = entry_at marks; place_counter = places.chains.counter; stop_counter = c })
+    held = subst (λ (c : ℕ). IsHeld now
+        (record {
+          places = entry_in places;
+          stops = values_in stops';
+          marks = entry_at marks;
+          place_counter = places.chains.counter;
+          stop_counter = c;
+        })
         (in_order number places) (ends_in number stops') book) (sym kept.counter)
         (subst (λ (at : ℕ → Option (ℕ × StopView)). IsHeld now
-        (record { places = entry_in places; stops = at; marks = entry_at marks; place_counter = places.chains.counter; stop_counter = stops.counter }) (in_order number places)
+        (record {
+          places = entry_in places;
+          stops = at;
+          marks = entry_at marks;
+          place_counter = places.chains.counter;
+          stop_counter = stops.counter;
+        }) (in_order number places)
         (ends_in number stops') book)
         (sym (equal_if_alike (values_in stops') (values_in stops) same)) held);
     places_rise = b.places_rise;
@@ -165,7 +214,8 @@ module _ {I : Type 0} (number : I → ℕ) (rooms : Rooms) (last : ℕ) (s : Sta
       now : State
       now = record s { routes = routes }
 
-      held : IsHeld now (found_in places stops marks) (in_order number places) (ends_in number stops') book
+      held : IsHeld now (found_in places stops marks) (in_order number places)
+          (ends_in number stops') book
       held = record {
         rise = b.held.rise;
         filled = b.held.filled;
@@ -185,9 +235,11 @@ module _ {I : Type 0} (number : I → ℕ) (rooms : Rooms) (last : ℕ) (s : Sta
       }
 
 -- each item keeps its pointer where interlinks change
-pub kept_links : {I : Type 0} (s s' : State) (places : Ordered I Place) (stops stops' : Content (IndexLink I StopView)) (marks : Content MarkView)
+pub kept_links : {I : Type 0} (s s' : State) (places : Ordered I Place)
+    (stops stops' : Content (IndexLink I StopView)) (marks : Content MarkView)
     → ((k : ℕ) → values_in stops' k ≡ values_in stops k) → IsKept stops stops'
-    → KeepsItems {I = I} (record { state = s; places = places; stops = stops; marks = marks }) (record { state = s'; places = places; stops = stops'; marks = marks })
+    → KeepsItems {I = I} (record { state = s; places = places; stops = stops; marks = marks })
+    (record { state = s'; places = places; stops = stops'; marks = marks })
 kept_links s s' places stops stops' marks same kept = record {
   places = λ j n p is. (p, (is, (refl, refl)));
   stops = λ j n u is. same j ∙ is;

@@ -1,11 +1,13 @@
 -- How many looks a line makes at most.
-use Rattle.std.proofs.Common.{◌≡◌, refl, ℕ, ◌+◌, Bool, true, false, Option, Some, None, Result, Ok, Err, arith}
+use Rattle.std.proofs.Common.{◌≡◌, refl, ℕ, ◌+◌, Bool, true, false, Option, Some, None, Result, Ok}
+use Rattle.std.proofs.Common.{Err, arith}
 use Rattle.ticket_book.specs.declared.entry.Kind.{Kind}
 use Rattle.route_lines.specs.Searches.{LooksWithin, most_looks, references_in}
 use Rattle.route_lines.specs.State.{Item, holder}
 use Rattle.route_lines.specs.declared.command.Command.{Command}
 use Rattle.route_lines.specs.declared.command.Command.TheVariants.{Place, Word, Show, Find, Floor}
-use Rattle.route_lines.specs.declared.command.Command.TheVariants.{After, Before, All, Start, Extend}
+use Rattle.route_lines.specs.declared.command.Command.TheVariants.{After, Before, All, Start}
+use Rattle.route_lines.specs.declared.command.Command.TheVariants.{Extend}
 use Rattle.route_lines.specs.declared.command.Command.TheVariants.{Join, Cut, Swap, Walk, Mark}
 use Rattle.route_lines.specs.declared.command.Command.TheVariants.{Remove, Pack}
 use Rattle.route_lines.specs.declared.refusal.Refusal.{Refusal}
@@ -30,7 +32,8 @@ module _ {I : Type 0} (number : I → ℕ) (last : Option ℕ) (before after : �
       no_look before after _ ended.0
   removal kind t true is h =
       let ended : (packed : Book I) × ((packed.state ≡ old.state)
-      × (IsPacked number last before after old packed × IsEnded last kind t packed new)) = rw is at h in
+      × (IsPacked number last before after old packed × IsEnded last kind t packed new)) =
+      rw is at h in
       let pack = ended.1.1.0 in
       so_many before after _ pack.looks
 

@@ -1,7 +1,9 @@
 -- A store in other arenas: what ties its parts, if each item has the index that it had. What a
 -- pack proves by its mirrors is proved here by mirrors that no code has: each leads from a pointer
 -- to the same index under another generation.
-use Rattle.std.proofs.Common.{◌≡◌, ◌≢◌, ◌↔◌, ◌∙◌, sym, ap, subst, refl, ℕ, suc, ◌≤◌, List, [], ◌∷◌, length, map, Option, Some, None, IsSome, is_some, min, unwrap_or, arith}
+use Rattle.std.proofs.Common.{◌≡◌, ◌≢◌, ◌↔◌, ◌∙◌, sym, ap, subst, refl, ℕ, suc, ◌≤◌, List, [], ◌∷◌}
+use Rattle.std.proofs.Common.{length, map, Option, Some, None, IsSome, is_some, min, unwrap_or}
+use Rattle.std.proofs.Common.{arith}
 use Rattle.std.specs.List.{range_with_len}
 use Rattle.std.specs.Option.{option_map}
 use Rattle.std.proofs.Math.Nat.{min-eq_right}
@@ -14,7 +16,8 @@ use Rattle.triple_arena_chain.specs.Chains.{Ends, next_at}
 use Rattle.triple_arena_chain.specs.Links.{ends_in, values_in}
 use Rattle.triple_arena_ord.specs.Ordered.{Ordered, entry_in, order_in, size_in}
 use Rattle.ticket_book.specs.declared.entry.Kind.{Kind}
-use Rattle.ticket_book.specs.declared.entry.Kind.TheVariants.{Place as OfPlace, Stop as OfStop, Mark as OfMark}
+use Rattle.ticket_book.specs.declared.entry.Kind.TheVariants.{Place as OfPlace, Stop as OfStop}
+use Rattle.ticket_book.specs.declared.entry.Kind.TheVariants.{Mark as OfMark}
 use Rattle.ticket_book.specs.Mirrors.{Mirror, renewed_entry, renewed_pointer, renewed_under}
 use Rattle.ticket_book.specs.Moving.{entry_over}
 use Rattle.ticket_book.specs.Tickets.{Entry, lookup}

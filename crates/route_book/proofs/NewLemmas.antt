@@ -1,5 +1,6 @@
 -- A store with nothing in it.
-use Rattle.std.proofs.Common.{◌≡◌, ◌∙◌, sym, ap, refl, ℕ, zero, suc, ◌≤◌, List, [], ◌∷◌, length, Option, Some, None, arith}
+use Rattle.std.proofs.Common.{◌≡◌, ◌∙◌, sym, ap, refl, ℕ, zero, suc, ◌≤◌, List, [], ◌∷◌, length}
+use Rattle.std.proofs.Common.{Option, Some, None, arith}
 use Rattle.std.specs.Option.{option_map}
 use Rattle.triple_arena_stack.specs.Room.{Room}
 use Rattle.triple_arena.specs.Content.{Content, entry_at, live_count, arena_capacity, empty}
@@ -14,22 +15,30 @@ use Rattle.route_lines.specs.State as state
 use Rattle.route_book.specs.Book.{IsBook}
 use Rattle.route_book.proofs.KeyLemmas.{along}
 
-nothing_at : (T : Type 0) (counter : ℕ) (room : Room) (i : ℕ) → entry_at {T = T} (empty counter room) i ≡ None
+nothing_at : (T : Type 0) (counter : ℕ) (room : Room) (i : ℕ)
+    → entry_at {T = T} (empty counter room) i ≡ None
 nothing_at T counter room zero = refl
 nothing_at T counter room (suc k) = refl
 
-no_entry : {T : Type 0} (c : Content T) (counter : ℕ) (room : Room) → c ≡ empty counter room → (i : ℕ) → entry_at c i ≡ None
+no_entry : {T : Type 0} (c : Content T) (counter : ℕ) (room : Room) → c ≡ empty counter room
+    → (i : ℕ) → entry_at c i ≡ None
 no_entry {T} c counter room is i = ap (λ d. entry_at d i) is ∙ nothing_at T counter room i
 
 no_items : (xs : List ℕ) → length xs ≡ 0 → xs ≡ []
 no_items [] is = refl
 no_items (x ∷ xs) is = absurd (omega (arith, is))
 
-module _ {I : Type 0} (number : I → ℕ) (rooms : Rooms) (last : ℕ) (places : Ordered I Place) (stops : Content (IndexLink I StopView)) (marks : Content MarkView)
-    (p q r : ℕ) (pr qr rr : Room) (no_places : places.chains ≡ empty p pr) (no_stops : stops ≡ empty q qr) (no_marks : marks ≡ empty r rr) (ordered : IsOrdered number places)
-    (place_room : rooms.places ≤ arena_capacity places.chains) (stop_room : rooms.stops ≤ arena_capacity stops) (mark_room : rooms.marks ≤ arena_capacity marks) where
+module _ {I : Type 0} (number : I → ℕ) (rooms : Rooms) (last : ℕ) (places : Ordered I Place)
+    (stops : Content (IndexLink I StopView)) (marks : Content MarkView)
+    (p q r : ℕ) (pr qr rr : Room) (no_places : places.chains ≡ empty p pr)
+    (no_stops : stops ≡ empty q qr) (no_marks : marks ≡ empty r rr)
+    (ordered : IsOrdered number places)
+    (place_room : rooms.places ≤ arena_capacity places.chains)
+    (stop_room : rooms.stops ≤ arena_capacity stops)
+    (mark_room : rooms.marks ≤ arena_capacity marks) where
   none_placed : (i : ℕ) → entry_in places i ≡ None
-  none_placed i = ap (λ o. option_map itemed (option_map valued o)) (no_entry places.chains p pr no_places i)
+  none_placed i = ap (λ o. option_map itemed (option_map valued o))
+      (no_entry places.chains p pr no_places i)
 
   none_stopped : (i : ℕ) → values_in stops i ≡ None
   none_stopped i = ap (option_map valued) (no_entry stops q qr no_stops i)
@@ -77,5 +86,6 @@ module _ {I : Type 0} (number : I → ℕ) (rooms : Rooms) (last : ℕ) (places 
     };
     last_is = refl;
     marks_differ = tt;
-    entries = (let a = ap live_count no_places in let b = ap live_count no_stops in let c = ap live_count no_marks in omega (arith, a, b, c));
+    entries = (let a = ap live_count no_places in let b = ap live_count no_stops in let c =
+        ap live_count no_marks in omega (arith, a, b, c));
   }

@@ -1,12 +1,15 @@
 -- What the transfers of packed arenas went along, and where the links of the stops lead then.
-use Rattle.std.proofs.Common.{◌≡◌, ◌≢◌, ◌↔◌, ◌∙◌, sym, ap, subst, refl, ℕ, zero, suc, ◌+◌, ◌-◌, ◌<◌, ◌≤◌, inl, inr, List, [], ◌∷◌, ◌++◌, length, map, slice_get, slice_index, Option, Some, None, IsSome, arith}
+use Rattle.std.proofs.Common.{◌≡◌, ◌≢◌, ◌↔◌, ◌∙◌, sym, ap, subst, refl, ℕ, zero, suc, ◌+◌, ◌-◌, ◌<◌}
+use Rattle.std.proofs.Common.{◌≤◌, inl, inr, List, [], ◌∷◌, ◌++◌, length, map, slice_get}
+use Rattle.std.proofs.Common.{slice_index, Option, Some, None, IsSome, arith}
 use Rattle.std.specs.List.{range_with_len}
 use Rattle.std.specs.Option.{option_map}
 use Rattle.std.proofs.lemmas.Bool.Decides.{eqb_tells}
 use Rattle.triple_arena.specs.Compression.{index_of}
 use Rattle.triple_arena.specs.Content.{Content, entry_at, live_count}
 use Rattle.triple_arena.specs.Entries.{look_up}
-use Rattle.triple_arena.specs.LiveEntries.{live_entries, entry-listed, live_entries-increase, live_entries-length}
+use Rattle.triple_arena.specs.LiveEntries.{live_entries, entry-listed, live_entries-increase}
+use Rattle.triple_arena.specs.LiveEntries.{live_entries-length}
 use Rattle.triple_arena_chain.specs.LinkShape.{IndexLink}
 use Rattle.triple_arena_chain.specs.AllChainsLaws.{all_live}
 use Rattle.triple_arena_chain.specs.CanonicalLayout.{IsLaidOut}
@@ -14,16 +17,19 @@ use Rattle.triple_arena_chain.specs.CanonicalTransfer.{AreRising, IsMovedAlong}
 use Rattle.triple_arena_chain.specs.CanonicalTransferLaws.{in_order_once}
 use Rattle.triple_arena_chain.specs.Chains.{Ends, On, IsAgreed, first_or, next_at, next_in}
 use Rattle.triple_arena_chain.specs.Links.{ends_in, values_in, entry_ends}
-use Rattle.triple_arena_chain.specs.Lists.{Chain, Linear, Cyclic, members, all_members, IsWritten, AreAllChainsOf}
+use Rattle.triple_arena_chain.specs.Lists.{Chain, Linear, Cyclic, members, all_members, IsWritten}
+use Rattle.triple_arena_chain.specs.Lists.{AreAllChainsOf}
 use Rattle.triple_arena_chain.specs.ListLaws.{On-first, live_on, live_prev_in}
 use Rattle.triple_arena_chain.specs.Renaming.{ends_renamed}
 use Rattle.triple_arena_ord.specs.Ascending.{entries_along}
 use Rattle.triple_arena_ord.specs.Node.{itemed}
 use Rattle.triple_arena_ord.specs.NodeShape.{IndexNode}
-use Rattle.triple_arena_ord.specs.Ordered.{Ordered, IsOrdered, entry_in, order_in, ordered_entries, size_in}
+use Rattle.triple_arena_ord.specs.Ordered.{Ordered, IsOrdered, entry_in, order_in, ordered_entries}
+use Rattle.triple_arena_ord.specs.Ordered.{size_in}
 use Rattle.route_book.proofs.LinkLemmas.{live_ends, live_values}
-use Rattle.route_book.proofs.TransferLemmas.{along_index, beside, fixed_run, links_same, listed_index, on_run, run_on, split_run}
-use Rattle.route_book.proofs.PassedLemmas.{rise_from}
+use Rattle.route_book.proofs.TransferLemmas.{along_index, beside, fixed_run, links_same}
+use Rattle.route_book.proofs.TransferLemmas.{listed_index, on_run, run_on, split_run}
+use Rattle.triple_arena.specs.RiseLaws.{rise_from}
 
 -- ---- an ordered arena whose list is the indexes from 1 on
 

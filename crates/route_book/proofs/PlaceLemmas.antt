@@ -1,5 +1,7 @@
 -- What `place` makes of what ties a store's parts.
-use Rattle.std.proofs.Common.{◌≡◌, ◌∙◌, sym, ap, subst, refl, Bool, true, false, ◌||◌, if◌then◌else◌, nat_lt, ℕ, ◌+◌, ◌<◌, ◌≤◌, List, [], ◌∷◌, ◌++◌, length, Option, Some, None, IsSome, Ok, Err, arith, length-append, inl, inr}
+use Rattle.std.proofs.Common.{◌≡◌, ◌∙◌, sym, ap, subst, refl, Bool, true, false, ◌||◌}
+use Rattle.std.proofs.Common.{if◌then◌else◌, nat_lt, ℕ, ◌+◌, ◌<◌, ◌≤◌, List, [], ◌∷◌, ◌++◌, length}
+use Rattle.std.proofs.Common.{Option, Some, None, IsSome, Ok, Err, arith, length-append, inl, inr}
 use Rattle.std.specs.Option.{option_map}
 use Rattle.std.proofs.lemmas.Bool.{false≢true, leb-false}
 use Rattle.std.proofs.lemmas.Bool.Decides.{eqb_tells}
@@ -12,7 +14,8 @@ use Rattle.triple_arena_ord.specs.Inserted.{IsAdded, IsReplaced}
 use Rattle.triple_arena_ord.specs.Ordered.{Ordered, entry_in, order_in, size_in}
 use Rattle.ticket_book.specs.declared.entry.Kind.TheVariants.{Place as OfPlace}
 use Rattle.ticket_book.specs.Tickets.{Entry}
-use Rattle.route_lines.specs.Calls.{put, reworded, place_holder, placed, after_place, worded, after_word}
+use Rattle.route_lines.specs.Calls.{put, reworded, place_holder, placed, after_place, worded}
+use Rattle.route_lines.specs.Calls.{after_word}
 use Rattle.route_lines.specs.Sound.{IsSound}
 use Rattle.route_lines.specs.State.{State, Rooms, Place, is_full_of_places}
 use Rattle.route_lines.specs.declared.refusal.Refusal.TheVariants.{Full}
@@ -22,7 +25,8 @@ use Rattle.route_book.specs.Book.{Book, found_in, in_order, IsBook, KeepsItems}
 use Rattle.route_book.proofs.HoldLemmas.{lookup_given, place_added}
 use Rattle.route_book.proofs.KeyLemmas.{along}
 use Rattle.route_book.proofs.NeighborLemmas.{held_place}
-use Rattle.route_book.proofs.RewordLemmas.{reword_entry, length-reworded, along_reworded, as_reworded, place_reworded}
+use Rattle.route_book.proofs.RewordLemmas.{reword_entry, length-reworded, along_reworded}
+use Rattle.route_book.proofs.RewordLemmas.{as_reworded, place_reworded}
 use Rattle.route_book.proofs.OptionLemmas.{found_has, some_same, none_new, one_new, replaced_new}
 
 -- ---- lists
@@ -31,7 +35,8 @@ length_put : (p : Place) (ps : List Place) → length (put p ps) ≡ length ps +
 length_put p [] = refl
 length_put p (q ∷ ps) = by (nat_lt p.key q.key) (length_put p ps)
   where
-    by : (b : Bool) → length (put p ps) ≡ length ps + 1 → length (if b then p ∷ q ∷ ps else q ∷ put p ps) ≡ length (q ∷ ps) + 1
+    by : (b : Bool) → length (put p ps) ≡ length ps + 1
+        → length (if b then p ∷ q ∷ ps else q ∷ put p ps) ≡ length (q ∷ ps) + 1
     by true rest = omega arith
     by false rest = omega (arith, rest)
 
@@ -44,127 +49,181 @@ pub not_full : (s : State) → is_full_of_places s ≡ false → length s.places
 not_full s is = leb-false s.rooms.places (length s.places) (left_false _ _ is)
 
 -- each place has a ticket that was given
-pub ticket_given : (s : State) (f : Found) (order : List Place) (ends : ℕ → Option Ends) (book : List Entry) → IsHeld s f order ends book → (i g : ℕ) (q : Place) → f.places i ≡ Some (g, q)
+pub ticket_given : (s : State) (f : Found) (order : List Place) (ends : ℕ → Option Ends)
+    (book : List Entry) → IsHeld s f order ends book → (i g : ℕ) (q : Place)
+    → f.places i ≡ Some (g, q)
     → q.ticket < s.last + 1
-ticket_given s f order ends book h i g q is = let given = lookup_given book 0 s.last q.ticket _ h.rise (h.places_in i g q is) in omega (arith, given.2)
+ticket_given s f order ends book h i g q is = let given =
+    lookup_given book 0 s.last q.ticket _ h.rise (h.places_in i g q is) in omega (arith, given.2)
 
 -- ---- what `place` answers
 
 module _ (s : State) (key : ℕ) (word : List ℕ) where
-  pub placed_full : is_full_of_places s ≡ true → (placed s ≡ Err Full) × (after_place s key word ≡ s)
+  pub placed_full : is_full_of_places s ≡ true
+      → (placed s ≡ Err Full) × (after_place s key word ≡ s)
   placed_full full = (rw full refl, rw full refl)
 
   pub placed_new : is_full_of_places s ≡ false
-      → (placed s ≡ Ok (s.last + 1)) × (after_place s key word ≡ record s { last = s.last + 1; places = put (record { ticket = s.last + 1; key = key; word = word }) s.places })
+      → (placed s ≡ Ok (s.last + 1))
+      × (after_place s key word
+      ≡ record s {
+        last = s.last + 1;
+        places = put (record { ticket = s.last + 1; key = key; word = word }) s.places;
+      })
   placed_new free = (rw free refl, rw free refl)
 
 -- what `word` answers
 module _ (s : State) (t : ℕ) (word : List ℕ) (p : Place) (held : place_holder s t ≡ Ok p) where
-  pub worded_is : (worded s t ≡ Ok p.word) × (after_word s t word ≡ record s { places = reworded t word s.places })
+  pub worded_is : (worded s t ≡ Ok p.word)
+      × (after_word s t word ≡ record s { places = reworded t word s.places })
   worded_is = (rw held refl, rw held refl)
 
 -- ---- what it leaves
 
-module _ {I : Type 0} (number : I → ℕ) (rooms : Rooms) (last : ℕ) (s : State) (places places' : Ordered I Place) (stops : Content (IndexLink I StopView)) (marks : Content MarkView)
+module _ {I : Type 0} (number : I → ℕ) (rooms : Rooms) (last : ℕ) (s : State)
+    (places places' : Ordered I Place) (stops : Content (IndexLink I StopView))
+    (marks : Content MarkView)
     (book : List Entry) (b : IsBook number rooms last s places stops marks book) where
   -- a new place
-  module _ (p : Place) (ticket : p.ticket ≡ last + 1) (sound : IsSound (after_place s p.key p.word)) (free : is_full_of_places s ≡ false)
-      (i g : ℕ) (added : IsAdded number i g p places places') (order : in_order number places' ≡ put p (in_order number places))
-      (same_room : places'.chains.room ≡ places.chains.room) (same_counter : places'.chains.counter ≡ places.chains.counter) where
+  module _ (p : Place) (ticket : p.ticket ≡ last + 1) (sound : IsSound (after_place s p.key p.word))
+      (free : is_full_of_places s ≡ false)
+      (i g : ℕ) (added : IsAdded number i g p places places')
+      (order : in_order number places' ≡ put p (in_order number places))
+      (same_room : places'.chains.room ≡ places.chains.room)
+      (same_counter : places'.chains.counter ≡ places.chains.counter) where
     abbrev now : State
     now = record s { last = s.last + 1; places = put p s.places }
 
     own : p ≡ record { ticket = s.last + 1; key = p.key; word = p.word }
-    own = ap (λ n. record { ticket = n; key = p.key; word = p.word }) (ticket ∙ ap (λ n. n + 1) (sym b.last_is))
+    own = ap (λ n. record { ticket = n; key = p.key; word = p.word })
+        (ticket ∙ ap (λ n. n + 1) (sym b.last_is))
 
     after_is : now ≡ after_place s p.key p.word
-    after_is = ap (λ q. record s { last = s.last + 1; places = put q s.places }) own ∙ sym (placed_new s p.key p.word free).1
+    after_is = ap (λ q. record s { last = s.last + 1; places = put q s.places }) own
+        ∙ sym (placed_new s p.key p.word free).1
 
-    pub place_kept : IsBook number rooms (last + 1) (after_place s p.key p.word) places' stops marks (book ++ entry p.ticket OfPlace i g ∷ [])
-    place_kept = subst (λ z. IsBook number rooms (last + 1) z places' stops marks (book ++ entry p.ticket OfPlace i g ∷ [])) after_is (record {
-      held = subst (λ c. IsHeld now (record { places = entry_in places'; stops = values_in stops; marks = entry_at marks; place_counter = c; stop_counter = stops.counter })
-          (in_order number places') (ends_in number stops) (book ++ entry p.ticket OfPlace i g ∷ [])) (sym same_counter)
-          (place_added s (found_in places stops marks) (in_order number places) (in_order number places') (ends_in number stops) book b.held p i g (entry_in places')
-          added.vacant added.entries (ticket ∙ ap (λ n. n + 1) (sym b.last_is)) added.generation order);
-      places_rise = (subst IsSound (sym after_is) sound).order;
-      within = record {
-        rooms_are = b.within.rooms_are;
-        place_count = (let n = b.within.place_count in let l = added.size in let m = length_put p s.places in omega (arith, n, l, m));
-        stop_count = b.within.stop_count;
-        mark_count = b.within.mark_count;
-        places_fit = (let n = b.within.place_count in let l = added.size in let r = ap (λ (r : Rooms). r.places) b.within.rooms_are in let less = not_full s free in omega (arith, less, l, n, r));
-        stops_fit = b.within.stops_fit;
-        marks_fit = b.within.marks_fit;
-        place_room = subst (λ r. rooms.places ≤ capacity r) (sym same_room) b.within.place_room;
-        stop_room = b.within.stop_room;
-        mark_room = b.within.mark_room;
-      };
-      last_is = ap (λ n. n + 1) b.last_is;
-      entries = (let a = length-append book (entry p.ticket OfPlace i g ∷ []) in let n = b.entries in let l = added.size in omega (arith, a, n, l));
-      marks_differ = b.marks_differ;
-    })
+    pub place_kept : IsBook number rooms (last + 1) (after_place s p.key p.word) places' stops marks
+        (book ++ entry p.ticket OfPlace i g ∷ [])
+    place_kept = subst (λ z. IsBook number rooms (last + 1) z places' stops marks
+        (book ++ entry p.ticket OfPlace i g ∷ [])) after_is (record {
+          held = subst (λ c. IsHeld now
+              (record {
+                places = entry_in places';
+                stops = values_in stops;
+                marks = entry_at marks;
+                place_counter = c;
+                stop_counter = stops.counter;
+              })
+              (in_order number places') (ends_in number stops)
+              (book ++ entry p.ticket OfPlace i g ∷ [])) (sym same_counter)
+              (place_added s (found_in places stops marks) (in_order number places)
+              (in_order number places') (ends_in number stops) book b.held p i g (entry_in places')
+              added.vacant added.entries (ticket ∙ ap (λ n. n + 1) (sym b.last_is)) added.generation
+              order);
+          places_rise = (subst IsSound (sym after_is) sound).order;
+          within = record {
+            rooms_are = b.within.rooms_are;
+            place_count = (let n = b.within.place_count in let l = added.size in let m =
+                length_put p s.places in omega (arith, n, l, m));
+            stop_count = b.within.stop_count;
+            mark_count = b.within.mark_count;
+            places_fit = (let n = b.within.place_count in let l = added.size in let r =
+                ap (λ (r : Rooms). r.places) b.within.rooms_are in let less = not_full s free in
+                omega (arith, less, l, n, r));
+            stops_fit = b.within.stops_fit;
+            marks_fit = b.within.marks_fit;
+            place_room = subst (λ r. rooms.places ≤ capacity r) (sym same_room) b.within.place_room;
+            stop_room = b.within.stop_room;
+            mark_room = b.within.mark_room;
+          };
+          last_is = ap (λ n. n + 1) b.last_is;
+          entries = (let a = length-append book (entry p.ticket OfPlace i g ∷ []) in let n =
+              b.entries in let l = added.size in omega (arith, a, n, l));
+          marks_differ = b.marks_differ;
+        })
 
   -- another word for a place
-  module _ (p : Place) (t : ℕ) (word : List ℕ) (held : place_holder s t ≡ Ok p) (sound : IsSound (after_word s t word)) (i g : ℕ) (replaced : IsReplaced number i g (record p { word = word }) p places places') where
+  module _ (p : Place) (t : ℕ) (word : List ℕ) (held : place_holder s t ≡ Ok p)
+      (sound : IsSound (after_word s t word)) (i g : ℕ)
+      (replaced : IsReplaced number i g (record p { word = word }) p places places') where
     pub reword_kept : IsBook number rooms last (after_word s t word) places' stops marks book
     reword_kept =
         let same = found_has (λ (q : Place). q.ticket) t s.places p (held_place s t p held) in
-        let at : (k : ℕ) → entry_in places' k ≡ option_map (reword_entry p.ticket word) (entry_in places k) =
-        as_reworded s (found_in places stops marks) (in_order number places) (in_order number places') (ends_in number stops) book b.held p i g word (entry_in places') replaced.was
+        let at : (k : ℕ) → entry_in places' k
+        ≡ option_map (reword_entry p.ticket word) (entry_in places k) =
+        as_reworded s (found_in places stops marks) (in_order number places)
+        (in_order number places') (ends_in number stops) book b.held p i g word
+        (entry_in places') replaced.was
         replaced.entries in
         let order : in_order number places' ≡ reworded p.ticket word (in_order number places) =
-        ap (along (entry_in places')) replaced.order ∙ along_reworded p.ticket word (entry_in places) (entry_in places') at (order_in number places) in
+        ap (along (entry_in places')) replaced.order
+        ∙ along_reworded p.ticket word (entry_in places) (entry_in places') at
+        (order_in number places) in
         let after : record s { places = reworded p.ticket word s.places } ≡ after_word s t word =
-        ap (λ k. record s { places = reworded k word s.places }) same ∙ sym (worded_is s t word p held).1 in
+        ap (λ k. record s { places = reworded k word s.places }) same
+        ∙ sym (worded_is s t word p held).1 in
         subst (λ z. IsBook number rooms last z places' stops marks book) after (record {
-          held = subst (λ c. IsHeld (record s { places = reworded p.ticket word s.places }) (record
-              { places = entry_in places'; stops = values_in stops; marks = entry_at marks; place_counter = c; stop_counter = stops.counter })
+          held = subst (λ c. IsHeld (record s { places = reworded p.ticket word s.places })
+              (record {
+                places = entry_in places';
+                stops = values_in stops;
+                marks = entry_at marks;
+                place_counter = c;
+                stop_counter = stops.counter;
+              })
               (in_order number places') (ends_in number stops) book) (sym replaced.kept.counter)
-              (place_reworded s (found_in places stops marks) (in_order number places) (in_order number places') (ends_in number stops) book b.held p i g word (entry_in places')
+              (place_reworded s (found_in places stops marks) (in_order number places)
+              (in_order number places') (ends_in number stops) book b.held p i g word
+              (entry_in places')
               replaced.was replaced.entries order);
           places_rise = (subst IsSound (sym after) sound).order;
           within = record {
             rooms_are = b.within.rooms_are;
-            place_count = length-reworded p.ticket word s.places ∙ b.within.place_count ∙ sym replaced.kept.live;
+            place_count = length-reworded p.ticket word s.places ∙ b.within.place_count
+                ∙ sym replaced.kept.live;
             stop_count = b.within.stop_count;
             mark_count = b.within.mark_count;
             places_fit = subst (λ n. n ≤ rooms.places) (sym replaced.kept.live) b.within.places_fit;
             stops_fit = b.within.stops_fit;
             marks_fit = b.within.marks_fit;
-            place_room = subst (λ r. rooms.places ≤ capacity r) (sym replaced.kept.room) b.within.place_room;
+            place_room = subst (λ r. rooms.places ≤ capacity r) (sym replaced.kept.room)
+                b.within.place_room;
             stop_room = b.within.stop_room;
             mark_room = b.within.mark_room;
           };
           last_is = b.last_is;
-          entries = b.entries ∙ ap (λ n. n + live_count stops + live_count marks) (sym replaced.kept.live);
+          entries = b.entries ∙ ap (λ n. n + live_count stops + live_count marks)
+              (sym replaced.kept.live);
           marks_differ = b.marks_differ;
         })
 
 -- the ticket book has room for one more where no room was full
-module _ {I : Type 0} (number : I → ℕ) (rooms : Rooms) (last : ℕ) (s : State) (places : Ordered I Place) (stops : Content (IndexLink I StopView)) (marks : Content MarkView)
-    (book : List Entry) (b : IsBook number rooms last s places stops marks book) (capacity : ℕ) (fits : rooms.places + rooms.stops + rooms.marks ≤ capacity) where
+module _ {I : Type 0} (number : I → ℕ) (rooms : Rooms) (last : ℕ) (s : State)
+    (places : Ordered I Place) (stops : Content (IndexLink I StopView)) (marks : Content MarkView)
+    (book : List Entry) (b : IsBook number rooms last s places stops marks book) (capacity : ℕ)
+    (fits : rooms.places + rooms.stops + rooms.marks ≤ capacity) where
   pub room_for_place : is_full_of_places s ≡ false → length book < capacity
   room_for_place free =
-      let less = not_full s free in let r = ap (λ (r : Rooms). r.places) b.within.rooms_are in let n = b.within.place_count in
+      let less = not_full s free in let r = ap (λ (r : Rooms). r.places) b.within.rooms_are in
+      let n = b.within.place_count in
       let e = b.entries in let t = b.within.stops_fit in let m = b.within.marks_fit in
       omega (arith, less, r, n, e, t, m, fits)
 
   -- and its arena has
   pub arena_room : is_full_of_places s ≡ false → size_in places < arena_capacity places.chains
   arena_room free =
-      let less = not_full s free in let r = ap (λ (r : Rooms). r.places) b.within.rooms_are in let n = b.within.place_count in let room = b.within.place_room in
+      let less = not_full s free in let r = ap (λ (r : Rooms). r.places) b.within.rooms_are in
+      let n = b.within.place_count in let room = b.within.place_room in
       omega (arith, less, r, n, room)
 
 some_of : {T : Type 0} (o : Option T) → IsSome o → (x : T) × (o ≡ Some x)
 some_of None is = absurd (let no : false ≡ true = is in false≢true no)
 some_of (Some x) is = (x, refl)
 
-pub the_place : (o r : Option Place) → IsSome o → o ≡ r → (p : Place) × ((o ≡ Some p) × (r ≡ Some p))
-the_place o r is same = let x = some_of o is in (x.0, (x.1, sym same ∙ x.1))
-
 -- ---- what stays
 
-module _ {I : Type 0} (s s' : State) (places places' : Ordered I Place) (stops : Content (IndexLink I StopView)) (marks : Content MarkView) (number : I → ℕ) where
+module _ {I : Type 0} (s s' : State) (places places' : Ordered I Place)
+    (stops : Content (IndexLink I StopView)) (marks : Content MarkView) (number : I → ℕ) where
   abbrev old : Book I
   old = record { state = s; places = places; stops = stops; marks = marks }
 
@@ -178,7 +237,8 @@ module _ {I : Type 0} (s s' : State) (places places' : Ordered I Place) (stops :
     places = λ j n q is. (q, (stays j n q is, (refl, refl)));
     stops = λ j n v is. is;
     marks = λ j n v is. is;
-    new_places = one_new places.chains.counter (entry_in places) (entry_in places') i g p added.entries added.generation;
+    new_places = one_new places.chains.counter (entry_in places) (entry_in places') i g p
+        added.entries added.generation;
     new_stops = none_new _ _ _ (λ k. refl);
     new_marks = none_new _ _ _ (λ k. refl);
     place_counter = counter;
@@ -187,18 +247,22 @@ module _ {I : Type 0} (s s' : State) (places places' : Ordered I Place) (stops :
     rooms = record { places = room; stops = refl; marks = refl };
   }
     where
-      stays : (j n : ℕ) (q : Place) → entry_in places j ≡ Some (n, q) → entry_in places' j ≡ Some (n, q)
+      stays : (j n : ℕ) (q : Place) → entry_in places j ≡ Some (n, q)
+          → entry_in places' j ≡ Some (n, q)
       stays j n q is = elim (eqb_tells j i) [
-        | inl same ↦ absurd (let no : ◌≡◌ {A = Option (ℕ × Place)} None (Some (n, q)) = sym added.vacant ∙ sym (ap (entry_in places) same.1) ∙ is in cc)
+        | inl same ↦ absurd (let no : ◌≡◌ {A = Option (ℕ × Place)} None (Some (n, q)) =
+            sym added.vacant ∙ sym (ap (entry_in places) same.1) ∙ is in cc)
         | inr other ↦ added.entries j ∙ rw other.0 is
       ]
 
-  pub kept_reworded : (p : Place) (word : List ℕ) (i g : ℕ) → IsReplaced number i g (record p { word = word }) p places places' → KeepsItems old new
+  pub kept_reworded : (p : Place) (word : List ℕ) (i g : ℕ)
+      → IsReplaced number i g (record p { word = word }) p places places' → KeepsItems old new
   kept_reworded p word i g replaced = record {
     places = stays;
     stops = λ j n v is. is;
     marks = λ j n v is. is;
-    new_places = replaced_new places.chains.counter (entry_in places) (entry_in places') i g (record p { word = word }) replaced.entries (g, p) replaced.was;
+    new_places = replaced_new places.chains.counter (entry_in places) (entry_in places') i g
+        (record p { word = word }) replaced.entries (g, p) replaced.was;
     new_stops = none_new _ _ _ (λ k. refl);
     new_marks = none_new _ _ _ (λ k. refl);
     place_counter = replaced.kept.counter;
@@ -207,15 +271,20 @@ module _ {I : Type 0} (s s' : State) (places places' : Ordered I Place) (stops :
     rooms = record { places = replaced.kept.room; stops = refl; marks = refl };
   }
     where
-      stays : (j n : ℕ) (q : Place) → entry_in places j ≡ Some (n, q) → (r : Place) × ((entry_in places' j ≡ Some (n, r)) × ((r.ticket ≡ q.ticket) × (r.key ≡ q.key)))
+      stays : (j n : ℕ) (q : Place) → entry_in places j ≡ Some (n, q)
+          → (r : Place) × ((entry_in places' j ≡ Some (n, r))
+          × ((r.ticket ≡ q.ticket) × (r.key ≡ q.key)))
       stays j n q is = elim (eqb_tells j i) [
         | inl same ↦
-            let both : Some (g, p) ≡ Some (n, q) = sym replaced.was ∙ sym (ap (entry_in places) same.1) ∙ is in
+            let both : Some (g, p) ≡ Some (n, q) = sym replaced.was
+            ∙ sym (ap (entry_in places) same.1) ∙ is in
             let pair : (g, p) ≡ (n, q) = some_same both in
-            let here : entry_in places' j ≡ Some (g, record p { word = word }) = replaced.entries j ∙ rw same.0 refl in (
+            let here : entry_in places' j ≡ Some (g, record p { word = word }) = replaced.entries j
+            ∙ rw same.0 refl in (
               record p { word = word },
               (
-                here ∙ ap (λ m. Some (m, record p { word = word })) (ap (λ (x : ℕ × Place). x.0) pair),
+                here ∙ ap (λ m. Some (m, record p { word = word }))
+                    (ap (λ (x : ℕ × Place). x.0) pair),
                 (ap (λ (x : ℕ × Place). x.1.ticket) pair, ap (λ (x : ℕ × Place). x.1.key) pair),
               ),
             )

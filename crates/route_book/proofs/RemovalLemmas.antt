@@ -1,5 +1,7 @@
 -- What a removal is told by the book, by its arena and by the model, and what it tells.
-use Rattle.std.proofs.Common.{◌≡◌, ◌≢◌, ◌∙◌, sym, ap, subst, refl, Bool, true, false, ◌==◌, ◌||◌, nat_lt, if◌then◌else◌, ℕ, ◌<◌, ◌≤◌, List, Option, Some, None, OnSome, inl, inr, arith, Result, Ok, Err}
+use Rattle.std.proofs.Common.{◌≡◌, ◌≢◌, ◌∙◌, sym, ap, subst, refl, Bool, true, false, ◌==◌, ◌||◌}
+use Rattle.std.proofs.Common.{nat_lt, if◌then◌else◌, ℕ, ◌<◌, ◌≤◌, List, Option, Some, None, OnSome}
+use Rattle.std.proofs.Common.{inl, inr, arith, Result, Ok, Err}
 use Rattle.std.specs.Option.{ok_or, option_map, option_or}
 use Rattle.std.proofs.lemmas.Bool.Decides.{eqb_tells}
 use Rattle.triple_arena_ptr.specs.Generation.{next_wraps}
@@ -11,11 +13,13 @@ use Rattle.triple_arena_chain.specs.Links.{values_in, valued, IsChained, IsTaken
 use Rattle.triple_arena_ord.specs.Ordered.{Ordered, IsOrdered, entry_in}
 use Rattle.triple_arena_ord.specs.Removal.{IsEntryRemoved}
 use Rattle.ticket_book.specs.declared.entry.Kind.{Kind}
-use Rattle.ticket_book.specs.declared.entry.Kind.TheVariants.{Place as OfPlace, Stop as OfStop, Mark as OfMark}
+use Rattle.ticket_book.specs.declared.entry.Kind.TheVariants.{Place as OfPlace, Stop as OfStop}
+use Rattle.ticket_book.specs.declared.entry.Kind.TheVariants.{Mark as OfMark}
 use Rattle.ticket_book.specs.Tickets.{Entry, lookup, without_ticket}
 use Rattle.route_lines.specs.Calls.{after_removed, without_mark, without_place, without_stop}
 use Rattle.route_lines.specs.Sound.{IsSound}
-use Rattle.route_lines.specs.State.{State, Rooms, Place, Stop, Mark, Item, place, stop, mark, holder, living, place_of, stop_of, mark_of, stop_list}
+use Rattle.route_lines.specs.State.{State, Rooms, Place, Stop, Mark, Item, place, stop, mark}
+use Rattle.route_lines.specs.State.{holder, living, place_of, stop_of, mark_of, stop_list}
 use Rattle.route_lines.specs.declared.refusal.Refusal.{Refusal}
 use Rattle.route_lines.specs.declared.refusal.Refusal.TheVariants.{Unknown, Gone}
 use Rattle.route_book.specs.Book.{Book, as_book, found_in, IsBook}
@@ -33,47 +37,80 @@ module _ (s : State) (t : ℕ) where
   living_in : (item : Item) → holder s t ≡ Ok item → living s t ≡ Some item
   living_in item is = by ((t == 0) || nat_lt s.last t) (living s t) is
     where
-      by : (unknown : Bool) (o : Option Item) → (if unknown then Err Unknown else ok_or o Gone) ≡ Ok item → o ≡ Some item
-      by true o is = absurd (let no : ◌≡◌ {A = Result Item Refusal} (Err Unknown) (Ok item) = is in cc)
-      by false None is = absurd (let no : ◌≡◌ {A = Result Item Refusal} (Err Gone) (Ok item) = is in cc)
-      by false (Some x) is = ap Some (let same : ◌≡◌ {A = Result Item Refusal} (Ok x) (Ok item) = is in ok_same same)
+      by : (unknown : Bool) (o : Option Item)
+          → (if unknown then Err Unknown else ok_or o Gone) ≡ Ok item → o ≡ Some item
+      by true o is = absurd
+          (let no : ◌≡◌ {A = Result Item Refusal} (Err Unknown) (Ok item) = is in cc)
+      by false None is = absurd
+          (let no : ◌≡◌ {A = Result Item Refusal} (Err Gone) (Ok item) = is in cc)
+      by false (Some x) is =
+          ap Some (let same : ◌≡◌ {A = Result Item Refusal} (Ok x) (Ok item) = is in ok_same same)
         where
           ok_same : {X Y : Type 0} {x y : X} → ◌≡◌ {A = Result X Y} (Ok x) (Ok y) → x ≡ y
           ok_same e = cc
 
   place_ticket : (p : Place) → holder s t ≡ Ok (place p) → p.ticket ≡ t
-  place_ticket p is = by (place_of s.places t) refl (stop_of s.routes t) (mark_of s.marks t) (living_in (place p) is)
+  place_ticket p is = by (place_of s.places t) refl (stop_of s.routes t) (mark_of s.marks t)
+      (living_in (place p) is)
     where
-      by : (o : Option Place) → place_of s.places t ≡ o → (m : Option Stop) (n : Option Mark) → option_or (option_map place o) (option_or (option_map stop m) (option_map mark n)) ≡ Some (place p)
+      by : (o : Option Place) → place_of s.places t ≡ o → (m : Option Stop) (n : Option Mark)
+          → option_or (option_map place o) (option_or (option_map stop m) (option_map mark n))
+          ≡ Some (place p)
           → p.ticket ≡ t
-      by (Some q) there m n has = found_has (λ (x : Place). x.ticket) t s.places p (there ∙ ap Some (let same : ◌≡◌ {A = Option Item} (Some (place q)) (Some (place p)) = has in cc))
-      by None there None None has = absurd (let no : ◌≡◌ {A = Option Item} None (Some (place p)) = has in cc)
-      by None there None (Some n) has = absurd (let no : ◌≡◌ {A = Option Item} (Some (mark n)) (Some (place p)) = has in cc)
-      by None there (Some m) n has = absurd (let no : ◌≡◌ {A = Option Item} (Some (stop m)) (Some (place p)) = has in cc)
+      by (Some q) there m n has =
+          found_has (λ (x : Place). x.ticket) t s.places p
+          (there ∙ ap Some (let same : ◌≡◌ {A = Option Item} (Some (place q)) (Some (place p)) =
+          has in cc))
+      by None there None None has =
+          absurd (let no : ◌≡◌ {A = Option Item} None (Some (place p)) = has in cc)
+      by None there None (Some n) has =
+          absurd (let no : ◌≡◌ {A = Option Item} (Some (mark n)) (Some (place p)) = has in cc)
+      by None there (Some m) n has =
+          absurd (let no : ◌≡◌ {A = Option Item} (Some (stop m)) (Some (place p)) = has in cc)
 
   stop_ticket : (u : Stop) → holder s t ≡ Ok (stop u) → u.ticket ≡ t
-  stop_ticket u is = by (place_of s.places t) (stop_of s.routes t) refl (mark_of s.marks t) (living_in (stop u) is)
+  stop_ticket u is = by (place_of s.places t) (stop_of s.routes t) refl (mark_of s.marks t)
+      (living_in (stop u) is)
     where
-      by : (o : Option Place) (m : Option Stop) → stop_of s.routes t ≡ m → (n : Option Mark) → option_or (option_map place o) (option_or (option_map stop m) (option_map mark n)) ≡ Some (stop u)
+      by : (o : Option Place) (m : Option Stop) → stop_of s.routes t ≡ m → (n : Option Mark)
+          → option_or (option_map place o) (option_or (option_map stop m) (option_map mark n))
+          ≡ Some (stop u)
           → u.ticket ≡ t
-      by (Some q) m there n has = absurd (let no : ◌≡◌ {A = Option Item} (Some (place q)) (Some (stop u)) = has in cc)
-      by None (Some m) there n has = found_has (λ (x : Stop). x.ticket) t (stop_list s.routes) u (there ∙ ap Some (let same : ◌≡◌ {A = Option Item} (Some (stop m)) (Some (stop u)) = has in cc))
-      by None None there None has = absurd (let no : ◌≡◌ {A = Option Item} None (Some (stop u)) = has in cc)
-      by None None there (Some n) has = absurd (let no : ◌≡◌ {A = Option Item} (Some (mark n)) (Some (stop u)) = has in cc)
+      by (Some q) m there n has =
+          absurd (let no : ◌≡◌ {A = Option Item} (Some (place q)) (Some (stop u)) = has in cc)
+      by None (Some m) there n has =
+          found_has (λ (x : Stop). x.ticket) t (stop_list s.routes) u
+          (there ∙ ap Some (let same : ◌≡◌ {A = Option Item} (Some (stop m)) (Some (stop u)) =
+          has in cc))
+      by None None there None has =
+          absurd (let no : ◌≡◌ {A = Option Item} None (Some (stop u)) = has in cc)
+      by None None there (Some n) has =
+          absurd (let no : ◌≡◌ {A = Option Item} (Some (mark n)) (Some (stop u)) = has in cc)
 
   mark_ticket : (m : Mark) → holder s t ≡ Ok (mark m) → m.ticket ≡ t
-  mark_ticket m is = by (place_of s.places t) (stop_of s.routes t) (mark_of s.marks t) refl (living_in (mark m) is)
+  mark_ticket m is = by (place_of s.places t) (stop_of s.routes t) (mark_of s.marks t) refl
+      (living_in (mark m) is)
     where
-      by : (o : Option Place) (u : Option Stop) (n : Option Mark) → mark_of s.marks t ≡ n → option_or (option_map place o) (option_or (option_map stop u) (option_map mark n)) ≡ Some (mark m)
+      by : (o : Option Place) (u : Option Stop) (n : Option Mark) → mark_of s.marks t ≡ n
+          → option_or (option_map place o) (option_or (option_map stop u) (option_map mark n))
+          ≡ Some (mark m)
           → m.ticket ≡ t
-      by (Some q) u n there has = absurd (let no : ◌≡◌ {A = Option Item} (Some (place q)) (Some (mark m)) = has in cc)
-      by None (Some u) n there has = absurd (let no : ◌≡◌ {A = Option Item} (Some (stop u)) (Some (mark m)) = has in cc)
-      by None None None there has = absurd (let no : ◌≡◌ {A = Option Item} None (Some (mark m)) = has in cc)
-      by None None (Some n) there has = found_has (λ (x : Mark). x.ticket) t s.marks m (there ∙ ap Some (let same : ◌≡◌ {A = Option Item} (Some (mark n)) (Some (mark m)) = has in cc))
+      by (Some q) u n there has =
+          absurd (let no : ◌≡◌ {A = Option Item} (Some (place q)) (Some (mark m)) = has in cc)
+      by None (Some u) n there has =
+          absurd (let no : ◌≡◌ {A = Option Item} (Some (stop u)) (Some (mark m)) = has in cc)
+      by None None None there has =
+          absurd (let no : ◌≡◌ {A = Option Item} None (Some (mark m)) = has in cc)
+      by None None (Some n) there has =
+          found_has (λ (x : Mark). x.ticket) t s.marks m
+          (there ∙ ap Some (let same : ◌≡◌ {A = Option Item} (Some (mark n)) (Some (mark m)) =
+          has in cc))
 
-module _ {I : Type 0} (number : I → ℕ) (rooms : Rooms) (last : ℕ) (s : State) (places : Ordered I Place)
+module _ {I : Type 0} (number : I → ℕ) (rooms : Rooms) (last : ℕ) (s : State)
+    (places : Ordered I Place)
     (stops : Content (IndexLink I StopView)) (marks : Content MarkView) (book : List Entry)
-    (b : IsBook number rooms last s places stops marks book) (e : Entry) (found : lookup book e.ticket ≡ Some e)
+    (b : IsBook number rooms last s places stops marks book) (e : Entry)
+    (found : lookup book e.ticket ≡ Some e)
     (i g : ℕ) (index : i ≡ e.index) (generation : g ≡ e.generation) where
   abbrev f : Found
   f = found_in places stops marks
@@ -87,32 +124,47 @@ module _ {I : Type 0} (number : I → ℕ) (rooms : Rooms) (last : ℕ) (s : Sta
   positive : t ≢ 0
   positive same = let above = given.0 in omega (arith, above, same)
 
-  under : (kind : Kind) → e.kind ≡ kind → (item : Item) × ((holder s t ≡ Ok item) × (item_under f kind i g ≡ Some item))
+  under : (kind : Kind) → e.kind ≡ kind
+      → (item : Item) × ((holder s t ≡ Ok item) × (item_under f kind i g ≡ Some item))
   under kind is =
-      let there = holder_found s f _ _ book b.held t positive given.1 e found in
-      (there.0, (there.1.0, ap (λ q. item_under f q i g) (sym is) ∙ ap (λ n. item_under f e.kind n g) index ∙ ap (item_under f e.kind e.index) generation ∙ there.1.1))
+      let there = holder_found s f _ _ book b.held t positive given.1 e found in (
+        there.0,
+        (
+          there.1.0,
+          ap (λ q. item_under f q i g) (sym is)
+              ∙ ap (λ n. item_under f e.kind n g) index
+              ∙ ap (item_under f e.kind e.index) generation
+              ∙ there.1.1,
+        ),
+      )
 
   -- ---- a place
 
   module _ (kind : e.kind ≡ OfPlace) where
-    pub found_place : (p : Place) × ((value_if g (entry_in places i) ≡ Some p) × (holder s t ≡ Ok (place p)))
+    pub found_place : (p : Place)
+        × ((value_if g (entry_in places i) ≡ Some p) × (holder s t ≡ Ok (place p)))
     found_place =
         let u = under OfPlace kind in
         let m = mapped_some place (value_if g (entry_in places i)) u.0 u.1.1 in
         (m.0, (m.1.0, u.1.0 ∙ ap Ok (sym m.1.1)))
 
     module _ (ordered : IsOrdered number places) (places' : Ordered I Place)
-        (final : Option ℕ) (top : ℕ) (counts : final ≡ Some top) (calm : next_wraps final places.chains.counter ≡ false) (removed : IsEntryRemoved number final i places places') where
+        (final : Option ℕ) (top : ℕ) (counts : final ≡ Some top)
+        (calm : next_wraps final places.chains.counter ≡ false)
+        (removed : IsEntryRemoved number final i places places') where
       abbrev p : Place
       p = found_place.0
 
       ticket : p.ticket ≡ t
       ticket = place_ticket s t p found_place.1.1
 
-      pub place_out : (s' : State) → IsPlaceGone s s' t → IsSound s' → IsBook number rooms last s' places' stops marks (without_ticket t book)
+      pub place_out : (s' : State) → IsPlaceGone s s' t → IsSound s'
+          → IsBook number rooms last s' places' stops marks (without_ticket t book)
       place_out s' laws sound =
-          subst (λ u. IsPlaceGone s s' u → IsBook number rooms last s' places' stops marks (without_ticket u book)) ticket
-          (λ gone. place_leaves number rooms last s places places' stops marks book b i g p found_place.1.0 ordered final top counts calm removed s' gone sound) laws
+          subst (λ u. IsPlaceGone s s' u
+          → IsBook number rooms last s' places' stops marks (without_ticket u book)) ticket
+          (λ gone. place_leaves number rooms last s places places' stops marks book b i g p
+          found_place.1.0 ordered final top counts calm removed s' gone sound) laws
 
       pub place_ends : (s' : State) → s' ≡ after_removed s t
           → Ends final OfPlace t (as_book s places stops marks) (as_book s' places' stops marks)
@@ -125,9 +177,12 @@ module _ {I : Type 0} (number : I → ℕ) (rooms : Rooms) (last : ℕ) (s : Sta
             (
               record {
                 room = removed.room;
-                counter = place_steps number rooms last s places places' stops marks book b i g p found_place.1.0 ordered final top counts calm removed;
-                others = subst (λ u. OthersStay (λ (q : Place). q.ticket) u (entry_in places) (entry_in places')) ticket
-                    (places_stay number rooms last s places places' stops marks book b i g p found_place.1.0 ordered final top counts calm removed);
+                counter = place_steps number rooms last s places places' stops marks book b i g p
+                    found_place.1.0 ordered final top counts calm removed;
+                others = subst (λ u. OthersStay (λ (q : Place). q.ticket) u (entry_in places)
+                    (entry_in places')) ticket
+                    (places_stay number rooms last s places places' stops marks book b i g p
+                    found_place.1.0 ordered final top counts calm removed);
                 stops = refl;
                 marks = refl;
               },
@@ -140,24 +195,31 @@ module _ {I : Type 0} (number : I → ℕ) (rooms : Rooms) (last : ℕ) (s : Sta
   -- ---- a stop
 
   module _ (kind : e.kind ≡ OfStop) where
-    pub found_stop : (v : StopView) × ((value_if g (values_in stops i) ≡ Some v) × (holder s t ≡ Ok (stop (state_stop f v))))
+    pub found_stop : (v : StopView)
+        × ((value_if g (values_in stops i) ≡ Some v) × (holder s t ≡ Ok (stop (state_stop f v))))
     found_stop =
         let u = under OfStop kind in
-        let m = mapped_some (λ v. stop (state_stop f v)) (value_if g (values_in stops i)) u.0 u.1.1 in
+        let m = mapped_some (λ v. stop (state_stop f v)) (value_if g (values_in stops i)) u.0 u.1.1
+        in
         (m.0, (m.1.0, u.1.0 ∙ ap Ok (sym m.1.1)))
 
     module _ (chained : IsChained number stops) (stops' : Content (IndexLink I StopView))
-        (final : Option ℕ) (top : ℕ) (counts : final ≡ Some top) (calm : next_wraps final stops.counter ≡ false) (taken : IsTakenOut number final i stops stops') where
+        (final : Option ℕ) (top : ℕ) (counts : final ≡ Some top)
+        (calm : next_wraps final stops.counter ≡ false)
+        (taken : IsTakenOut number final i stops stops') where
       abbrev v : StopView
       v = found_stop.0
 
       stop_named : v.ticket ≡ t
       stop_named = stop_ticket s t (state_stop f v) found_stop.1.1
 
-      pub stop_out : (s' : State) → IsStopGone s s' t → IsSound s' → IsBook number rooms last s' places stops' marks (without_ticket t book)
+      pub stop_out : (s' : State) → IsStopGone s s' t → IsSound s'
+          → IsBook number rooms last s' places stops' marks (without_ticket t book)
       stop_out s' laws sound =
-          subst (λ u. IsStopGone s s' u → IsBook number rooms last s' places stops' marks (without_ticket u book)) stop_named
-          (λ gone. stop_leaves number rooms last s places stops stops' marks book b i g v found_stop.1.0 chained final top counts calm taken s' gone sound) laws
+          subst (λ u. IsStopGone s s' u
+          → IsBook number rooms last s' places stops' marks (without_ticket u book)) stop_named
+          (λ gone. stop_leaves number rooms last s places stops stops' marks book b i g v
+          found_stop.1.0 chained final top counts calm taken s' gone sound) laws
 
       pub stop_ends : (s' : State) → s' ≡ after_removed s t
           → Ends final OfStop t (as_book s places stops marks) (as_book s' places stops' marks)
@@ -170,9 +232,12 @@ module _ {I : Type 0} (number : I → ℕ) (rooms : Rooms) (last : ℕ) (s : Sta
             (
               record {
                 room = taken.room;
-                counter = stop_steps number rooms last s places stops stops' marks book b i g v found_stop.1.0 chained final top counts calm taken;
-                others = subst (λ u. OthersStay (λ (w : StopView). w.ticket) u (values_in stops) (values_in stops')) stop_named
-                    (stops_stay number rooms last s places stops stops' marks book b i g v found_stop.1.0 chained final top counts calm taken);
+                counter = stop_steps number rooms last s places stops stops' marks book b i g v
+                    found_stop.1.0 chained final top counts calm taken;
+                others = subst (λ u. OthersStay (λ (w : StopView). w.ticket) u (values_in stops)
+                    (values_in stops')) stop_named
+                    (stops_stay number rooms last s places stops stops' marks book b i g v
+                    found_stop.1.0 chained final top counts calm taken);
                 places = refl;
                 marks = refl;
               },
@@ -185,23 +250,30 @@ module _ {I : Type 0} (number : I → ℕ) (rooms : Rooms) (last : ℕ) (s : Sta
   -- ---- a mark
 
   module _ (kind : e.kind ≡ OfMark) where
-    pub found_mark : (v : MarkView) × ((value_if g (entry_at marks i) ≡ Some v) × (holder s t ≡ Ok (mark (state_mark f v))))
+    pub found_mark : (v : MarkView)
+        × ((value_if g (entry_at marks i) ≡ Some v) × (holder s t ≡ Ok (mark (state_mark f v))))
     found_mark =
         let u = under OfMark kind in
-        let m = mapped_some (λ v. mark (state_mark f v)) (value_if g (entry_at marks i)) u.0 u.1.1 in
+        let m = mapped_some (λ v. mark (state_mark f v)) (value_if g (entry_at marks i)) u.0 u.1.1
+        in
         (m.0, (m.1.0, u.1.0 ∙ ap Ok (sym m.1.1)))
 
-    module _ (marks' : Content MarkView) (final : Option ℕ) (removed : IsGoneFrom entry_at live_count some_counter (λ (c : Content MarkView). c.room) final i marks marks') where
+    module _ (marks' : Content MarkView) (final : Option ℕ)
+        (removed : IsGoneFrom entry_at live_count some_counter (λ (c : Content MarkView). c.room)
+        final i marks marks') where
       abbrev w : MarkView
       w = found_mark.0
 
       mark_named : w.ticket ≡ t
       mark_named = mark_ticket s t (state_mark f w) found_mark.1.1
 
-      pub mark_out : (s' : State) → IsMarkGone s s' t → IsSound s' → IsBook number rooms last s' places stops marks' (without_ticket t book)
+      pub mark_out : (s' : State) → IsMarkGone s s' t → IsSound s'
+          → IsBook number rooms last s' places stops marks' (without_ticket t book)
       mark_out s' laws sound =
-          subst (λ u. IsMarkGone s s' u → IsBook number rooms last s' places stops marks' (without_ticket u book)) mark_named
-          (λ gone. mark_leaves number rooms last s places stops marks marks' book b i g w found_mark.1.0 final removed s' gone sound) laws
+          subst (λ u. IsMarkGone s s' u
+          → IsBook number rooms last s' places stops marks' (without_ticket u book)) mark_named
+          (λ gone. mark_leaves number rooms last s places stops marks marks' book b i g w
+          found_mark.1.0 final removed s' gone sound) laws
 
       pub mark_ends : (s' : State) → s' ≡ after_removed s t
           → Ends final OfMark t (as_book s places stops marks) (as_book s' places stops marks')
@@ -215,8 +287,10 @@ module _ {I : Type 0} (number : I → ℕ) (rooms : Rooms) (last : ℕ) (s : Sta
               record {
                 counter = some_same removed.counter;
                 room = removed.room;
-                others = subst (λ u. OthersStay (λ (x : MarkView). x.ticket) u (entry_at marks) (entry_at marks')) mark_named
-                    (marks_stay number rooms last s places stops marks marks' book b i g w found_mark.1.0 final removed);
+                others = subst (λ u. OthersStay (λ (x : MarkView). x.ticket) u (entry_at marks)
+                    (entry_at marks')) mark_named
+                    (marks_stay number rooms last s places stops marks marks' book b i g w
+                    found_mark.1.0 final removed);
                 places = refl;
                 stops = refl;
               },
@@ -227,12 +301,14 @@ module _ {I : Type 0} (number : I → ℕ) (rooms : Rooms) (last : ℕ) (s : Sta
       )
 
 -- what a removal tells that finds an item
-pub told : {A X : Type 0} (value : A → X) (answer : Option A) (x : X) (Q : Type 0) → option_map value answer ≡ Some x → OnSome answer Q → Q
+pub told : {A X : Type 0} (value : A → X) (answer : Option A) (x : X) (Q : Type 0)
+    → option_map value answer ≡ Some x → OnSome answer Q → Q
 told value None x Q none h = absurd (let no : ◌≡◌ {A = Option _} None (Some x) = none in cc)
 told value (Some a) x Q some h = h
 
 -- no counter starts again that is that of the kind of an entry
-pub calm_of : {I : Type 0} (last : Option ℕ) (b : Book I) (at : Option Entry) (e : Entry) → at ≡ Some e
+pub calm_of : {I : Type 0} (last : Option ℕ) (b : Book I) (at : Option Entry) (e : Entry)
+    → at ≡ Some e
     → (x : Entry) × (at ≡ Some x) × (removal_wraps last b x.kind ≡ false)
     → (kind : Kind) → e.kind ≡ kind → removal_wraps last b kind ≡ false
 calm_of last b at e is all kind same =
@@ -240,7 +316,8 @@ calm_of last b at e is all kind same =
     (ap (λ (y : Entry). y.kind) (some_same (sym all.1 ∙ is)) ∙ same) all.2
 
 -- what ends is said of an entry that has another name
-pub ends_of : {I : Type 0} (last : Option ℕ) (at : Option Entry) (e : Entry) → at ≡ Some e → (old new : Book I) (kind : Kind)
+pub ends_of : {I : Type 0} (last : Option ℕ) (at : Option Entry) (e : Entry) → at ≡ Some e
+    → (old new : Book I) (kind : Kind)
     → e.kind ≡ kind → Ends last kind e.ticket old new
     → (x : Entry) → at ≡ Some x → Ends last x.kind x.ticket old new
 ends_of last at e is old new kind same h x other =
@@ -248,22 +325,30 @@ ends_of last at e is old new kind same h x other =
     (subst (λ k. Ends last k e.ticket old new) (sym same) h)
 
 -- the model's words for what is left, by the kind of what had the ticket
-pub place_is : (s : State) (t : ℕ) (p : Place) → holder s t ≡ Ok (place p) → after_removed s t ≡ without_place s t
+pub place_is : (s : State) (t : ℕ) (p : Place) → holder s t ≡ Ok (place p)
+    → after_removed s t ≡ without_place s t
 place_is s t p is = rw is refl
 
-pub stop_is : (s : State) (t : ℕ) (u : Stop) → holder s t ≡ Ok (stop u) → after_removed s t ≡ without_stop s t
+pub stop_is : (s : State) (t : ℕ) (u : Stop) → holder s t ≡ Ok (stop u)
+    → after_removed s t ≡ without_stop s t
 stop_is s t u is = rw is refl
 
-pub mark_is : (s : State) (t : ℕ) (m : Mark) → holder s t ≡ Ok (mark m) → after_removed s t ≡ without_mark s t
+pub mark_is : (s : State) (t : ℕ) (m : Mark) → holder s t ≡ Ok (mark m)
+    → after_removed s t ≡ without_mark s t
 mark_is s t m is = rw is refl
 
 -- the link under a pointer that finds a value
-pub link_under : {J T : Type 0} (c : Content (IndexLink J T)) (i g : ℕ) (v : T) → value_if g (values_in c i) ≡ Some v → (link : IndexLink J T) × (get c i g ≡ Some link)
+pub link_under : {J T : Type 0} (c : Content (IndexLink J T)) (i g : ℕ) (v : T)
+    → value_if g (values_in c i) ≡ Some v → (link : IndexLink J T) × (get c i g ≡ Some link)
 link_under {J} {T} c i g v found = by (entry_at c i) refl found
   where
-    by : (o : Option (ℕ × IndexLink J T)) → entry_at c i ≡ o → value_if g (option_map valued o) ≡ Some v → (link : IndexLink J T) × (get c i g ≡ Some link)
+    by : (o : Option (ℕ × IndexLink J T)) → entry_at c i ≡ o
+        → value_if g (option_map valued o) ≡ Some v
+        → (link : IndexLink J T) × (get c i g ≡ Some link)
     by None is none = absurd (let no : ◌≡◌ {A = Option T} None (Some v) = none in cc)
     by (Some x) is some = elim (eqb_tells x.0 g) [
       | inl own ↦ (x.1, ap (value_if g) is ∙ rw own.0 refl)
-      | inr other ↦ absurd (let no : ◌≡◌ {A = Option T} None (Some v) = sym (let e : value_if g (option_map valued (Some x)) ≡ None = rw other.0 refl in e) ∙ some in cc)
+      | inr other ↦ absurd (let no : ◌≡◌ {A = Option T} None (Some v) =
+          sym (let e : value_if g (option_map valued (Some x)) ≡ None = rw other.0 refl in e)
+          ∙ some in cc)
     ]

@@ -1,5 +1,7 @@
 -- The indexes of stops and of marks after a pack.
-use Rattle.std.proofs.Common.{◌≡◌, ◌↔◌, ℕ, zero, suc, ◌+◌, ◌<◌, ◌≤◌, List, [], ◌∷◌, length, Option, Some, None, IsSome, is_some, option_map, slice_get, true, false, refl, sym, ap, subst, ◌∙◌, arith}
+use Rattle.std.proofs.Common.{◌≡◌, ◌↔◌, ℕ, zero, suc, ◌+◌, ◌<◌, ◌≤◌, List, [], ◌∷◌, length, Option}
+use Rattle.std.proofs.Common.{Some, None, IsSome, is_some, option_map, slice_get, true, false, refl}
+use Rattle.std.proofs.Common.{sym, ap, subst, ◌∙◌, arith}
 use Rattle.triple_arena.specs.Compression.{entry_of_listed}
 use Rattle.triple_arena.specs.Content.{Content, entry_at, live_count}
 use Rattle.triple_arena.specs.LiveEntries.{live_entries, live_entries-length}
@@ -20,21 +22,29 @@ some_mapped f None = refl
 some_mapped f (Some x) = refl
 
 -- marks that stood at the indexes from 1 on do so after a recast
-pub marks_run : (c d : Content MarkView) (f : ℕ × MarkView → ℕ × MarkView) → ((k : ℕ) → entry_at c (k + 1) ≡ option_map entry_of_listed (slice_get (live_entries c) k))
+pub marks_run : (c d : Content MarkView) (f : ℕ × MarkView → ℕ × MarkView)
+    → ((k : ℕ) → entry_at c (k + 1) ≡ option_map entry_of_listed (slice_get (live_entries c) k))
     → ((k : ℕ) → entry_at d k ≡ option_map f (entry_at c k)) → live_count d ≡ live_count c
     → (i : ℕ) → IsSome (entry_at d i) ↔ ((1 ≤ i) × (i ≤ live_count d))
 marks_run c d f compact recast live zero = (
-  λ some. absurd (let no : false ≡ true = sym (ap is_some (recast zero) ∙ some_mapped f (entry_at c zero)) ∙ some in cc),
+  λ some. absurd (let no : false ≡ true =
+      sym (ap is_some (recast zero) ∙ some_mapped f (entry_at c zero)) ∙ some in cc),
   λ within. absurd (let low = within.0 in omega (arith, low)),
 )
 marks_run c d f compact recast live (suc k) =
     let reads : is_some (entry_at d (suc k)) ≡ is_some (slice_get (live_entries c) k) =
-    ap is_some (recast (suc k)) ∙ some_mapped f (entry_at c (suc k)) ∙ ap is_some (compact_at k) ∙ some_mapped entry_of_listed (slice_get (live_entries c) k) in
+    ap is_some (recast (suc k)) ∙ some_mapped f (entry_at c (suc k)) ∙ ap is_some (compact_at k)
+    ∙ some_mapped entry_of_listed (slice_get (live_entries c) k) in
     let long = live_entries-length c in (
-      λ some. let less = slice_some (live_entries c) k (sym reads ∙ some) in (omega arith, omega (arith, less, long, live)),
-      λ within. let up = within.1 in reads ∙ some_slice (live_entries c) k (omega (arith, up, long, live)),
+      λ some. let less = slice_some (live_entries c) k (sym reads ∙ some) in
+          (omega arith, omega (arith, less, long, live)),
+      λ within. let up = within.1 in reads
+          ∙ some_slice (live_entries c) k (omega (arith, up, long, live)),
     )
   where
-    compact_at : (k : ℕ) → entry_at c (suc k) ≡ option_map entry_of_listed (slice_get (live_entries c) k)
+    compact_at : (k : ℕ) → entry_at c (suc k)
+        ≡ option_map entry_of_listed (slice_get (live_entries c) k)
     compact_at k =
-        let same : k + 1 ≡ suc k = omega arith in subst (λ i. entry_at c i ≡ option_map entry_of_listed (slice_get (live_entries c) k)) same (compact k)
+        let same : k + 1 ≡ suc k = omega arith in
+        subst (λ i. entry_at c i ≡ option_map entry_of_listed (slice_get (live_entries c) k))
+        same (compact k)

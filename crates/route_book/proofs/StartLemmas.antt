@@ -1,5 +1,8 @@
 -- What `start` makes of what ties a store's parts.
-use Rattle.std.proofs.Common.{◌≡◌, ◌≢◌, ◌∙◌, sym, ap, subst, refl, Bool, true, false, ◌==◌, ◌||◌, ℕ, ◌+◌, ◌<◌, ◌≤◌, List, [], ◌∷◌, ◌++◌, length, Option, Some, None, IsSome, IfSome, Ok, Err, arith, length-append, find, append_assoc, inl, inr}
+use Rattle.std.proofs.Common.{◌≡◌, ◌≢◌, ◌∙◌, sym, ap, subst, refl, Bool, true, false, ◌==◌, ◌||◌, ℕ}
+use Rattle.std.proofs.Common.{◌+◌, ◌<◌, ◌≤◌, List, [], ◌∷◌, ◌++◌, length, Option, Some, None}
+use Rattle.std.proofs.Common.{IsSome, IfSome, Ok, Err, arith, length-append, find, append_assoc}
+use Rattle.std.proofs.Common.{inl, inr}
 use Rattle.std.specs.Option.{option_map, option_or}
 use Rattle.std.proofs.lemmas.Bool.{ne_eqb, eq-eqb, leb-false}
 use Rattle.std.proofs.lemmas.Bool.Decides.{eqb_tells}
@@ -16,7 +19,8 @@ use Rattle.ticket_book.specs.declared.entry.Kind.TheVariants.{Stop as OfStop}
 use Rattle.ticket_book.specs.Tickets.{Entry}
 use Rattle.route_lines.specs.Calls.{place_holder, started, after_start}
 use Rattle.route_lines.specs.Routes.{linear, next_stop}
-use Rattle.route_lines.specs.State.{State, Rooms, Place, Stop, Route, stop_list, stop_of, is_full_of_stops}
+use Rattle.route_lines.specs.State.{State, Rooms, Place, Stop, Route, stop_list, stop_of}
+use Rattle.route_lines.specs.State.{is_full_of_stops}
 use Rattle.route_lines.specs.declared.refusal.Refusal.TheVariants.{Full}
 use Rattle.route_book.specs.Item.{StopView, MarkView}
 use Rattle.route_book.specs.Follows.{LeadAs}
@@ -33,32 +37,46 @@ left_false true b h = h
 left_false false b h = refl
 
 -- where there is room, fewer stops live than the room holds
-pub stops_not_full : (s : State) → is_full_of_stops s ≡ false → length (stop_list s.routes) < s.rooms.stops
+pub stops_not_full : (s : State) → is_full_of_stops s ≡ false
+    → length (stop_list s.routes) < s.rooms.stops
 stops_not_full s is = leb-false s.rooms.stops (length (stop_list s.routes)) (left_false _ _ is)
 
-pub stop_list-append : (rs : List Route) (r : Route) → stop_list (rs ++ r ∷ []) ≡ stop_list rs ++ r.stops
+pub stop_list-append : (rs : List Route) (r : Route)
+    → stop_list (rs ++ r ∷ []) ≡ stop_list rs ++ r.stops
 stop_list-append [] r = by r.stops
   where
     by : (l : List Stop) → l ++ [] ≡ l
     by [] = refl
     by (x ∷ l) = ap (λ k. x ∷ k) (by l)
-stop_list-append (x ∷ rs) r = ap (λ l. x.stops ++ l) (stop_list-append rs r) ∙ sym (append_assoc x.stops (stop_list rs) r.stops)
+stop_list-append (x ∷ rs) r = ap (λ l. x.stops ++ l) (stop_list-append rs r)
+    ∙ sym (append_assoc x.stops (stop_list rs) r.stops)
 
 module _ (s : State) (t : ℕ) where
-  pub started_full : (p : Place) → place_holder s t ≡ Ok p → is_full_of_stops s ≡ true → (started s t ≡ Err Full) × (after_start s t ≡ s)
+  pub started_full : (p : Place) → place_holder s t ≡ Ok p → is_full_of_stops s ≡ true
+      → (started s t ≡ Err Full) × (after_start s t ≡ s)
   started_full p held full = (rw (held, full) refl, rw (held, full) refl)
 
   pub started_new : (p : Place) → place_holder s t ≡ Ok p → is_full_of_stops s ≡ false
-      → (started s t ≡ Ok (s.last + 1)) × (after_start s t ≡ record s { last = s.last + 1; routes = s.routes ++ linear (record { ticket = s.last + 1; place = Some t } ∷ []) ∷ [] })
+      → (started s t ≡ Ok (s.last + 1))
+      × (after_start s t ≡ record s {
+        last = s.last + 1;
+        routes = s.routes ++ linear (record { ticket = s.last + 1; place = Some t } ∷ []) ∷ [];
+      })
   started_new p held free = (rw (held, free) refl, rw (held, free) refl)
 
 -- a start where there is room
-module _ {I : Type 0} (number : I → ℕ) (rooms : Rooms) (last : ℕ) (s : State) (places : Ordered I Place) (stops stops' : Content (IndexLink I StopView)) (marks : Content MarkView)
+module _ {I : Type 0} (number : I → ℕ) (rooms : Rooms) (last : ℕ) (s : State)
+    (places : Ordered I Place) (stops stops' : Content (IndexLink I StopView))
+    (marks : Content MarkView)
     (book : List Entry) (b : IsBook number rooms last s places stops marks book)
-    (t : ℕ) (p : Place) (held : place_holder s t ≡ Ok p) (free : is_full_of_stops s ≡ false) (pi pg : ℕ) (found : value_if pg (entry_in places pi) ≡ Some p)
+    (t : ℕ) (p : Place) (held : place_holder s t ≡ Ok p) (free : is_full_of_stops s ≡ false)
+    (pi pg : ℕ) (found : value_if pg (entry_in places pi) ≡ Some p)
     (v : StopView) (i g : ℕ) (ticket : v.ticket ≡ last + 1) (to : v.place ≡ Some (pi, pg))
-    (put : IsPlaced number (Between None None) i g v stops stops') (same_room : stops'.room ≡ stops.room) (agreed : IsAgreed (ends_in number stops))
-    (nowhere : next_stop (after_start s t).routes (s.last + 1) ≡ None) (as_before : (u : ℕ) → u ≢ s.last + 1 → next_stop (after_start s t).routes u ≡ next_stop s.routes u) where
+    (put : IsPlaced number (Between None None) i g v stops stops')
+    (same_room : stops'.room ≡ stops.room) (agreed : IsAgreed (ends_in number stops))
+    (nowhere : next_stop (after_start s t).routes (s.last + 1) ≡ None)
+    (as_before : (u : ℕ) → u ≢ s.last + 1
+    → next_stop (after_start s t).routes u ≡ next_stop s.routes u) where
   abbrev own : Route
   own = linear (record { ticket = s.last + 1; place = Some t } ∷ [])
 
@@ -68,43 +86,67 @@ module _ {I : Type 0} (number : I → ℕ) (rooms : Rooms) (last : ℕ) (s : Sta
   next : v.ticket ≡ s.last + 1
   next = ticket ∙ ap (λ n. n + 1) (sym b.last_is)
 
-  stop_is : state_stop (found_in places stops marks) v ≡ record { ticket = s.last + 1; place = Some t }
-  stop_is = let named = found_has (λ (x : Place). x.ticket) t s.places p (held_place s t p held) in rw (next, to, found, named) refl
+  stop_is : state_stop (found_in places stops marks) v
+      ≡ record { ticket = s.last + 1; place = Some t }
+  stop_is = let named = found_has (λ (x : Place). x.ticket) t s.places p (held_place s t p held) in
+      rw (next, to, found, named) refl
 
   no_more : stop_of s.routes (s.last + 1) ≡ None
-  no_more = no_stop_yet s (found_in places stops marks) (in_order number places) (ends_in number stops) (ends_in number stops') book b.held v i g (values_in stops') vacant put.values next
+  no_more = no_stop_yet s (found_in places stops marks) (in_order number places)
+      (ends_in number stops) (ends_in number stops') book b.held v i g (values_in stops') vacant
+      put.values next
       put.generation live (s.routes ++ own ∷ []) (s.last + 1) refl
     where
       vacant : values_in stops i ≡ None
       vacant = ap (option_map valued) put.vacant
 
       live : IfSome v.place (λ q. IsSome (value_if q.1 (entry_in places q.0)))
-      live = subst (λ r. IfSome r (λ q. IsSome (value_if q.1 (entry_in places q.0)))) (sym to) (subst IsSome (sym found) refl)
+      live = subst (λ r. IfSome r (λ q. IsSome (value_if q.1 (entry_in places q.0)))) (sym to)
+          (subst IsSome (sym found) refl)
 
-  pub start_kept : IsBook number rooms (last + 1) (after_start s t) places stops' marks (book ++ entry v.ticket OfStop i g ∷ [])
-  start_kept = subst (λ z. IsBook number rooms (last + 1) z places stops' marks (book ++ entry v.ticket OfStop i g ∷ [])) (sym (started_new s t p held free).1) (record {
-    held = subst (λ c. IsHeld now (record { places = entry_in places; stops = values_in stops'; marks = entry_at marks; place_counter = places.chains.counter; stop_counter = c })
-        (in_order number places) (ends_in number stops') (book ++ entry v.ticket OfStop i g ∷ [])) (sym put.counter)
-        (stop_added s (found_in places stops marks) (in_order number places) (ends_in number stops) (ends_in number stops') book b.held v i g (values_in stops') vacant put.values
-        next put.generation live (s.routes ++ own ∷ []) others first
-        lead);
-    places_rise = b.places_rise;
-    within = record {
-      rooms_are = b.within.rooms_are;
-      place_count = b.within.place_count;
-      stop_count = (let n = b.within.stop_count in let l = put.live in let m = ap length (stop_list-append s.routes own) ∙ length-append (stop_list s.routes) own.stops in omega (arith, n, l, m));
-      mark_count = b.within.mark_count;
-      places_fit = b.within.places_fit;
-      stops_fit = (let l = put.live in let n = b.within.stop_count in let r = ap (λ (r : Rooms). r.stops) b.within.rooms_are in let less = stops_not_full s free in omega (arith, less, l, n, r));
-      marks_fit = b.within.marks_fit;
-      place_room = b.within.place_room;
-      stop_room = subst (λ r. rooms.stops ≤ capacity r) (sym same_room) b.within.stop_room;
-      mark_room = b.within.mark_room;
-    };
-    last_is = ap (λ n. n + 1) b.last_is;
-    entries = (let a = length-append book (entry v.ticket OfStop i g ∷ []) in let n = b.entries in let l = put.live in omega (arith, a, n, l));
-    marks_differ = b.marks_differ;
-  })
+  pub start_kept : IsBook number rooms (last + 1) (after_start s t) places stops' marks
+      (book ++ entry v.ticket OfStop i g ∷ [])
+  start_kept = subst (λ z. IsBook number rooms (last + 1) z places stops' marks
+      (book ++ entry v.ticket OfStop i g ∷ [])) (sym (started_new s t p held free).1) (record {
+        held = subst (λ c. IsHeld now
+            (record {
+              places = entry_in places;
+              stops = values_in stops';
+              marks = entry_at marks;
+              place_counter = places.chains.counter;
+              stop_counter = c;
+            })
+            (in_order number places) (ends_in number stops')
+            (book ++ entry v.ticket OfStop i g ∷ []))
+            (sym put.counter)
+            (stop_added s (found_in places stops marks) (in_order number places)
+            (ends_in number stops)
+            (ends_in number stops') book b.held v i g (values_in stops') vacant put.values
+            next put.generation live (s.routes ++ own ∷ []) others first
+            lead);
+        places_rise = b.places_rise;
+        within = record {
+          rooms_are = b.within.rooms_are;
+          place_count = b.within.place_count;
+          stop_count = (let n = b.within.stop_count in let l = put.live in let m =
+              ap length (stop_list-append s.routes own)
+              ∙ length-append (stop_list s.routes) own.stops in omega (arith, n, l, m));
+          mark_count = b.within.mark_count;
+          places_fit = b.within.places_fit;
+          stops_fit = (let l = put.live in let n = b.within.stop_count in let r =
+              ap (λ (r : Rooms). r.stops) b.within.rooms_are in let less = stops_not_full s free in
+              omega (arith, less, l, n, r));
+          marks_fit = b.within.marks_fit;
+          place_room = b.within.place_room;
+          stop_room = subst (λ r. rooms.stops ≤ capacity r) (sym same_room) b.within.stop_room;
+          mark_room = b.within.mark_room;
+        };
+        last_is = ap (λ n. n + 1) b.last_is;
+        entries = (let a = length-append book (entry v.ticket OfStop i g ∷ []) in let n =
+            b.entries in
+            let l = put.live in omega (arith, a, n, l));
+        marks_differ = b.marks_differ;
+      })
     where
       vacant : values_in stops i ≡ None
       vacant = ap (option_map valued) put.vacant
@@ -113,20 +155,30 @@ module _ {I : Type 0} (number : I → ℕ) (rooms : Rooms) (last : ℕ) (s : Sta
       absent = ap (option_map (entry_ends number)) put.vacant
 
       live : IfSome v.place (λ q. IsSome (value_if q.1 (entry_in places q.0)))
-      live = subst (λ r. IfSome r (λ q. IsSome (value_if q.1 (entry_in places q.0)))) (sym to) (subst IsSome (sym found) refl)
+      live = subst (λ r. IfSome r (λ q. IsSome (value_if q.1 (entry_in places q.0)))) (sym to)
+          (subst IsSome (sym found) refl)
 
       routes_are : (after_start s t).routes ≡ s.routes ++ own ∷ []
       routes_are = ap (λ (z : State). z.routes) (started_new s t p held free).1
 
-      lead : LeadAs (λ (x : StopView). x.ticket) (values_in stops') (ends_in number stops') (next_stop (s.routes ++ own ∷ []))
+      lead : LeadAs (λ (x : StopView). x.ticket) (values_in stops') (ends_in number stops')
+          (next_stop (s.routes ++ own ∷ []))
       lead =
-          lead_started (λ (x : StopView). x.ticket) (values_in stops) (ends_in number stops) (ends_in number stops') (next_stop s.routes) (next_stop (s.routes ++ own ∷ [])) b.held.routes
-          (values_in stops') i g v agreed (live_ends number stops) absent (unknown s (found_in places stops marks) (in_order number places) (ends_in number stops) book b.held v next) put.values
-          (ap (next_stop (s.routes ++ own ∷ [])) next ∙ sym (ap (λ rs. next_stop rs (s.last + 1)) routes_are) ∙ nowhere)
-          (λ u other. sym (ap (λ rs. next_stop rs u) routes_are) ∙ as_before u (λ is. other (is ∙ sym next))) put.ends
+          lead_started (λ (x : StopView). x.ticket) (values_in stops) (ends_in number stops)
+          (ends_in number stops') (next_stop s.routes) (next_stop (s.routes ++ own ∷ []))
+          b.held.routes
+          (values_in stops') i g v agreed (live_ends number stops) absent
+          (unknown s (found_in places stops marks) (in_order number places)
+          (ends_in number stops) book b.held v next) put.values
+          (ap (next_stop (s.routes ++ own ∷ [])) next
+          ∙ sym (ap (λ rs. next_stop rs (s.last + 1)) routes_are) ∙ nowhere)
+          (λ u other. sym (ap (λ rs. next_stop rs u) routes_are)
+          ∙ as_before u (λ is. other (is ∙ sym next))) put.ends
 
-      in_list : (u : ℕ) → stop_of (s.routes ++ own ∷ []) u ≡ option_or (stop_of s.routes u) (find (λ (x : Stop). x.ticket == u) own.stops)
-      in_list u = ap (find (λ (x : Stop). x.ticket == u)) (stop_list-append s.routes own) ∙ find-append (λ (x : Stop). x.ticket == u) (stop_list s.routes) own.stops
+      in_list : (u : ℕ) → stop_of (s.routes ++ own ∷ []) u
+          ≡ option_or (stop_of s.routes u) (find (λ (x : Stop). x.ticket == u) own.stops)
+      in_list u = ap (find (λ (x : Stop). x.ticket == u)) (stop_list-append s.routes own)
+          ∙ find-append (λ (x : Stop). x.ticket == u) (stop_list s.routes) own.stops
 
       none_behind : (o : Option Stop) → option_or o None ≡ o
       none_behind None = refl
@@ -134,19 +186,28 @@ module _ {I : Type 0} (number : I → ℕ) (rooms : Rooms) (last : ℕ) (s : Sta
 
       others : (u : ℕ) → u ≢ s.last + 1 → stop_of (s.routes ++ own ∷ []) u ≡ stop_of s.routes u
       others u other =
-          let mine : find (λ (x : Stop). x.ticket == u) own.stops ≡ None = rw (ne_eqb (s.last + 1) u (λ is. other (sym is))) refl in
+          let mine : find (λ (x : Stop). x.ticket == u) own.stops ≡ None =
+          rw (ne_eqb (s.last + 1) u (λ is. other (sym is))) refl in
           in_list u ∙ ap (option_or (stop_of s.routes u)) mine ∙ none_behind (stop_of s.routes u)
 
-      first : (u : ℕ) → u ≡ s.last + 1 → stop_of (s.routes ++ own ∷ []) u ≡ Some (state_stop (found_in places stops marks) v)
+      first : (u : ℕ) → u ≡ s.last + 1
+          → stop_of (s.routes ++ own ∷ []) u ≡ Some (state_stop (found_in places stops marks) v)
       first u is =
-          let mine : find (λ (x : Stop). x.ticket == u) own.stops ≡ Some (record { ticket = s.last + 1; place = Some t }) = rw (eq-eqb (s.last + 1) u (sym is)) refl in
-          in_list u ∙ ap (λ o. option_or o (find (λ (x : Stop). x.ticket == u) own.stops)) (ap (stop_of s.routes) is ∙ no_more) ∙ mine ∙ ap Some (sym stop_is)
+          let mine : find (λ (x : Stop). x.ticket == u) own.stops
+          ≡ Some (record { ticket = s.last + 1; place = Some t }) =
+          rw (eq-eqb (s.last + 1) u (sym is)) refl in
+          in_list u ∙ ap (λ o. option_or o (find (λ (x : Stop). x.ticket == u) own.stops))
+          (ap (stop_of s.routes) is ∙ no_more) ∙ mine ∙ ap Some (sym stop_is)
 
 -- each item keeps its pointer where a stop is added
-pub kept_stop : {I : Type 0} (number : I → ℕ) (s s' : State) (places : Ordered I Place) (stops stops' : Content (IndexLink I StopView)) (marks : Content MarkView) (v : StopView) (i g : ℕ)
+pub kept_stop : {I : Type 0} (number : I → ℕ) (s s' : State) (places : Ordered I Place)
+    (stops stops' : Content (IndexLink I StopView)) (marks : Content MarkView) (v : StopView)
+    (i g : ℕ)
     → ((k : ℕ) → values_in stops' k ≡ with_entry (values_in stops) i (g, v) k)
-    → values_in stops i ≡ None → g ≡ stops.counter → stops'.counter ≡ stops.counter → stops'.room ≡ stops.room
-    → KeepsItems {I = I} (record { state = s; places = places; stops = stops; marks = marks }) (record { state = s'; places = places; stops = stops'; marks = marks })
+    → values_in stops i ≡ None → g ≡ stops.counter → stops'.counter ≡ stops.counter
+    → stops'.room ≡ stops.room
+    → KeepsItems {I = I} (record { state = s; places = places; stops = stops; marks = marks })
+    (record { state = s'; places = places; stops = stops'; marks = marks })
 kept_stop number s s' places stops stops' marks v i g entries vacant own counter room = record {
   places = λ j n p is. (p, (is, (refl, refl)));
   stops = stays;
@@ -160,8 +221,10 @@ kept_stop number s s' places stops stops' marks v i g entries vacant own counter
   rooms = record { places = refl; stops = room; marks = refl };
 }
   where
-    stays : (j n : ℕ) (u : StopView) → values_in stops j ≡ Some (n, u) → values_in stops' j ≡ Some (n, u)
+    stays : (j n : ℕ) (u : StopView) → values_in stops j ≡ Some (n, u)
+        → values_in stops' j ≡ Some (n, u)
     stays j n u is = elim (eqb_tells j i) [
-      | inl same ↦ absurd (let no : ◌≡◌ {A = Option (ℕ × StopView)} None (Some (n, u)) = sym vacant ∙ sym (ap (values_in stops) same.1) ∙ is in cc)
+      | inl same ↦ absurd (let no : ◌≡◌ {A = Option (ℕ × StopView)} None (Some (n, u)) = sym vacant
+          ∙ sym (ap (values_in stops) same.1) ∙ is in cc)
       | inr other ↦ entries j ∙ rw other.0 is
     ]

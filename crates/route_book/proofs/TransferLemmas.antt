@@ -1,6 +1,9 @@
 -- What a transfer leaves of entries that stood at the indexes from 1 on, in the order of their
 -- lists: at each index what stood there.
-use Rattle.std.proofs.Common.{◌≡◌, ◌≢◌, ◌⊎◌, ◌==◌, true, false, ◌∙◌, sym, ap, subst, refl, ℕ, zero, suc, ◌+◌, ◌-◌, ◌<◌, ◌≤◌, inl, inr, List, [], ◌∷◌, ◌++◌, length, map, replicate, slice_get, Option, Some, None, IsSome, is_some, true≢false, arith}
+use Rattle.std.proofs.Common.{◌≡◌, ◌≢◌, ◌⊎◌, ◌==◌, true, false, ◌∙◌, sym, ap, subst, refl, ℕ, zero}
+use Rattle.std.proofs.Common.{suc, ◌+◌, ◌-◌, ◌<◌, ◌≤◌, inl, inr, List, [], ◌∷◌, ◌++◌, length, map}
+use Rattle.std.proofs.Common.{replicate, slice_get, Option, Some, None, IsSome, is_some, true≢false}
+use Rattle.std.proofs.Common.{arith}
 use Rattle.std.specs.List.{range_with_len}
 use Rattle.std.specs.Option.{option_map}
 use Rattle.std.proofs.lemmas.Bool.{ne_eqb, eq-eqb}
@@ -14,7 +17,7 @@ use Rattle.triple_arena_chain.specs.IterChains.{links_along}
 use Rattle.triple_arena_chain.specs.ListLaws.{On-first}
 use Rattle.triple_arena_ord.specs.Ascending.{entries_along}
 use Rattle.route_book.proofs.OptionLemmas.{some_same}
-use Rattle.route_book.proofs.PassedLemmas.{RiseFrom, low_none}
+use Rattle.triple_arena.specs.RiseLaws.{RiseFrom, low_none}
 
 -- ---- successive indexes
 
@@ -34,8 +37,7 @@ split_run [] ys low n is =
     let at : low + 0 ≡ low = omega arith in
     let all : n - 0 ≡ n = omega arith in (
       omega arith,
-      is ∙ ap (λ a. range_with_len a n) (sym at)
-          ∙ ap (range_with_len (low + 0)) (sym all),
+      is ∙ ap (λ a. range_with_len a n) (sym at) ∙ ap (range_with_len (low + 0)) (sym all),
     )
 split_run (x ∷ xs) ys low zero is = absurd (let n = ap length is in omega (arith, n))
 split_run (x ∷ xs) ys low (suc n) is =

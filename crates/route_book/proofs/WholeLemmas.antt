@@ -1,5 +1,7 @@
 -- A whole pack, over what its steps tell.
-use Rattle.std.proofs.Common.{◌≡◌, ◌∙◌, sym, ap, subst, refl, ℕ, zero, suc, ◌+◌, ◌*◌, ◌<◌, ◌≤◌, List, length, map, Option, Some, None, IsSome, is_some, true≢false, arith}
+use Rattle.std.proofs.Common.{◌≡◌, ◌∙◌, sym, ap, subst, refl, ℕ, zero, suc, ◌+◌, ◌*◌, ◌<◌, ◌≤◌}
+use Rattle.std.proofs.Common.{List, length, map, Option, Some, None, IsSome, is_some, true≢false}
+use Rattle.std.proofs.Common.{arith}
 use Rattle.std.specs.Option.{option_map}
 use Rattle.std.specs.List.{range_with_len}
 use Rattle.triple_arena_ptr.specs.Generation.{second_generation}
@@ -17,7 +19,8 @@ use Rattle.route_book.specs.Holds.{IsLive}
 use Rattle.route_book.specs.Book.{IsBook}
 use Rattle.route_book.specs.Removals.{HaveGeneration}
 use Rattle.route_book.specs.Compressed.{IsAllCompressed}
-use Rattle.route_book.specs.Packing.{IsMoved, IsMirrored, IsBooked, StandAs, recast_stop, recast_mark}
+use Rattle.route_book.specs.Packing.{IsMoved, IsMirrored, IsBooked, StandAs, recast_stop}
+use Rattle.route_book.specs.Packing.{recast_mark}
 use Rattle.ticket_book.specs.Mirrors.{Mirror, renewed_entry}
 use Rattle.route_book.proofs.BookPackLemmas.{places_moved, stops_moved, marks_moved}
 use Rattle.route_book.proofs.BookPackLemmas.{places_booked, stops_booked, marks_booked}
@@ -25,7 +28,8 @@ use Rattle.route_book.proofs.BookPackLemmas.{pack_kept, no_dead_stop, no_dead_ma
 use Rattle.route_book.proofs.OptionLemmas.{mapped_some}
 
 -- what ties the parts of a store says its rooms and its last ticket as its state has them
-module _ {I : Type 0} (number : I → ℕ) (rooms : Rooms) (last : ℕ) (s : State) (places : Ordered I Place)
+module _ {I : Type 0} (number : I → ℕ) (rooms : Rooms) (last : ℕ) (s : State)
+    (places : Ordered I Place)
     (stops : Content (IndexLink I StopView)) (marks : Content MarkView) (book : List Entry)
     (b : IsBook number rooms last s places stops marks book) where
   pub of_state : IsBook number s.rooms s.last s places stops marks book
@@ -34,7 +38,8 @@ module _ {I : Type 0} (number : I → ℕ) (rooms : Rooms) (last : ℕ) (s : Sta
       (subst (λ r. IsBook number r last s places stops marks book) (sym b.within.rooms_are) b)
 
   -- and what was changed within them, as the store has them
-  pub in_store : (s' : State) (places' : Ordered I Place) (stops' : Content (IndexLink I StopView)) (marks' : Content MarkView)
+  pub in_store : (s' : State) (places' : Ordered I Place) (stops' : Content (IndexLink I StopView))
+      (marks' : Content MarkView)
       (book' : List Entry) → IsBook number s.rooms s.last s' places' stops' marks' book'
       → IsBook number rooms last s' places' stops' marks' book'
   in_store s' places' stops' marks' book' b' =
@@ -53,18 +58,25 @@ stand_renewed m n o old new each i e is =
     (renewed_entry m n o e, (each i ∙ ap (option_map (renewed_entry m n o)) is, (refl, refl)))
 
 -- the live indexes are from 1 to the room
-fits : {T : Type 0} (at : ℕ → Option (ℕ × T)) (cap room : ℕ) → at 0 ≡ None → ((i : ℕ) → IsSome (at i) → i ≤ cap) → cap ≤ room → (i : ℕ) → IsSome (at i) → (0 < i) × (i ≤ room)
+fits : {T : Type 0} (at : ℕ → Option (ℕ × T)) (cap room : ℕ) → at 0 ≡ None
+    → ((i : ℕ) → IsSome (at i) → i ≤ cap) → cap ≤ room → (i : ℕ) → IsSome (at i)
+    → (0 < i) × (i ≤ room)
 fits at cap room zero_none all up zero some = absurd (true≢false (sym some ∙ ap is_some zero_none))
-fits at cap room zero_none all up (suc i) some = (omega arith, (let a = all (suc i) some in omega (arith, a, up)))
+fits at cap room zero_none all up (suc i) some =
+    (omega arith, (let a = all (suc i) some in omega (arith, a, up)))
 
-below : {T : Type 0} (at : ℕ → Option (ℕ × T)) (cap : ℕ) → ((i : ℕ) → IsSome (at i) → i ≤ cap) → (k : ℕ) → IsSome (at k) → k < cap + 1
+below : {T : Type 0} (at : ℕ → Option (ℕ × T)) (cap : ℕ) → ((i : ℕ) → IsSome (at i) → i ≤ cap)
+    → (k : ℕ) → IsSome (at k) → k < cap + 1
 below at cap all k some = (let a = all k some in omega (arith, a))
 
 -- what a map made of each item under one generation has it
-pub have_all : {T U : Type 0} (g : ℕ) (f : T → U) (old : ℕ → Option (ℕ × T)) (new : ℕ → Option (ℕ × U))
-    → ((k : ℕ) → new k ≡ option_map (λ (e : ℕ × T). (let z : ℕ × U = (g, f e.1) in z)) (old k)) → HaveGeneration g new
+pub have_all : {T U : Type 0} (g : ℕ) (f : T → U) (old : ℕ → Option (ℕ × T))
+    (new : ℕ → Option (ℕ × U))
+    → ((k : ℕ) → new k ≡ option_map (λ (e : ℕ × T). (let z : ℕ × U = (g, f e.1) in z)) (old k))
+    → HaveGeneration g new
 have_all {U = U} g f old new each i h x is =
-    let was = mapped_some (λ e. (let z : ℕ × U = (g, f e.1) in z)) (old i) (h, x) (sym (each i) ∙ is) in
+    let was = mapped_some (λ e. (let z : ℕ × U = (g, f e.1) in z)) (old i) (h, x)
+    (sym (each i) ∙ is) in
     sym (ap (λ (z : ℕ × U). z.0) was.1.1)
 
 -- what was moved has one generation, and what is written in place keeps its own
@@ -80,32 +92,43 @@ written {T} g f old new have writes i h x is =
     (sym (writes i) ∙ is) in
     sym (ap (λ (z : ℕ × T). z.0) was.1.1) ∙ have i was.0.0 was.0.1 was.1.0
 
-module _ {I : Type 0} (number : I → ℕ) (last : Option ℕ) (rooms : Rooms) (given : ℕ) (s : State) (places places' : Ordered I Place)
-    (stops stops1 : Content (IndexLink I StopView)) (marks marks1 : Content MarkView) (book : List Entry) (b : IsBook number rooms given s places stops marks book)
+module _ {I : Type 0} (number : I → ℕ) (last : Option ℕ) (rooms : Rooms) (given : ℕ) (s : State)
+    (places places' : Ordered I Place)
+    (stops stops1 : Content (IndexLink I StopView)) (marks marks1 : Content MarkView)
+    (book : List Entry) (b : IsBook number rooms given s places stops marks book)
     (all : IsAllCompressed number last places places' stops stops1 marks marks1)
-    (law : (o : Ordered I Place) (i : ℕ) → IsOrdered number o → IsSome (entry_in o i) → On (order_in number o) i) where
+    (law : (o : Ordered I Place) (i : ℕ) → IsOrdered number o → IsSome (entry_in o i)
+    → On (order_in number o) i) where
   stand : (i : ℕ) → IsSome (entry_in places i) → On (order_in number places) i
   stand i some = law places i all.was_ordered some
 
   stand' : (i : ℕ) → IsSome (entry_in places' i) → On (order_in number places') i
   stand' i some = law places' i all.ordered some
 
-  pub ready_places : (book' : List Entry) → book' ≡ book → (room : ℕ) → arena_capacity places.chains ≤ room → IsBooked (λ (p : Place). p.ticket) book' (entry_in places') room
+  pub ready_places : (book' : List Entry) → book' ≡ book → (room : ℕ)
+      → arena_capacity places.chains ≤ room
+      → IsBooked (λ (p : Place). p.ticket) book' (entry_in places') room
   ready_places book' same room up =
       subst (λ l. IsBooked (λ (p : Place). p.ticket) l (entry_in places') room) (sym same)
-      (places_booked number last rooms given s places places' stops stops1 stops1 marks marks1 marks1 book b all.laid stand stand' all.was_chained all.canonical all.values all.compressed
+      (places_booked number last rooms given s places places' stops stops1 stops1 marks marks1
+      marks1 book b all.laid stand stand' all.was_chained all.canonical all.values
+      all.compressed
       room (fits (entry_in places) (arena_capacity places.chains) room refl all.place_indexes up))
 
-  pub ready_stops : (book' : List Entry) → book' ≡ book → (room : ℕ) → arena_capacity stops ≤ room → IsBooked (λ (p : StopView). p.ticket) book' (values_in stops1) room
+  pub ready_stops : (book' : List Entry) → book' ≡ book → (room : ℕ) → arena_capacity stops ≤ room
+      → IsBooked (λ (p : StopView). p.ticket) book' (values_in stops1) room
   ready_stops book' same room up =
       subst (λ l. IsBooked (λ (p : StopView). p.ticket) l (values_in stops1) room) (sym same)
-      (stops_booked number last rooms given s places places' stops stops1 stops1 marks marks1 marks1 book b all.laid stand stand' all.was_chained all.canonical all.values all.compressed
+      (stops_booked number last rooms given s places places' stops stops1 stops1 marks marks1 marks1
+      book b all.laid stand stand' all.was_chained all.canonical all.values all.compressed
       room (fits (values_in stops) (arena_capacity stops) room refl all.stop_indexes up))
 
-  pub ready_marks : (book' : List Entry) → book' ≡ book → (room : ℕ) → arena_capacity marks ≤ room → IsBooked (λ (p : MarkView). p.ticket) book' (entry_at marks1) room
+  pub ready_marks : (book' : List Entry) → book' ≡ book → (room : ℕ) → arena_capacity marks ≤ room
+      → IsBooked (λ (p : MarkView). p.ticket) book' (entry_at marks1) room
   ready_marks book' same room up =
       subst (λ l. IsBooked (λ (p : MarkView). p.ticket) l (entry_at marks1) room) (sym same)
-      (marks_booked number last rooms given s places places' stops stops1 stops1 marks marks1 marks1 book b all.laid stand stand' all.was_chained all.canonical all.values all.compressed
+      (marks_booked number last rooms given s places places' stops stops1 stops1 marks marks1 marks1
+      book b all.laid stand stand' all.was_chained all.canonical all.values all.compressed
       room (fits (entry_at marks) (arena_capacity marks) room refl all.mark_indexes up))
 
   pub places_in_order : order_in number places' ≡ range_with_len 1 (length s.places)
@@ -135,66 +158,91 @@ module _ {I : Type 0} (number : I → ℕ) (last : Option ℕ) (rooms : Rooms) (
       (moved_to _ (second_generation last) (entry_at marks) (entry_at marks1)
       (marks_moved last marks marks1 all.values all.compressed)) recast
 
-  pub looks_made : (before between after : ℕ) → between ≡ before + live_count stops1 → after ≡ between + 2 * live_count marks1
+  pub looks_made : (before between after : ℕ) → between ≡ before + live_count stops1
+      → after ≡ between + 2 * live_count marks1
       → after ≡ before + references_in s
   looks_made before between after one two =
-      let n = b.within.stop_count in let o = b.within.mark_count in let p = all.canonical.live in let q = all.compressed.live in
+      let n = b.within.stop_count in let o = b.within.mark_count in let p = all.canonical.live in
+      let q = all.compressed.live in
       omega (arith, one, two, n, o, p, q)
 
-  module _ (stops' : Content (IndexLink I StopView)) (marks' : Content MarkView) (m n o : Mirror) (book1 book2 book3 : List Entry)
+  module _ (stops' : Content (IndexLink I StopView)) (marks' : Content MarkView) (m n o : Mirror)
+      (book1 book2 book3 : List Entry)
       (same1 : book1 ≡ book) (same2 : book2 ≡ book) (same3 : book3 ≡ book)
-      (mirrored_p : (low : ℕ) → ((k : ℕ) → IsSome (entry_in places' k) → k < low) → IsMirrored (λ (p : Place). p.ticket) book1 (entry_in places') low m)
-      (mirrored_s : (low : ℕ) → ((k : ℕ) → IsSome (values_in stops1 k) → k < low) → IsMirrored (λ (p : StopView). p.ticket) book2 (values_in stops1) low n)
-      (mirrored_m : (low : ℕ) → ((k : ℕ) → IsSome (entry_at marks1 k) → k < low) → IsMirrored (λ (p : MarkView). p.ticket) book3 (entry_at marks1) low o)
-      (recast_s : (k : ℕ) → values_in stops' k ≡ option_map (λ e. (e.0, recast_stop m e.1)) (values_in stops1 k))
-      (recast_m : (k : ℕ) → entry_at marks' k ≡ option_map (λ e. (e.0, recast_mark m n e.1)) (entry_at marks1 k))
+      (mirrored_p : (low : ℕ) → ((k : ℕ) → IsSome (entry_in places' k) → k < low)
+      → IsMirrored (λ (p : Place). p.ticket) book1 (entry_in places') low m)
+      (mirrored_s : (low : ℕ) → ((k : ℕ) → IsSome (values_in stops1 k) → k < low)
+      → IsMirrored (λ (p : StopView). p.ticket) book2 (values_in stops1) low n)
+      (mirrored_m : (low : ℕ) → ((k : ℕ) → IsSome (entry_at marks1 k) → k < low)
+      → IsMirrored (λ (p : MarkView). p.ticket) book3 (entry_at marks1) low o)
+      (recast_s : (k : ℕ) → values_in stops' k
+      ≡ option_map (λ e. (e.0, recast_stop m e.1)) (values_in stops1 k))
+      (recast_m : (k : ℕ) → entry_at marks' k
+      ≡ option_map (λ e. (e.0, recast_mark m n e.1)) (entry_at marks1 k))
       (ends : (k : ℕ) → ends_in number stops' k ≡ ends_in number stops1 k)
-      (stops_counter : stops'.counter ≡ stops1.counter) (stops_live : live_count stops' ≡ live_count stops1) (stops_room : stops'.room ≡ stops1.room)
-      (marks_live : live_count marks' ≡ live_count marks1) (marks_room : marks'.room ≡ marks1.room) where
-    low_p : ℕ
-    low_p = arena_capacity places'.chains + 1
+      (stops_counter : stops'.counter ≡ stops1.counter)
+      (stops_live : live_count stops' ≡ live_count stops1)
+      (stops_room : stops'.room ≡ stops1.room)
+      (marks_live : live_count marks' ≡ live_count marks1) (marks_room : marks'.room ≡ marks1.room)
+    where
+      low_p : ℕ
+      low_p = arena_capacity places'.chains + 1
 
-    low_s : ℕ
-    low_s = arena_capacity stops1 + 1
+      low_s : ℕ
+      low_s = arena_capacity stops1 + 1
 
-    low_m : ℕ
-    low_m = arena_capacity marks1 + 1
+      low_m : ℕ
+      low_m = arena_capacity marks1 + 1
 
-    all_p : (k : ℕ) → IsSome (entry_in places' k) → k < low_p
-    unfolding low_p
-    all_p = below (entry_in places') (arena_capacity places'.chains) all.place_bound
+      all_p : (k : ℕ) → IsSome (entry_in places' k) → k < low_p
+      unfolding low_p
+      all_p = below (entry_in places') (arena_capacity places'.chains) all.place_bound
 
-    all_s : (k : ℕ) → IsSome (values_in stops1 k) → k < low_s
-    unfolding low_s
-    all_s = below (values_in stops1) (arena_capacity stops1) all.stop_bound
+      all_s : (k : ℕ) → IsSome (values_in stops1 k) → k < low_s
+      unfolding low_s
+      all_s = below (values_in stops1) (arena_capacity stops1) all.stop_bound
 
-    all_m : (k : ℕ) → IsSome (entry_at marks1 k) → k < low_m
-    unfolding low_m
-    all_m = below (entry_at marks1) (arena_capacity marks1) all.mark_bound
+      all_m : (k : ℕ) → IsSome (entry_at marks1 k) → k < low_m
+      unfolding low_m
+      all_m = below (entry_at marks1) (arena_capacity marks1) all.mark_bound
 
-    in_p : IsMirrored (λ (p : Place). p.ticket) book (entry_in places') low_p m
-    in_p = subst (λ l. IsMirrored (λ (p : Place). p.ticket) l (entry_in places') low_p m) same1 (mirrored_p low_p all_p)
+      in_p : IsMirrored (λ (p : Place). p.ticket) book (entry_in places') low_p m
+      in_p = subst (λ l. IsMirrored (λ (p : Place). p.ticket) l (entry_in places') low_p m) same1
+          (mirrored_p low_p all_p)
 
-    in_s : IsMirrored (λ (p : StopView). p.ticket) book (values_in stops1) low_s n
-    in_s = subst (λ l. IsMirrored (λ (p : StopView). p.ticket) l (values_in stops1) low_s n) same2 (mirrored_s low_s all_s)
+      in_s : IsMirrored (λ (p : StopView). p.ticket) book (values_in stops1) low_s n
+      in_s = subst (λ l. IsMirrored (λ (p : StopView). p.ticket) l (values_in stops1) low_s n) same2
+          (mirrored_s low_s all_s)
 
-    in_m : IsMirrored (λ (p : MarkView). p.ticket) book (entry_at marks1) low_m o
-    in_m = subst (λ l. IsMirrored (λ (p : MarkView). p.ticket) l (entry_at marks1) low_m o) same3 (mirrored_m low_m all_m)
+      in_m : IsMirrored (λ (p : MarkView). p.ticket) book (entry_at marks1) low_m o
+      in_m = subst (λ l. IsMirrored (λ (p : MarkView). p.ticket) l (entry_at marks1) low_m o) same3
+          (mirrored_m low_m all_m)
 
-    pub whole_kept : IsBook number rooms given s places' stops' marks' (map (renewed_entry m n o) book)
-    whole_kept =
-        pack_kept number last rooms given s places places' stops stops1 stops' marks marks1 marks' book b all.laid stand stand' all.was_chained all.canonical all.values all.compressed
-        m n o low_p low_s low_m in_p all_p in_s all_s in_m all_m recast_s recast_m ends stops_counter stops_live stops_room marks_live marks_room
+      pub whole_kept : IsBook number rooms given s places' stops' marks'
+          (map (renewed_entry m n o) book)
+      whole_kept =
+          pack_kept number last rooms given s places places' stops stops1 stops' marks marks1 marks'
+          book b all.laid stand stand' all.was_chained all.canonical all.values all.compressed
+          m n o low_p low_s low_m in_p all_p in_s all_s in_m all_m recast_s recast_m ends
+          stops_counter stops_live stops_room marks_live marks_room
 
-    pub whole_stops : (k h : ℕ) (v : StopView) → values_in stops' k ≡ Some (h, v) → IsLive (entry_in places') v.place
-    whole_stops =
-        no_dead_stop number last rooms given s places places' stops stops1 stops' marks marks1 marks' book b all.laid stand stand' all.was_chained all.canonical all.values all.compressed
-        m n o low_p low_s low_m in_p all_p in_s all_s in_m all_m recast_s recast_m ends stops_counter stops_live stops_room marks_live marks_room
+      pub whole_stops : (k h : ℕ) (v : StopView) → values_in stops' k ≡ Some (h, v)
+          → IsLive (entry_in places') v.place
+      whole_stops =
+          no_dead_stop number last rooms given s places places' stops stops1 stops' marks marks1
+          marks' book b all.laid stand stand' all.was_chained all.canonical all.values
+          all.compressed
+          m n o low_p low_s low_m in_p all_p in_s all_s in_m all_m recast_s recast_m ends
+          stops_counter stops_live stops_room marks_live marks_room
 
-    pub whole_marks : (k h : ℕ) (v : MarkView) → entry_at marks' k ≡ Some (h, v) → IsLive (entry_in places') v.place × IsLive (values_in stops') v.stop
-    whole_marks =
-        no_dead_mark number last rooms given s places places' stops stops1 stops' marks marks1 marks' book b all.laid stand stand' all.was_chained all.canonical all.values all.compressed
-        m n o low_p low_s low_m in_p all_p in_s all_s in_m all_m recast_s recast_m ends stops_counter stops_live stops_room marks_live marks_room
+      pub whole_marks : (k h : ℕ) (v : MarkView) → entry_at marks' k ≡ Some (h, v)
+          → IsLive (entry_in places') v.place × IsLive (values_in stops') v.stop
+      whole_marks =
+          no_dead_mark number last rooms given s places places' stops stops1 stops' marks marks1
+          marks' book b all.laid stand stand' all.was_chained all.canonical all.values
+          all.compressed
+          m n o low_p low_s low_m in_p all_p in_s all_s in_m all_m recast_s recast_m ends
+          stops_counter stops_live stops_room marks_live marks_room
 
-    pub whole_stop_counter : stops'.counter ≡ second_generation last
-    whole_stop_counter = stops_counter ∙ all.canonical.counter
+      pub whole_stop_counter : stops'.counter ≡ second_generation last
+      whole_stop_counter = stops_counter ∙ all.canonical.counter

@@ -1,14 +1,17 @@
 -- How the arenas and the ticket book stand for a state. What pointers find are plain functions
 -- here: no arena, slot or tree.
-use Rattle.std.specs.Prelude.{◌≡◌, ◌⊎◌, ℕ, ◌<◌, ◌≤◌, List, [], ◌∷◌, Option, Some, None, Ok, IsSome, IfSome}
+use Rattle.std.specs.Prelude.{◌≡◌, ◌⊎◌, ℕ, ◌<◌, ◌≤◌, List, [], ◌∷◌, Option, Some, None, Ok, IsSome}
+use Rattle.std.specs.Prelude.{IfSome}
 use Rattle.std.specs.Option.{option_map}
 use Rattle.triple_arena.specs.Entries.{value_if}
 use Rattle.triple_arena_chain.specs.Chains.{Ends}
 use Rattle.ticket_book.specs.declared.entry.Kind.{Kind}
-use Rattle.ticket_book.specs.declared.entry.Kind.TheVariants.{Place as OfPlace, Stop as OfStop, Mark as OfMark}
+use Rattle.ticket_book.specs.declared.entry.Kind.TheVariants.{Place as OfPlace, Stop as OfStop}
+use Rattle.ticket_book.specs.declared.entry.Kind.TheVariants.{Mark as OfMark}
 use Rattle.ticket_book.specs.Tickets.{Entry, lookup}
 use Rattle.route_lines.specs.Routes.{next_stop}
-use Rattle.route_lines.specs.State.{State, Place, Stop, Mark, Item, place, stop, mark, holder, place_of, stop_of, mark_of}
+use Rattle.route_lines.specs.State.{State, Place, Stop, Mark, Item, place, stop, mark, holder}
+use Rattle.route_lines.specs.State.{place_of, stop_of, mark_of}
 use Rattle.route_book.specs.Follows.{LeadAs}
 use Rattle.route_book.specs.Item.{StopView, MarkView}
 

@@ -1,6 +1,7 @@
 -- What becomes of a store that is moved to other pointers, stacks and rooms. Each item has the
 -- index there that a pack gives it.
-use Rattle.std.specs.Prelude.{◌≡◌, ◌||◌, ℕ, ◌+◌, Bool, Option, Some, None, if◌then◌else◌, min, nat_lt, length}
+use Rattle.std.specs.Prelude.{◌≡◌, ◌||◌, ℕ, ◌+◌, Bool, Option, Some, None, if◌then◌else◌, min}
+use Rattle.std.specs.Prelude.{nat_lt, length}
 use Rattle.std.specs.Option.{option_or}
 use Rattle.triple_arena_ptr.specs.Generation.{second_generation}
 use Rattle.triple_arena_stack.specs.Room.{Room}

@@ -8,7 +8,8 @@ use Rattle.triple_arena_chain.specs.CanonicalLayout.{IsLaidOut}
 use Rattle.triple_arena_chain.specs.Links.{ends_in, values_in}
 use Rattle.triple_arena_ord.specs.Ordered.{entry_in, order_in}
 use Rattle.ticket_book.specs.declared.entry.Kind.{Kind}
-use Rattle.ticket_book.specs.declared.entry.Kind.TheVariants.{Place as OfPlace, Stop as OfStop, Mark as OfMark}
+use Rattle.ticket_book.specs.declared.entry.Kind.TheVariants.{Place as OfPlace, Stop as OfStop}
+use Rattle.ticket_book.specs.declared.entry.Kind.TheVariants.{Mark as OfMark}
 use Rattle.route_lines.specs.Searches.{references_in}
 use Rattle.route_lines.specs.State.{Place, Item, place, stop, mark, holder}
 use Rattle.route_lines.specs.Calls.{after_removed}

@@ -1,6 +1,6 @@
 //! The store, and what its calls share.
 ghost use Rattle.std.specs.Prelude.{◌≡◌, ℕ, ◌+◌, ◌≤◌, Some, Ok, Err, IfOk, IfErr, length};
-ghost use Rattle.counted_search.specs.Searches.{most_comparisons};
+ghost use Rattle.rank_tree.specs.Comparisons.{most_comparisons};
 ghost use Rattle.triple_arena.specs.Content.{entry_at, live_count};
 ghost use Rattle.triple_arena.specs.Entries.{value_if};
 ghost use Rattle.triple_arena_chain.specs.Links.{ends_in, values_in};
@@ -9,7 +9,8 @@ ghost use Rattle.route_lines.specs.Calls.{place_holder, stop_holder};
 ghost use Rattle.route_lines.specs.Routes.{next_stop};
 ghost use Rattle.route_lines.specs.Searches.{living_count};
 ghost use Rattle.route_lines.specs.Sound.{IsSound};
-ghost use Rattle.route_lines.specs.State.{Place as PlaceView, holder, is_full_of_places, mark_of, stop_list, stop_of};
+ghost use Rattle.route_lines.specs.State.{Place as PlaceView, holder, is_full_of_places, mark_of};
+ghost use Rattle.route_lines.specs.State.{stop_list, stop_of};
 ghost use Rattle.route_book.specs.Book.{found_of, in_order};
 ghost use Rattle.route_book.specs.Follows.{AreRoutes, LeadAs};
 ghost use Rattle.route_book.specs.Holds.{IsItem, state_mark, state_stop};

@@ -1,6 +1,8 @@
 //! The program over a store: its arguments, its exit status, and what it tells.
-ghost use Rattle.std.specs.Prelude.{◌≡◌, ◌<◌, ◌≤◌, ◌+◌, ◌-◌, ◌^◌, ◌↔◌, ◌⊎◌, ℕ, Some, None, Err, IfSome, IfOk, IfErr, IsErr, IsNone, codes, map, string_bytes};
-ghost use Rattle.route_lines.specs.CommandLine.{Answers, AnswersWholeLines, BeginsToAnswer, Tells, refusal_of, refused_line, room_sum, rooms_of};
+ghost use Rattle.std.specs.Prelude.{◌≡◌, ◌<◌, ◌≤◌, ◌+◌, ◌-◌, ◌^◌, ◌↔◌, ◌⊎◌, ℕ, Some, None, Err};
+ghost use Rattle.std.specs.Prelude.{IfSome, IfOk, IfErr, IsErr, IsNone, codes, map, string_bytes};
+ghost use Rattle.route_lines.specs.CommandLine.{Answers, AnswersWholeLines, BeginsToAnswer, Tells};
+ghost use Rattle.route_lines.specs.CommandLine.{refusal_of, refused_line, room_sum, rooms_of};
 ghost use Rattle.route_book.specs.Rooms.{refusal_of as refusal_over};
 ghost use Rattle.route_lines.specs.State.{Rooms, empty};
 ghost use Rattle.route_lines.specs.declared.refusal.RoomError.{RoomError as Refused};
@@ -56,15 +58,17 @@ pub fn program<R: Read, W: Write, E: Write>(
     // A read failed and every whole line that was read is answered. Or a write failed: the replies
     // are written up to a line whose reply is cut short, or all of them are, and the flush failed.
     ensures fault { result ≡ 1 → IfSome (rooms_of (map string_bytes args.now)) (λ rooms.
-        (AnswersWholeLines rooms (R.remaining (inner_of input.old)) (R.remaining (inner_of input.new))
-        (W.contents (inner_of output.old)) (W.contents (inner_of output.new))
+        (AnswersWholeLines rooms (R.remaining (inner_of input.old))
+        (R.remaining (inner_of input.new)) (W.contents (inner_of output.old))
+        (W.contents (inner_of output.new))
         × ((failed_of input.new ≡ failed_of input.old + 1)
         ⊎ (calls_of input.new ≡ calls_of input.old + (2 ^ 64 - 1)))
         × (failed_of output.new ≡ failed_of output.old)
         × Tells (failed_of errors.old) (failed_of errors.new) (E.contents (inner_of errors.old))
         (E.contents (inner_of errors.new)) (codes "read failed"))
-        ⊎ (BeginsToAnswer rooms (R.remaining (inner_of input.old)) (R.remaining (inner_of input.new))
-        (W.contents (inner_of output.old)) (W.contents (inner_of output.new))
+        ⊎ (BeginsToAnswer rooms (R.remaining (inner_of input.old))
+        (R.remaining (inner_of input.new)) (W.contents (inner_of output.old))
+        (W.contents (inner_of output.new))
         × (failed_of output.new ≡ failed_of output.old + 1)
         × (failed_of input.new ≡ failed_of input.old)
         × Tells (failed_of errors.old) (failed_of errors.new) (E.contents (inner_of errors.old))

@@ -1,8 +1,9 @@
 //! The places in their arena: one more where its key belongs, another word for one, and the places
 //! beside one.
-ghost use Rattle.std.specs.Prelude.{◌≡◌, ◌+◌, ◌<◌, ◌≤◌, ◌++◌, ◌∷◌, ℕ, List, Some, None, IsSome, find, nat_le, reverse};
+ghost use Rattle.std.specs.Prelude.{◌≡◌, ◌+◌, ◌<◌, ◌≤◌, ◌++◌, ◌∷◌, ℕ, List, Some, None, IsSome};
+ghost use Rattle.std.specs.Prelude.{find, nat_le, reverse};
 ghost use Rattle.std.specs.Option.{option_map};
-ghost use Rattle.counted_search.specs.Searches.{most_comparisons};
+ghost use Rattle.rank_tree.specs.Comparisons.{most_comparisons};
 ghost use Rattle.triple_arena.specs.Content.{arena_capacity};
 ghost use Rattle.triple_arena.specs.Entries.{value_if};
 ghost use Rattle.triple_arena_ord.specs.Found.{IsSimilar};

@@ -1,5 +1,6 @@
 //! An input, answered line by line.
-ghost use Rattle.std.specs.Prelude.{◌≡◌, ◌⊎◌, ℕ, ◌+◌, ◌-◌, ◌<◌, ◌++◌, ◌^◌, List, [], IfErr, OnOk, OnErr, map};
+ghost use Rattle.std.specs.Prelude.{◌≡◌, ◌⊎◌, ℕ, ◌+◌, ◌-◌, ◌<◌, ◌++◌, ◌^◌, List, [], IfErr, OnOk};
+ghost use Rattle.std.specs.Prelude.{OnErr, map};
 ghost use Rattle.std.specs.Io.KnownBytes.{Consumes, IsAtEnd};
 ghost use Rattle.route_lines.specs.Run.{Carries, OnRead, OnWrite, OnTooLong, StopsWithin};
 ghost use Rattle.route_lines.specs.Text.{lines, unended_line, whole, whole_lines};

@@ -2,7 +2,8 @@
 //! standard input.
 #![tactic(auto)]
 
-ghost use Rattle.std.specs.Prelude.{◌≡◌, ◌≢◌, ◌≤◌, ◌^◌, ◌↔◌, IfErr, IfOk, IfSome, IsNone, map, string_bytes, vec_items};
+ghost use Rattle.std.specs.Prelude.{◌≡◌, ◌≢◌, ◌≤◌, ◌^◌, ◌↔◌, IfErr, IfOk, IfSome, IsNone, map};
+ghost use Rattle.std.specs.Prelude.{string_bytes, vec_items};
 ghost use Rattle.std.specs.IoError.{error_kind};
 ghost use Rattle.std.specs.Process.{exit_status};
 ghost use Rattle.route_book.specs.CommandLine.{room_sum, rooms_of};

@@ -1,6 +1,4 @@
 pub mod AlongLemmas
-pub mod CommandLineLemmas
-pub mod CutLemmas
 pub mod EndedLemmas
 pub mod FirstPlaceLemmas
 pub mod GoneLemmas
@@ -19,15 +17,13 @@ pub mod RelinkLemmas
 pub mod RemovedLemmas
 pub mod ReplyLemmas
 pub mod RouteLemmas
-pub mod RunLemmas
 pub mod SameRoutesLemmas
 pub mod SoundLemmas
+pub mod NumberedLemmas
 pub mod StayLemmas
 pub mod SweepLemmas
 pub mod TakenOutLemmas
 pub mod TicketLemmas
 pub mod UndoLemmas
-pub mod UnfinishedLemmas
 pub mod WalkLemmas
 pub mod WordLemmas
-pub mod WrittenLemmas

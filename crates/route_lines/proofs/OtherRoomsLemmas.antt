@@ -1,11 +1,19 @@
 -- Lines that are answered in other rooms: as in these ones, if they are `full` in neither.
-use Rattle.std.proofs.Common.{◌≡◌, ◌≢◌, ◌∙◌, sym, ap, subst, refl, Bool, true, false, ◌++◌, ◌∷◌, ℕ, List, [], Option, Some, None, Result, Ok, Err, append_assoc}
-use Rattle.route_lines.specs.Calls.{after_place, after_removed, and_then, extended, joined, marked, next_ticket, parted, place_holder, placed, placed_near, started, stop_holder, swapped, unless_refused}
+use Rattle.std.proofs.Common.{◌≡◌, ◌≢◌, ◌∙◌, sym, ap, subst, refl, Bool, true, false, ◌++◌, ◌∷◌, ℕ}
+use Rattle.std.proofs.Common.{List, [], Option, Some, None, Result, Ok, Err, append_assoc}
+use Rattle.route_lines.specs.Calls.{after_place, after_removed, and_then, extended, joined, marked}
+use Rattle.route_lines.specs.Calls.{next_ticket, parted, place_holder, placed, placed_near, started}
+use Rattle.route_lines.specs.Calls.{stop_holder, swapped, unless_refused}
 use Rattle.route_lines.specs.Reply.{ended, next, refusal_line, reply, ticket_line}
-use Rattle.route_lines.specs.State.{Item, Place, Rooms, State, holder, in_rooms, is_full_of_marks, is_full_of_places, is_full_of_stops, place, stop, mark}
+use Rattle.route_lines.specs.State.{Item, Place, Rooms, State, holder, in_rooms, is_full_of_marks}
+use Rattle.route_lines.specs.State.{is_full_of_places, is_full_of_stops, place, stop, mark}
 use Rattle.route_lines.specs.Text.{Line, NoneFull, after_lines, command_in, replies}
 use Rattle.route_lines.specs.declared.command.Command.{Command}
-use Rattle.route_lines.specs.declared.command.Command.TheVariants.{Place as PlaceLine, Word, Show, Find, Floor, After, Before, All, Remove, Start, Extend, Join, Cut, Swap, Walk, Mark as MarkLine, Pack}
+use Rattle.route_lines.specs.declared.command.Command.TheVariants.{Place as PlaceLine, Word, Show}
+use Rattle.route_lines.specs.declared.command.Command.TheVariants.{Find, Floor, After, Before, All}
+use Rattle.route_lines.specs.declared.command.Command.TheVariants.{Remove, Start, Extend, Join, Cut}
+use Rattle.route_lines.specs.declared.command.Command.TheVariants.{Swap, Walk, Mark as MarkLine}
+use Rattle.route_lines.specs.declared.command.Command.TheVariants.{Pack}
 use Rattle.route_lines.specs.declared.refusal.Refusal.{Refusal}
 use Rattle.route_lines.specs.declared.refusal.Refusal.TheVariants.{Full}
 

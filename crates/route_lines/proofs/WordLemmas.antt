@@ -1,5 +1,6 @@
 -- What `IsWord` says, part by part.
-use Rattle.std.proofs.Common.{◌≡◌, ℕ, ◌<◌, ◌≤◌, ◌&&◌, true, List, [], ◌∷◌, length, nat_le, refl, decimal, arith}
+use Rattle.std.proofs.Common.{◌≡◌, ℕ, ◌<◌, ◌≤◌, ◌&&◌, true, List, [], ◌∷◌, length, nat_le, refl}
+use Rattle.std.proofs.Common.{decimal, arith}
 use Rattle.std.proofs.lemmas.Bool.Decides.{nat_tests}
 use Rattle.std.proofs.lemmas.List.Elements.{All-from_get_or}
 use Rattle.std.proofs.lemmas.List.Sums.{AllPass-from_list_all}
@@ -21,7 +22,8 @@ pub record WordParts (word : List ℕ) : Type 0 where
 
 pub word_parts : (word : List ℕ) → IsWord word → WordParts word
 word_parts word is =
-    let outer = both (nat_le 1 (length word) && nat_le (length word) 16) (list_all is_word_byte word) is in
+    let outer = both (nat_le 1 (length word) && nat_le (length word) 16)
+    (list_all is_word_byte word) is in
     let inner = both (nat_le 1 (length word)) (nat_le (length word) 16) outer.0 in
     record { bytes = outer.1; short = grind (arith, nat_tests); some = grind (arith, nat_tests) }
 
@@ -29,7 +31,10 @@ word_parts word is =
 pub IsUtf8-word : (word : List ℕ) → IsWord word → IsUtf8 word
 IsUtf8-word word is =
     let bytes = AllPass-from_list_all is_word_byte word (word_parts word is).bytes in
-    IsUtf8-from_ascii word (IsAscii-from_all word (All-from_get_or (λ b. b < 128) word 0 (λ k within. let byte = bytes k 0 within in grind (arith, nat_tests))))
+    IsUtf8-from_ascii word
+    (IsAscii-from_all word
+    (All-from_get_or (λ b. b < 128) word 0
+    (λ k within. let byte = bytes k 0 within in grind (arith, nat_tests))))
 
 -- the digits of a number may stand in a word
 word_bytes-from_digits : (ds : List ℕ) → AllDigits 10 ds → list_all is_word_byte ds ≡ true

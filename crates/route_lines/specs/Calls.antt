@@ -1,12 +1,18 @@
 -- What each call on a store answers, and the state after it.
-use Rattle.std.specs.Prelude.{ℕ, ◌+◌, ◌==◌, ◌&&◌, ◌∷◌, ◌++◌, Bool, List, [], Option, None, Some, Result, Ok, Err, if◌then◌else◌, nat_lt, nat_le, map, filter, not, find, reverse, is_some, is_none}
+use Rattle.std.specs.Prelude.{ℕ, ◌+◌, ◌==◌, ◌&&◌, ◌∷◌, ◌++◌, Bool, List, [], Option, None, Some}
+use Rattle.std.specs.Prelude.{Result, Ok, Err, if◌then◌else◌, nat_lt, nat_le, map, filter, not}
+use Rattle.std.specs.Prelude.{find, reverse, is_some, is_none}
 use Rattle.std.specs.Option.{option_map}
 use Rattle.std.specs.Borrow.{Bor}
 use Rattle.route_lines.specs.Cuts.{before, behind, first_item, last_item}
-use Rattle.route_lines.specs.Routes.{linear, next_stop, previous_stop, put_behind, linked, unlinked, taken_out, exchanged, walk_from}
-use Rattle.route_lines.specs.State.{State, Place, Stop, Route, Mark, Item, place, stop, mark, with_key, holder, is_full_of_places, is_full_of_stops, is_full_of_marks}
+use Rattle.route_lines.specs.Routes.{linear, next_stop, previous_stop, put_behind, linked, unlinked}
+use Rattle.route_lines.specs.Routes.{taken_out, exchanged, walk_from}
+use Rattle.route_lines.specs.State.{State, Place, Stop, Route, Mark, Item, place, stop, mark}
+use Rattle.route_lines.specs.State.{with_key, holder, is_full_of_places, is_full_of_stops}
+use Rattle.route_lines.specs.State.{is_full_of_marks}
 use Rattle.route_lines.specs.declared.shown.Shown.{Shown}
-use Rattle.route_lines.specs.declared.shown.Shown.TheVariants.{Place as ShownPlace, Stop as ShownStop, Mark as ShownMark}
+use Rattle.route_lines.specs.declared.shown.Shown.TheVariants.{Place as ShownPlace}
+use Rattle.route_lines.specs.declared.shown.Shown.TheVariants.{Stop as ShownStop, Mark as ShownMark}
 use Rattle.route_lines.specs.declared.refusal.Refusal.{Refusal}
 use Rattle.route_lines.specs.declared.refusal.Refusal.TheVariants.{Kind, No, Full}
 

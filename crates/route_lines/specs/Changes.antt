@@ -1,8 +1,11 @@
 -- What a change makes of a state.
 use Rattle.route_lines.specs.State.{State, empty, in_rooms}
-use Rattle.route_lines.specs.Calls.{after_place, after_word, after_start, after_extend, after_join, after_cut, after_swap, after_mark, after_removed}
+use Rattle.route_lines.specs.Calls.{after_place, after_word, after_start, after_extend, after_join}
+use Rattle.route_lines.specs.Calls.{after_cut, after_swap, after_mark, after_removed}
 use Rattle.route_lines.specs.declared.change.Change.{Change}
-use Rattle.route_lines.specs.declared.change.Change.TheVariants.{Open, Place, Word, Start, Extend, Join, Cut, Swap, Mark, Remove, Move}
+use Rattle.route_lines.specs.declared.change.Change.TheVariants.{Open, Place, Word, Start, Extend}
+use Rattle.route_lines.specs.declared.change.Change.TheVariants.{Join, Cut, Swap, Mark, Remove}
+use Rattle.route_lines.specs.declared.change.Change.TheVariants.{Move}
 
 abbrev pub changed : State → Change → State
 changed s (Open places stops marks last)

@@ -1,5 +1,6 @@
 -- What the program's arguments ask for, and what it has done when it ends.
-use Rattle.std.specs.Prelude.{◌≡◌, ◌⊎◌, ℕ, ◌+◌, ◌^◌, ◌∷◌, List, [], Option, None, codes, map, nat_le, option_and_then, if◌then◌else◌}
+use Rattle.std.specs.Prelude.{◌≡◌, ◌⊎◌, ℕ, ◌+◌, ◌^◌, ◌∷◌, List, [], Option, None, codes, map}
+use Rattle.std.specs.Prelude.{nat_le, option_and_then, if◌then◌else◌}
 use Rattle.std.specs.Option.{option_map}
 use Rattle.std.specs.Io.KnownBytes.{Appends, Consumes, IsAtEnd}
 use Rattle.route_lines.specs.Number.{number_of}
@@ -9,7 +10,8 @@ use Rattle.route_lines.specs.State.{State, Rooms, empty}
 use Rattle.route_lines.specs.Text.{whole, whole_lines, replies, text}
 use Rattle.route_lines.specs.declared.counts.Counts.{Counts}
 use Rattle.route_lines.specs.declared.refusal.RoomError.{RoomError}
-use Rattle.route_lines.specs.declared.refusal.RoomError.TheVariants.{Generation, Index, Stack, Memory, TooSmall}
+use Rattle.route_lines.specs.declared.refusal.RoomError.TheVariants.{Generation, Index, Stack}
+use Rattle.route_lines.specs.declared.refusal.RoomError.TheVariants.{Memory, TooSmall}
 
 -- three numbers: the rooms of places, stops and marks
 abbrev pub rooms_of : List (List ℕ) → Option Rooms

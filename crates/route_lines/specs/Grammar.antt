@@ -1,11 +1,15 @@
 -- Which line spells which command. A line is given without its LF.
-use Rattle.std.specs.Prelude.{◌≡◌, ℕ, ◌==◌, ◌&&◌, ◌++◌, List, [], ◌∷◌, Option, Some, None, option_map, option_and_then, codes, decimal, if◌then◌else◌}
+use Rattle.std.specs.Prelude.{◌≡◌, ℕ, ◌==◌, ◌&&◌, ◌++◌, List, [], ◌∷◌, Option, Some, None}
+use Rattle.std.specs.Prelude.{option_map, option_and_then, codes, decimal, if◌then◌else◌}
 use Rattle.std.specs.List.{slice_split}
 use Rattle.std.specs.Str.{bytes_eq}
 use Rattle.route_lines.specs.Number.{IsNumber, number_of}
 use Rattle.route_lines.specs.Word.{IsWord, word_of}
 use Rattle.route_lines.specs.declared.command.Command.{Command}
-use Rattle.route_lines.specs.declared.command.Command.TheVariants.{Place, Word, Show, Find, Floor, After, Before, All, Remove, Start, Extend, Join, Cut, Swap, Walk, Mark, Pack}
+use Rattle.route_lines.specs.declared.command.Command.TheVariants.{Place, Word, Show, Find, Floor}
+use Rattle.route_lines.specs.declared.command.Command.TheVariants.{After, Before, All, Remove}
+use Rattle.route_lines.specs.declared.command.Command.TheVariants.{Start, Extend, Join, Cut, Swap}
+use Rattle.route_lines.specs.declared.command.Command.TheVariants.{Walk, Mark, Pack}
 
 -- the line is these bytes and then a number, or a number, a space and a number: in decimal digits
 -- without leading zeros

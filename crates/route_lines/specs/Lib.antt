@@ -18,3 +18,10 @@ pub mod Unfinished
 pub mod Watched
 pub mod Word
 pub mod Written
+pub mod CallLaws
+pub mod CutLaws
+pub mod NamedLaws
+pub mod CommandLineLaws
+pub mod RunLaws
+pub mod UnfinishedLaws
+pub mod WrittenLaws

@@ -1,11 +1,20 @@
 -- The text that answers a command, and the state after it. Each reply line ends with an LF.
-use Rattle.std.specs.Prelude.{ℕ, ◌++◌, ◌∷◌, List, [], Option, None, Some, Result, Ok, Err, codes, decimal, flat_map}
+use Rattle.std.specs.Prelude.{ℕ, ◌++◌, ◌∷◌, List, [], Option, None, Some, Result, Ok, Err, codes}
+use Rattle.std.specs.Prelude.{decimal, flat_map}
 use Rattle.route_lines.specs.State.{State, Place, Stop}
-use Rattle.route_lines.specs.Calls.{placed, after_place, placed_near, after_place_near, worded, after_word, shown, found, floor_of, place_after, place_before, started, after_start, extended, after_extend, joined, after_join, parted, after_cut, swapped, after_swap, walked, marked, after_mark, removed, after_removed}
+use Rattle.route_lines.specs.Calls.{placed, after_place, placed_near, after_place_near, worded}
+use Rattle.route_lines.specs.Calls.{after_word, shown, found, floor_of, place_after, place_before}
+use Rattle.route_lines.specs.Calls.{started, after_start, extended, after_extend, joined}
+use Rattle.route_lines.specs.Calls.{after_join, parted, after_cut, swapped, after_swap, walked}
+use Rattle.route_lines.specs.Calls.{marked, after_mark, removed, after_removed}
 use Rattle.route_lines.specs.declared.command.Command.{Command}
-use Rattle.route_lines.specs.declared.command.Command.TheVariants.{Place as PlaceLine, Word, Show, Find, Floor, After, Before, All, Remove, Start, Extend, Join, Cut, Swap, Walk, Mark, Pack}
+use Rattle.route_lines.specs.declared.command.Command.TheVariants.{Place as PlaceLine, Word, Show}
+use Rattle.route_lines.specs.declared.command.Command.TheVariants.{Find, Floor, After, Before, All}
+use Rattle.route_lines.specs.declared.command.Command.TheVariants.{Remove, Start, Extend, Join, Cut}
+use Rattle.route_lines.specs.declared.command.Command.TheVariants.{Swap, Walk, Mark, Pack}
 use Rattle.route_lines.specs.declared.shown.Shown.{Shown}
-use Rattle.route_lines.specs.declared.shown.Shown.TheVariants.{Place as ShownPlace, Stop as ShownStop, Mark as ShownMark}
+use Rattle.route_lines.specs.declared.shown.Shown.TheVariants.{Place as ShownPlace}
+use Rattle.route_lines.specs.declared.shown.Shown.TheVariants.{Stop as ShownStop, Mark as ShownMark}
 use Rattle.route_lines.specs.declared.refusal.Refusal.{Refusal}
 use Rattle.route_lines.specs.declared.refusal.Refusal.TheVariants.{Unknown, Gone, Kind, No, Full}
 

@@ -1,6 +1,8 @@
 -- The routes of a state: which stop follows which, and what is made of routes as stops are put in,
 -- joined and cut apart.
-use Rattle.std.specs.Prelude.{ℕ, ◌==◌, ◌∷◌, ◌++◌, Bool, true, false, List, [], Option, Some, None, if◌then◌else◌, nat_lt, min, length, map, find, filter, not, reverse, option_and_then}
+use Rattle.std.specs.Prelude.{ℕ, ◌==◌, ◌∷◌, ◌++◌, Bool, true, false, List, [], Option, Some, None}
+use Rattle.std.specs.Prelude.{if◌then◌else◌, nat_lt, min, length, map, find, filter, not, reverse}
+use Rattle.std.specs.Prelude.{option_and_then}
 use Rattle.std.specs.List.{list_any}
 use Rattle.std.specs.Option.{option_map, option_or, option_map_or}
 use Rattle.route_lines.specs.Cuts.{before, onward, up_to, behind, first_item, last_item}

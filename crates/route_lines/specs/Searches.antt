@@ -2,7 +2,7 @@
 use Rattle.std.specs.Prelude.{◌≡◌, ℕ, suc, ◌+◌, ◌-◌, ◌*◌, ◌≤◌, ◌==◌, ◌&&◌, ◌||◌}
 use Rattle.std.specs.Prelude.{Bool, List, [], ◌∷◌, Option, Some, None, Result, Ok, Err}
 use Rattle.std.specs.Prelude.{if◌then◌else◌, length, nat_lt}
-use Rattle.counted_search.specs.Searches.{most_comparisons}
+use Rattle.rank_tree.specs.Comparisons.{most_comparisons}
 use Rattle.route_lines.specs.Calls.{placed_near}
 use Rattle.route_lines.specs.State.{State, Place as Spot, stop_list}
 use Rattle.route_lines.specs.declared.command.Command.{Command}

@@ -1,12 +1,16 @@
 -- What every state of a store keeps.
-use Rattle.std.specs.Prelude.{◌≡◌, ◌==◌, ℕ, ◌+◌, ◌<◌, ◌≤◌, Bool, true, List, [], ◌∷◌, IfSome, if◌then◌else◌, length}
+use Rattle.std.specs.Prelude.{◌≡◌, ◌==◌, ℕ, ◌+◌, ◌<◌, ◌≤◌, Bool, true, List, [], ◌∷◌, IfSome}
+use Rattle.std.specs.Prelude.{if◌then◌else◌, length}
 use Rattle.std.specs.List.{AllByRecursion}
 use Rattle.route_lines.specs.Number.{IsNumber}
 use Rattle.route_lines.specs.Routes.{has_ticket, first_ticket}
 use Rattle.route_lines.specs.State.{State, Place, Route, Mark, stop_list}
 use Rattle.route_lines.specs.Word.{IsWord}
 use Rattle.route_lines.specs.declared.change.Change.{Change}
-use Rattle.route_lines.specs.declared.change.Change.TheVariants.{Open, Place as PlaceChange, Word as WordChange, Start, Extend, Join, Cut, Swap, Mark as MarkChange, Remove, Move}
+use Rattle.route_lines.specs.declared.change.Change.TheVariants.{Open, Place as PlaceChange}
+use Rattle.route_lines.specs.declared.change.Change.TheVariants.{Word as WordChange, Start, Extend}
+use Rattle.route_lines.specs.declared.change.Change.TheVariants.{Join, Cut, Swap}
+use Rattle.route_lines.specs.declared.change.Change.TheVariants.{Mark as MarkChange, Remove, Move}
 
 -- a place stands before another: by its key, or under the same key by its ticket
 pub record IsBefore (p q : Place) : Type 0 where

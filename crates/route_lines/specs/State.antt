@@ -1,5 +1,6 @@
 -- What a store holds: plain lists under tickets. No pointer, no slot, no order of memory.
-use Rattle.std.specs.Prelude.{ℕ, ◌==◌, ◌||◌, Bool, List, [], Option, Result, Err, if◌then◌else◌, nat_lt, nat_le, find, flat_map, length}
+use Rattle.std.specs.Prelude.{ℕ, ◌==◌, ◌||◌, Bool, List, [], Option, Result, Err, if◌then◌else◌}
+use Rattle.std.specs.Prelude.{nat_lt, nat_le, find, flat_map, length}
 use Rattle.std.specs.Option.{option_map, option_or, ok_or}
 use Rattle.route_lines.specs.declared.refusal.Refusal.{Refusal}
 use Rattle.route_lines.specs.declared.refusal.Refusal.TheVariants.{Unknown, Gone}

@@ -1,5 +1,6 @@
 -- The lines of an input, the text that answers them, and the state after them.
-use Rattle.std.specs.Prelude.{ℕ, ◌≢◌, ◌++◌, ◌==◌, ◌∷◌, Bool, true, false, List, [], Option, Some, None, codes, map}
+use Rattle.std.specs.Prelude.{ℕ, ◌≢◌, ◌++◌, ◌==◌, ◌∷◌, Bool, true, false, List, [], Option, Some}
+use Rattle.std.specs.Prelude.{None, codes, map}
 use Rattle.std.specs.List.{AllByRecursion, slice_split}
 use Rattle.route_lines.specs.State.{State}
 use Rattle.route_lines.specs.Grammar.{command_of}

@@ -1,5 +1,6 @@
 -- Lines as they come in pieces.
-use Rattle.std.specs.Prelude.{◌≡◌, ℕ, ◌<◌, ◌==◌, ◌++◌, ◌∷◌, true, false, List, [], Option, All, flat_map, length, map}
+use Rattle.std.specs.Prelude.{◌≡◌, ℕ, ◌<◌, ◌==◌, ◌++◌, ◌∷◌, true, false, List, [], Option, All}
+use Rattle.std.specs.Prelude.{flat_map, length, map}
 use Rattle.std.specs.List.{AllByRecursion}
 use Rattle.route_lines.specs.State.{State}
 use Rattle.route_lines.specs.Reply.{ended}

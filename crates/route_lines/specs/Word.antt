@@ -1,5 +1,6 @@
 -- What a word is.
-use Rattle.std.specs.Prelude.{ℕ, ◌||◌, ◌&&◌, Bool, IsTrue, List, length, nat_le, Option, Some, None, if◌then◌else◌}
+use Rattle.std.specs.Prelude.{ℕ, ◌||◌, ◌&&◌, Bool, IsTrue, List, length, nat_le, Option, Some, None}
+use Rattle.std.specs.Prelude.{if◌then◌else◌}
 use Rattle.std.specs.List.{list_all}
 
 -- a byte of `a` to `z` or `0` to `9`

@@ -11,13 +11,13 @@ mod routes;
 mod states;
 
 pub use calls::{new_tickets_come_next, refused_calls_change_nothing};
-pub use counted_search::laws::the_bound_is_the_greatest;
 pub use grammar::{
     commands_have_one_line, lines_have_one_command, spellings_are_found, spellings_are_short_lines,
 };
 pub use looks::sweeps;
 pub use moves::moves_change_no_reply;
 pub use places::{finds_answer_the_smallest_ticket, hints_change_no_reply};
+pub use rank_tree::laws::the_bound_is_the_greatest;
 pub use removals::{
     removed_marks_leave_all_else, removed_places_leave_no_reference,
     removed_stops_join_their_neighbors, removed_tickets_are_gone,

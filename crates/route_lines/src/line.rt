@@ -1,6 +1,9 @@
 //! Lines and the commands that they spell.
 ghost use Rattle.route_lines.specs.declared.command.Command.{Command};
-ghost use Rattle.route_lines.specs.Grammar.{Spells, command_of, command_of_fields, command_of_number, command_of_numbers, command_of_one_field, command_of_two_fields, command_of_three_fields, command_of_five_fields};
+ghost use Rattle.route_lines.specs.Grammar.{Spells, command_of, command_of_fields};
+ghost use Rattle.route_lines.specs.Grammar.{command_of_number, command_of_numbers};
+ghost use Rattle.route_lines.specs.Grammar.{command_of_one_field, command_of_two_fields};
+ghost use Rattle.route_lines.specs.Grammar.{command_of_three_fields, command_of_five_fields};
 ghost use Rattle.std.specs.Prelude.{◌≡◌, IfNone, IfSome};
 
 mod fields;

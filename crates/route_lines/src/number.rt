@@ -1,7 +1,8 @@
 //! Numbers as a line writes them.
 ghost use Rattle.route_lines.specs.Number.{IsNumber, number_of};
 ghost use Rattle.std.specs.Char.{digit_value};
-ghost use Rattle.std.specs.Prelude.{◌≡◌, ◌+◌, ◌*◌, ◌^◌, ◌<◌, ◌↔◌, ℕ, IfNone, IfSome, IsTrue, SomeIff, decimal, length, slice_index};
+ghost use Rattle.std.specs.Prelude.{◌≡◌, ◌+◌, ◌*◌, ◌^◌, ◌<◌, ◌↔◌, ℕ, IfNone, IfSome, IsTrue};
+ghost use Rattle.std.specs.Prelude.{SomeIff, decimal, length, slice_index};
 
 /// The number that the bytes write in decimal digits without leading zeros; `None` exactly if they
 /// write none below 2^64.

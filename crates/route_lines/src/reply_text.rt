@@ -1,6 +1,9 @@
 //! The text of a reply, gathered before it is written.
-ghost use Rattle.std.specs.Prelude.{◌≡◌, ℕ, ◌+◌, ◌≤◌, ◌++◌, ◌↔◌, [], ◌∷◌, IsTrue, length, codes, decimal};
-ghost use Rattle.route_lines.specs.Reply.{ended, refusal_line, reference_text, old_line, shown_line, found_line, ticket_line, done_line, neighbor_line, place_line, stop_line};
+ghost use Rattle.std.specs.Prelude.{◌≡◌, ℕ, ◌+◌, ◌≤◌, ◌++◌, ◌↔◌, [], ◌∷◌, IsTrue, length, codes};
+ghost use Rattle.std.specs.Prelude.{decimal};
+ghost use Rattle.route_lines.specs.Reply.{ended, refusal_line, reference_text, old_line};
+ghost use Rattle.route_lines.specs.Reply.{shown_line, found_line, ticket_line, done_line};
+ghost use Rattle.route_lines.specs.Reply.{neighbor_line, place_line, stop_line};
 ghost use Rattle.route_lines.specs.ReplyText.{HasRoom};
 
 use crate::refusal::Refusal;

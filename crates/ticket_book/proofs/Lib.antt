@@ -4,4 +4,3 @@ mod LookLemmas
 pub mod StandingLemmas
 pub mod TakeOverLemmas
 pub mod TicketLemmas
-pub mod WalkLemmas

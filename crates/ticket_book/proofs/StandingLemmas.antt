@@ -1,5 +1,6 @@
 -- The entry that stands at an index is the one that the arena has there.
-use Rattle.std.proofs.Common.{◌≡◌, ◌==◌, ◌∙◌, sym, ap, subst, refl, true, false, ℕ, List, [], ◌∷◌, ◌++◌, find, map, Option, Some, None, IsSome, option_map, inl, inr}
+use Rattle.std.proofs.Common.{◌≡◌, ◌==◌, ◌∙◌, sym, ap, subst, refl, true, false, ℕ, List, [], ◌∷◌}
+use Rattle.std.proofs.Common.{◌++◌, find, map, Option, Some, None, IsSome, option_map, inl, inr}
 use Rattle.std.proofs.lemmas.Bool.{eq-eqb, ne_eqb}
 use Rattle.std.proofs.lemmas.Bool.Decides.{eqb_tells}
 use Rattle.triple_arena_chain.specs.Chains.{On}
@@ -21,11 +22,13 @@ module _ (at : ℕ → Option (ℕ × Entry)) where
   found_here : (i : ℕ) (w : List ℕ) (e : ℕ × Entry) → at i ≡ Some e → found i (i ∷ w) ≡ Some e.1
   found_here i w e is = rw (is, eq-eqb i i refl) refl
 
-  found_later : (i j : ℕ) (w : List ℕ) (e : ℕ × Entry) → at j ≡ Some e → (j ≡ i → ⊥) → found i (j ∷ w) ≡ found i w
+  found_later : (i j : ℕ) (w : List ℕ) (e : ℕ × Entry) → at j ≡ Some e → (j ≡ i → ⊥)
+      → found i (j ∷ w) ≡ found i w
   found_later i j w e is other = rw (is, ne_eqb j i other) refl
 
   -- an index of the list
-  found_on : (front : List ℕ) (i : ℕ) (back : List ℕ) (e : ℕ × Entry) → at i ≡ Some e → found i (front ++ i ∷ back) ≡ Some e.1
+  found_on : (front : List ℕ) (i : ℕ) (back : List ℕ) (e : ℕ × Entry) → at i ≡ Some e
+      → found i (front ++ i ∷ back) ≡ Some e.1
   found_on [] i back e is = found_here i back e is
   found_on (j ∷ front) i back e is = by (at j) refl (found_on front i back e is)
     where
@@ -34,7 +37,8 @@ module _ (at : ℕ → Option (ℕ × Entry)) where
       by None there rest = found_none i j (front ++ i ∷ back) there ∙ rest
       by (Some d) there rest = elim (eqb_tells j i) [
         | inl same ↦ rw same.1 (found_here i (front ++ i ∷ back) e is)
-        | inr other ↦ found_later i j (front ++ i ∷ back) d there (λ s. (let no : false ≡ true = sym other.0 ∙ eq-eqb j i s in absurd (cc))) ∙ rest
+        | inr other ↦ found_later i j (front ++ i ∷ back) d there
+            (λ s. (let no : false ≡ true = sym other.0 ∙ eq-eqb j i s in absurd (cc))) ∙ rest
       ]
 
   -- one at which nothing stands
@@ -46,32 +50,39 @@ module _ (at : ℕ → Option (ℕ × Entry)) where
       by None there rest = found_none i j w there ∙ rest
       by (Some d) there rest =
           found_later i j w d there
-          (λ same. (let no : ◌≡◌ {A = Option (ℕ × Entry)} (Some d) None = sym there ∙ ap at same ∙ none in absurd (cc))) ∙ rest
+          (λ same. (let no : ◌≡◌ {A = Option (ℕ × Entry)} (Some d) None = sym there ∙ ap at same
+          ∙ none in absurd (cc))) ∙ rest
 
 -- what stands at an index, where a look finds no entry, or one
 pub none_stands : {A : Type 0} (f : A → ℕ × Entry) (answer : Option A) (there : Option (ℕ × Entry))
-    → option_map f answer ≡ there → answer ≡ None → IsSome (option_map (λ (e : ℕ × Entry). e.1) there) → ⊥
+    → option_map f answer ≡ there → answer ≡ None
+    → IsSome (option_map (λ (e : ℕ × Entry). e.1) there) → ⊥
 none_stands f answer there same none some =
     let nothing : there ≡ None = sym same ∙ ap (option_map f) none in
-    absurd (let no : false ≡ true = subst (λ o. IsSome (option_map (λ (e : ℕ × Entry). e.1) o)) nothing some in cc)
+    absurd (let no : false ≡ true =
+    subst (λ o. IsSome (option_map (λ (e : ℕ × Entry). e.1) o)) nothing some in cc)
 
 -- each entry renewed where it stands
 pub stands_renewed : (f : Entry → Entry) (old new : Option (ℕ × Entry))
     → new ≡ option_map {U = ℕ × Entry} (λ e. (e.0, f e.1)) old
-    → option_map (λ (e : ℕ × Entry). e.1) new ≡ option_map f (option_map (λ (e : ℕ × Entry). e.1) old)
+    → option_map (λ (e : ℕ × Entry). e.1) new
+    ≡ option_map f (option_map (λ (e : ℕ × Entry). e.1) old)
 stands_renewed f None new is = ap (option_map (λ (e : ℕ × Entry). e.1)) is
 stands_renewed f (Some e) new is = ap (option_map (λ (e : ℕ × Entry). e.1)) is
 
 module _ {I : Type 0} (number : I → ℕ) (o : Ordered I Entry)
     (on : (i : ℕ) → IsSome (entry_in o i) → On (order_in number o) i) where
   pub stands_there : (i : ℕ)
-      → option_map (λ (x : ℕ × Entry). x.1) (find (λ (x : ℕ × Entry). x.0 == i) (standing_in number o))
+      → option_map (λ (x : ℕ × Entry). x.1)
+      (find (λ (x : ℕ × Entry). x.0 == i) (standing_in number o))
       ≡ option_map (λ (e : ℕ × Entry). e.1) (entry_in o i)
   stands_there i = by (entry_in o i) refl
     where
       by : (e : Option (ℕ × Entry)) → entry_in o i ≡ e
-          → found (entry_in o) i (order_in number o) ≡ option_map (λ (e : ℕ × Entry). e.1) (entry_in o i)
-      by None is = found_nowhere (entry_in o) i (order_in number o) is ∙ sym (ap (option_map (λ (e : ℕ × Entry). e.1)) is)
+          → found (entry_in o) i (order_in number o)
+          ≡ option_map (λ (e : ℕ × Entry). e.1) (entry_in o i)
+      by None is = found_nowhere (entry_in o) i (order_in number o) is
+          ∙ sym (ap (option_map (λ (e : ℕ × Entry). e.1)) is)
       by (Some e) is =
           let there = on i (rw is refl) in
           ap (found (entry_in o) i) there.is ∙ found_on (entry_in o) there.front i there.back e is

@@ -1,5 +1,7 @@
 -- Tickets that rise, and the entries along the list of an arena.
-use Rattle.std.proofs.Common.{◌≡◌, ◌≢◌, ◌∙◌, sym, ap, subst, refl, Bool, true, false, ℕ, zero, suc, ◌+◌, ◌<◌, List, [], ◌∷◌, ◌++◌, map, Option, Some, None, IsSome, option_map, arith, append_assoc}
+use Rattle.std.proofs.Common.{◌≡◌, ◌≢◌, ◌∙◌, sym, ap, subst, refl, Bool, true, false, ℕ, zero, suc}
+use Rattle.std.proofs.Common.{◌+◌, ◌<◌, List, [], ◌∷◌, ◌++◌, map, Option, Some, None, IsSome}
+use Rattle.std.proofs.Common.{option_map, arith, append_assoc}
 use Rattle.std.specs.List.{AllByRecursion}
 use Rattle.std.specs.List.Sorted.{IsSorted}
 use Rattle.std.specs.Cmp.{ranked, nat_cmp_is}
@@ -17,7 +19,8 @@ use Rattle.triple_arena_ord.specs.NodeShape.{IndexNode}
 use Rattle.triple_arena_ord.specs.Ascending.{entries_along}
 use Rattle.triple_arena_ord.specs.Found.{Answers}
 use Rattle.triple_arena_ord.specs.Inserted.{IsAdded, StandsAt}
-use Rattle.triple_arena_ord.specs.Ordered.{Ordered, IsOrdered, StandsBeside, entry_in, order_in, asked_of, asked_at}
+use Rattle.triple_arena_ord.specs.Ordered.{Ordered, IsOrdered, StandsBeside, entry_in, order_in}
+use Rattle.triple_arena_ord.specs.Ordered.{asked_of, asked_at}
 use Rattle.ticket_book.specs.InArena.{entries_of}
 use Rattle.ticket_book.specs.Tickets.{Entry, TicketsRise, lookup}
 
@@ -27,30 +30,38 @@ some_same x y e = cc
 -- ---- a list of entries
 
 -- an entry is found under its ticket
-lookup_at : (front back : List Entry) (e : Entry) → TicketsRise (front ++ e ∷ back) → lookup (front ++ e ∷ back) e.ticket ≡ Some e
+lookup_at : (front back : List Entry) (e : Entry) → TicketsRise (front ++ e ∷ back)
+    → lookup (front ++ e ∷ back) e.ticket ≡ Some e
 lookup_at [] back e rise = rw (eq-eqb e.ticket e.ticket refl) refl
 lookup_at (a ∷ front) back e rise =
     let less = below front rise.0 in
-    rw (ne_eqb a.ticket e.ticket (λ same. omega (arith, same, less))) (lookup_at front back e rise.1)
+    rw (ne_eqb a.ticket e.ticket (λ same. omega (arith, same, less)))
+    (lookup_at front back e rise.1)
   where
-    below : (xs : List Entry) → AllByRecursion (λ (f : Entry). a.ticket < f.ticket) (xs ++ e ∷ back) → a.ticket < e.ticket
+    below : (xs : List Entry) → AllByRecursion (λ (f : Entry). a.ticket < f.ticket) (xs ++ e ∷ back)
+        → a.ticket < e.ticket
     below [] all = all.0
     below (x ∷ xs) all = below xs all.1
 
 -- a ticket above all others goes behind them
-pub TicketsRise-added : (entries : List Entry) (e : Entry) → TicketsRise entries → AllByRecursion (λ (f : Entry). f.ticket < e.ticket) entries → TicketsRise (entries ++ e ∷ [])
+pub TicketsRise-added : (entries : List Entry) (e : Entry) → TicketsRise entries
+    → AllByRecursion (λ (f : Entry). f.ticket < e.ticket) entries → TicketsRise (entries ++ e ∷ [])
 TicketsRise-added [] e rise above = (tt, tt)
-TicketsRise-added (a ∷ entries) e rise above = (joined entries rise.0, TicketsRise-added entries e rise.1 above.1)
+TicketsRise-added (a ∷ entries) e rise above =
+    (joined entries rise.0, TicketsRise-added entries e rise.1 above.1)
   where
-    joined : (xs : List Entry) → AllByRecursion (λ (f : Entry). a.ticket < f.ticket) xs → AllByRecursion (λ (f : Entry). a.ticket < f.ticket) (xs ++ e ∷ [])
+    joined : (xs : List Entry) → AllByRecursion (λ (f : Entry). a.ticket < f.ticket) xs
+        → AllByRecursion (λ (f : Entry). a.ticket < f.ticket) (xs ++ e ∷ [])
     joined [] all = (above.0, tt)
     joined (x ∷ xs) all = (all.0, joined xs all.1)
 
 -- tickets that rise ascend
-pub ascending : (l : List (ℕ × (ℕ × Entry))) → TicketsRise (map (λ x. x.1.1) l) → IsSorted (λ (x y : ℕ × (ℕ × Entry)). nat_cmp x.1.1.ticket y.1.1.ticket) l
+pub ascending : (l : List (ℕ × (ℕ × Entry))) → TicketsRise (map (λ x. x.1.1) l)
+    → IsSorted (λ (x y : ℕ × (ℕ × Entry)). nat_cmp x.1.1.ticket y.1.1.ticket) l
 ascending [] rise k d low high = absurd (omega (arith, high))
 ascending (x ∷ []) rise k d low high = absurd (omega (arith, high))
-ascending (x ∷ y ∷ l) rise zero d low high = ap is_lt (sym (nat_cmp_is y.1.1.ticket x.1.1.ticket Greater rise.0.0))
+ascending (x ∷ y ∷ l) rise zero d low high =
+    ap is_lt (sym (nat_cmp_is y.1.1.ticket x.1.1.ticket Greater rise.0.0))
 ascending (x ∷ y ∷ l) rise (suc k) d low high =
     let next : suc k + 1 ≡ suc (k + 1) = omega arith in
     rw next (ascending (y ∷ l) rise.1 k d (omega arith) (omega (arith, high)))
@@ -60,52 +71,72 @@ ascending (x ∷ y ∷ l) rise (suc k) d low high =
 abbrev pub along : (ℕ → Option (ℕ × Entry)) → List ℕ → List Entry
 along at w = map (λ x. x.1.1) (entries_along at w)
 
-pub along_some : (at : ℕ → Option (ℕ × Entry)) (i : ℕ) (w : List ℕ) (e : ℕ × Entry) → at i ≡ Some e → along at (i ∷ w) ≡ e.1 ∷ along at w
+pub along_some : (at : ℕ → Option (ℕ × Entry)) (i : ℕ) (w : List ℕ) (e : ℕ × Entry) → at i ≡ Some e
+    → along at (i ∷ w) ≡ e.1 ∷ along at w
 along_some at i w e is = rw is refl
 
-pub along_none : (at : ℕ → Option (ℕ × Entry)) (i : ℕ) (w : List ℕ) → at i ≡ None → along at (i ∷ w) ≡ along at w
+pub along_none : (at : ℕ → Option (ℕ × Entry)) (i : ℕ) (w : List ℕ) → at i ≡ None
+    → along at (i ∷ w) ≡ along at w
 along_none at i w is = rw is refl
 
-pub along-append : (at : ℕ → Option (ℕ × Entry)) (v w : List ℕ) → along at (v ++ w) ≡ along at v ++ along at w
+pub along-append : (at : ℕ → Option (ℕ × Entry)) (v w : List ℕ)
+    → along at (v ++ w) ≡ along at v ++ along at w
 along-append at [] w = refl
 along-append at (i ∷ v) w = by (at i) refl (along-append at v w)
   where
-    by : (o : Option (ℕ × Entry)) → at i ≡ o → along at (v ++ w) ≡ along at v ++ along at w → along at (i ∷ (v ++ w)) ≡ along at (i ∷ v) ++ along at w
-    by None is rest = along_none at i (v ++ w) is ∙ rest ∙ ap (λ l. l ++ along at w) (sym (along_none at i v is))
-    by (Some e) is rest = along_some at i (v ++ w) e is ∙ ap (λ l. e.1 ∷ l) rest ∙ ap (λ l. l ++ along at w) (sym (along_some at i v e is))
+    by : (o : Option (ℕ × Entry)) → at i ≡ o → along at (v ++ w) ≡ along at v ++ along at w
+        → along at (i ∷ (v ++ w)) ≡ along at (i ∷ v) ++ along at w
+    by None is rest = along_none at i (v ++ w) is ∙ rest
+        ∙ ap (λ l. l ++ along at w) (sym (along_none at i v is))
+    by (Some e) is rest = along_some at i (v ++ w) e is ∙ ap (λ l. e.1 ∷ l) rest
+        ∙ ap (λ l. l ++ along at w) (sym (along_some at i v e is))
 
 -- no entry compares as equal: none is found
-none_along : (at : ℕ → Option (ℕ × Entry)) (t : ℕ) → ((i : ℕ) → IsSome (at i) → asked_of nat_cmp (λ (e : Entry). e.ticket) t (at i) ≢ Equal) → (w : List ℕ) → lookup (along at w) t ≡ None
+none_along : (at : ℕ → Option (ℕ × Entry)) (t : ℕ)
+    → ((i : ℕ) → IsSome (at i) → asked_of nat_cmp (λ (e : Entry). e.ticket) t (at i) ≢ Equal)
+    → (w : List ℕ) → lookup (along at w) t ≡ None
 none_along at t other [] = refl
 none_along at t other (i ∷ w) = by (at i) refl (other i) (none_along at t other w)
   where
-    by : (o : Option (ℕ × Entry)) → at i ≡ o → (IsSome (at i) → asked_of nat_cmp (λ (e : Entry). e.ticket) t (at i) ≢ Equal) → lookup (along at w) t ≡ None → lookup (along at (i ∷ w)) t ≡ None
+    by : (o : Option (ℕ × Entry)) → at i ≡ o
+        → (IsSome (at i) → asked_of nat_cmp (λ (e : Entry). e.ticket) t (at i) ≢ Equal)
+        → lookup (along at w) t ≡ None → lookup (along at (i ∷ w)) t ≡ None
     by None is differs rest = ap (λ l. lookup l t) (along_none at i w is) ∙ rest
     by (Some e) is differs rest =
-        let apart : e.1.ticket ≢ t = λ same. differs (rw is refl) (rw is (sym (nat_cmp_is t e.1.ticket Equal (sym same)))) in
+        let apart : e.1.ticket ≢ t =
+        λ same. differs (rw is refl) (rw is (sym (nat_cmp_is t e.1.ticket Equal (sym same)))) in
         ap (λ l. lookup l t) (along_some at i w e is) ∙ rw (ne_eqb e.1.ticket t apart) rest
 
 -- an entry more leaves those along a list of live indexes
-along_with : (at at' : ℕ → Option (ℕ × Entry)) (i : ℕ) (x : ℕ × Entry) → at i ≡ None → ((k : ℕ) → at' k ≡ with_entry at i x k) → (w : List ℕ) → AllIn (λ j. IsSome (at j)) w → along at' w ≡ along at w
+along_with : (at at' : ℕ → Option (ℕ × Entry)) (i : ℕ) (x : ℕ × Entry) → at i ≡ None
+    → ((k : ℕ) → at' k ≡ with_entry at i x k) → (w : List ℕ) → AllIn (λ j. IsSome (at j)) w
+    → along at' w ≡ along at w
 along_with at at' i x vacant entries [] all = refl
-along_with at at' i x vacant entries (j ∷ w) all = by (at j) refl all.0 (along_with at at' i x vacant entries w all.1)
+along_with at at' i x vacant entries (j ∷ w) all =
+    by (at j) refl all.0 (along_with at at' i x vacant entries w all.1)
   where
-    by : (o : Option (ℕ × Entry)) → at j ≡ o → IsSome (at j) → along at' w ≡ along at w → along at' (j ∷ w) ≡ along at (j ∷ w)
+    by : (o : Option (ℕ × Entry)) → at j ≡ o → IsSome (at j) → along at' w ≡ along at w
+        → along at' (j ∷ w) ≡ along at (j ∷ w)
     by None is some rest = absurd (let no : ◌≡◌ {A = Bool} false true = subst IsSome is some in cc)
     by (Some e) is some rest =
-        let other : j ≢ i = λ same. (let no : None ≡ Some e = sym vacant ∙ sym (ap at same) ∙ is in cc) in
+        let other : j ≢ i = λ same. (let no : None ≡ Some e = sym vacant ∙ sym (ap at same)
+        ∙ is in cc) in
         let there : at' j ≡ Some e = entries j ∙ rw (ne_eqb j i other) is in
         along_some at' j w e there ∙ ap (λ l. e.1 ∷ l) rest ∙ sym (along_some at j w e is)
 
 -- ---- the list of an arena
 
 module _ (ends : ℕ → Option Ends) where
-  stands_at : (b : Option ℕ) (xs : List ℕ) (h : ℕ) (after : List ℕ) → Stands ends b (xs ++ h ∷ after) None → (prev : Option ℕ) × (ends h ≡ Some (prev, first_or after None))
+  stands_at : (b : Option ℕ) (xs : List ℕ) (h : ℕ) (after : List ℕ)
+      → Stands ends b (xs ++ h ∷ after) None
+      → (prev : Option ℕ) × (ends h ≡ Some (prev, first_or after None))
   stands_at b [] h after stands = (b, stands.0)
   stands_at b (x ∷ xs) h after stands = stands_at (Some x) xs h after stands.1
 
-  last_stands : (b : Option ℕ) (x : ℕ) (xs : List ℕ) (h : ℕ) → Stands ends b (x ∷ xs) None → last_or (Some x) xs ≡ Some h → (prev : Option ℕ) × (ends h ≡ Some (prev, None))
-  last_stands b x [] h stands is = (b, subst (λ k. ends k ≡ Some (b, None)) (some_same x h is) stands.0)
+  last_stands : (b : Option ℕ) (x : ℕ) (xs : List ℕ) (h : ℕ) → Stands ends b (x ∷ xs) None
+      → last_or (Some x) xs ≡ Some h → (prev : Option ℕ) × (ends h ≡ Some (prev, None))
+  last_stands b x [] h stands is =
+      (b, subst (λ k. ends k ≡ Some (b, None)) (some_same x h is) stands.0)
   last_stands b x (y ∷ xs) h stands is = last_stands (Some x) y xs h stands.1 is
 
   no_first : (after : List ℕ) → first_or after None ≡ None → after ≡ []
@@ -113,28 +144,37 @@ module _ (ends : ℕ → Option Ends) where
   no_first (a ∷ after) none = absurd (let no : Some a ≡ None = none in cc)
 
   -- nothing follows the last of a list
-  none_behind : (xs : List ℕ) (h : ℕ) (after : List ℕ) → Stands ends None (xs ++ h ∷ after) None → last_or None (xs ++ h ∷ after) ≡ Some h → after ≡ []
+  none_behind : (xs : List ℕ) (h : ℕ) (after : List ℕ) → Stands ends None (xs ++ h ∷ after) None
+      → last_or None (xs ++ h ∷ after) ≡ Some h → after ≡ []
   none_behind xs h after stands last =
       let one = stands_at None xs h after stands in
       let other = ended xs stands last in
       no_first after (ap next_in (sym one.1 ∙ other.1))
     where
-      ended : (xs : List ℕ) → Stands ends None (xs ++ h ∷ after) None → last_or None (xs ++ h ∷ after) ≡ Some h → (prev : Option ℕ) × (ends h ≡ Some (prev, None))
+      ended : (xs : List ℕ) → Stands ends None (xs ++ h ∷ after) None
+          → last_or None (xs ++ h ∷ after) ≡ Some h
+          → (prev : Option ℕ) × (ends h ≡ Some (prev, None))
       ended [] stands last = last_stands None h after h stands last
       ended (x ∷ xs) stands last = last_stands None x (xs ++ h ∷ after) h stands last
 
 module _ {I : Type 0} (number : I → ℕ) where
   -- each index of the list is live
-  live_along : (o : Ordered I Entry) (b : Option ℕ) (w : List ℕ) → Stands (ends_in number o.chains) b w None → AllIn (λ j. IsSome (entry_in o j)) w
+  live_along : (o : Ordered I Entry) (b : Option ℕ) (w : List ℕ)
+      → Stands (ends_in number o.chains) b w None → AllIn (λ j. IsSome (entry_in o j)) w
   live_along o b [] stands = tt
-  live_along o b (j ∷ w) stands = (live (entry_at o.chains j) refl stands.0, live_along o (Some j) w stands.1)
+  live_along o b (j ∷ w) stands =
+      (live (entry_at o.chains j) refl stands.0, live_along o (Some j) w stands.1)
     where
-      live : (c : Option (ℕ × IndexLink I (IndexNode I Entry))) → entry_at o.chains j ≡ c → ends_in number o.chains j ≡ Some (b, first_or w None) → IsSome (entry_in o j)
-      live None is ends = absurd (let no : ◌≡◌ {A = Option Ends} None (Some (b, first_or w None)) = sym (rw is refl) ∙ ends in cc)
+      live : (c : Option (ℕ × IndexLink I (IndexNode I Entry))) → entry_at o.chains j ≡ c
+          → ends_in number o.chains j ≡ Some (b, first_or w None) → IsSome (entry_in o j)
+      live None is ends = absurd
+          (let no : ◌≡◌ {A = Option Ends} None (Some (b, first_or w None)) = sym (rw is refl)
+          ∙ ends in cc)
       live (Some c) is ends = rw is refl
 
   -- an entry of the arena is found under its ticket
-  pub lookup_standing : (o : Ordered I Entry) (i : ℕ) (e : ℕ × Entry) → TicketsRise (entries_of number o)
+  pub lookup_standing : (o : Ordered I Entry) (i : ℕ) (e : ℕ × Entry)
+      → TicketsRise (entries_of number o)
       → ((k : ℕ) → IsSome (entry_in o k) → On (order_in number o) k) → entry_in o i ≡ Some e
       → lookup (entries_of number o) e.1.ticket ≡ Some e.1
   lookup_standing o i e rise on is =
@@ -148,11 +188,13 @@ module _ {I : Type 0} (number : I → ℕ) where
 
   -- a search that found an entry
   pub lookup_found : {P : Type 0} (index generation : P → ℕ) (o : Ordered I Entry) (t : ℕ) (p : P)
-      → TicketsRise (entries_of number o) → ((i : ℕ) → IsSome (entry_in o i) → On (order_in number o) i)
+      → TicketsRise (entries_of number o)
+      → ((i : ℕ) → IsSome (entry_in o i) → On (order_in number o) i)
       → Answers index generation (asked_at nat_cmp (λ (e : Entry). e.ticket) t o) o p Equal
       → (e : Entry) × ((option_map (λ (x : ℕ × Entry). x.1) (entry_in o (index p)) ≡ Some e)
       × (lookup (entries_of number o) t ≡ Some e))
-  lookup_found index generation o t p rise on answers = by (entry_in o (index p)) refl answers.live answers.way
+  lookup_found index generation o t p rise on answers =
+      by (entry_in o (index p)) refl answers.live answers.way
     where
       at : ℕ → Option (ℕ × Entry)
       at = entry_in o
@@ -162,7 +204,9 @@ module _ {I : Type 0} (number : I → ℕ) where
           → asked_of nat_cmp (λ (e : Entry). e.ticket) t (at (index p)) ≡ Equal
           → (e : Entry) × ((option_map (λ (x : ℕ × Entry). x.1) (at (index p)) ≡ Some e)
           × (lookup (entries_of number o) t ≡ Some e))
-      by None is live way = absurd (let no : ◌≡◌ {A = Option ℕ} None (Some (generation p)) = sym (rw is refl) ∙ live in cc)
+      by None is live way =
+          absurd (let no : ◌≡◌ {A = Option ℕ} None (Some (generation p)) = sym (rw is refl)
+          ∙ live in cc)
       by (Some e) is live way =
           let way_there : nat_cmp t e.1.ticket ≡ Equal = sym (rw is refl) ∙ way in
           let same : t ≡ e.1.ticket = ranked t e.1.ticket Equal (sym way_there) in (
@@ -174,32 +218,45 @@ module _ {I : Type 0} (number : I → ℕ) where
           )
 
   -- a search that found none
-  pub lookup_missing : (o : Ordered I Entry) (t : ℕ) → ((i : ℕ) → IsSome (entry_in o i) → asked_at nat_cmp (λ (e : Entry). e.ticket) t o i ≢ Equal) → None ≡ lookup (entries_of number o) t
+  pub lookup_missing : (o : Ordered I Entry) (t : ℕ)
+      → ((i : ℕ) → IsSome (entry_in o i) → asked_at nat_cmp (λ (e : Entry). e.ticket) t o i ≢ Equal)
+      → None ≡ lookup (entries_of number o) t
   lookup_missing o t other = sym (none_along (entry_in o) t other (order_in number o))
 
-  module _ (old new : Ordered I Entry) (i g : ℕ) (e : Entry) (ordered : IsOrdered number old) (added : IsAdded number i g e old new) where
-    added_last : order_in number new ≡ order_in number old ++ i ∷ [] → entries_of number new ≡ entries_of number old ++ e ∷ []
+  module _ (old new : Ordered I Entry) (i g : ℕ) (e : Entry) (ordered : IsOrdered number old)
+      (added : IsAdded number i g e old new) where
+    added_last : order_in number new ≡ order_in number old ++ i ∷ []
+        → entries_of number new ≡ entries_of number old ++ e ∷ []
     added_last order =
         let here : entry_in new i ≡ Some (g, e) = added.entries i ∙ rw (eq-eqb i i refl) refl in
         ap (along (entry_in new)) order
         ∙ along-append (entry_in new) (order_in number old) (i ∷ [])
-        ∙ ap (λ l. l ++ along (entry_in new) (i ∷ [])) (along_with (entry_in old) (entry_in new) i (g, e) added.vacant added.entries (order_in number old)
+        ∙ ap (λ l. l ++ along (entry_in new) (i ∷ []))
+        (along_with (entry_in old) (entry_in new) i (g, e) added.vacant added.entries
+        (order_in number old)
         (live_along old None (order_in number old) ordered.linear))
         ∙ ap (λ l. entries_of number old ++ l) (along_some (entry_in new) i [] (g, e) here)
 
     -- an entry behind the last one
-    pub added_behind : (h : ℕ) → StandsAt (Some (h, Greater)) (order_in number old) (order_in number new) i → last_or None (order_in number old) ≡ Some h
+    pub added_behind : (h : ℕ)
+        → StandsAt (Some (h, Greater)) (order_in number old) (order_in number new) i
+        → last_or None (order_in number old) ≡ Some h
         → entries_of number new ≡ entries_of number old ++ e ∷ []
     added_behind h stands last = added_last (behind stands)
       where
-        behind : StandsBeside Right (order_in number old) (order_in number new) h i → order_in number new ≡ order_in number old ++ i ∷ []
+        behind : StandsBeside Right (order_in number old) (order_in number new) h i
+            → order_in number new ≡ order_in number old ++ i ∷ []
         behind beside =
-            let none : beside.after ≡ [] = none_behind (ends_in number old.chains) beside.before h beside.after
-            (subst (λ w. Stands (ends_in number old.chains) None w None) beside.was ordered.linear) (ap (last_or None) (sym beside.was) ∙ last) in
+            let none : beside.after ≡ [] =
+            none_behind (ends_in number old.chains) beside.before h beside.after
+            (subst (λ w. Stands (ends_in number old.chains) None w None) beside.was ordered.linear)
+            (ap (last_or None) (sym beside.was) ∙ last) in
             beside.is ∙ ap (λ after. beside.before ++ h ∷ i ∷ after) none
             ∙ sym (append_assoc beside.before (h ∷ []) (i ∷ []))
-            ∙ ap (λ w. w ++ i ∷ []) (sym (beside.was ∙ ap (λ after. beside.before ++ h ∷ after) none))
+            ∙ ap (λ w. w ++ i ∷ [])
+            (sym (beside.was ∙ ap (λ after. beside.before ++ h ∷ after) none))
 
     -- an entry in an empty arena
-    pub added_first : StandsAt None (order_in number old) (order_in number new) i → entries_of number new ≡ entries_of number old ++ e ∷ []
+    pub added_first : StandsAt None (order_in number old) (order_in number new) i
+        → entries_of number new ≡ entries_of number old ++ e ∷ []
     added_first stands = added_last (stands.1 ∙ ap (λ w. w ++ i ∷ []) (sym stands.0))

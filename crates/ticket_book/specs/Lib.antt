@@ -2,3 +2,4 @@ pub mod InArena
 pub mod Mirrors
 pub mod Moving
 pub mod Tickets
+pub mod WalkLaws

@@ -1,9 +1,13 @@
 //! The book of living tickets.
-ghost use Rattle.std.specs.Prelude.{◌≡◌, ℕ, ◌+◌, ◌<◌, ◌≤◌, ◌↔◌, ◌⊎◌, ◌++◌, [], ◌∷◌, length, map, Some, None, IsTrue, IsOk, IsErrOf, IfOk, IfSome, IfNone, IsSome, ⊤};
+ghost use Rattle.std.specs.Prelude.{◌≡◌, ℕ, ◌+◌, ◌<◌, ◌≤◌, ◌↔◌, ◌⊎◌, ◌++◌, [], ◌∷◌, length, map};
+ghost use Rattle.std.specs.Prelude.{Some, None, IsTrue, IsOk, IsErrOf, IfOk, IfSome, IfNone};
+ghost use Rattle.std.specs.Prelude.{IsSome, ⊤};
 ghost use Rattle.std.specs.Option.{option_map};
-ghost use Rattle.counted_search.specs.Searches.{most_comparisons};
+ghost use Rattle.rank_tree.specs.Comparisons.{most_comparisons};
 ghost use Rattle.ticket_book.specs.Mirrors.{numbers, renewed_entry};
-ghost use Rattle.ticket_book.specs.Tickets.{AreBelow, Entry as EntryView, asked, asked_among, entry_at, look_count, lookup, looked_at, without_ticket};
+ghost use Rattle.ticket_book.specs.Tickets.{AreBelow, Entry as EntryView, asked, asked_among};
+ghost use Rattle.ticket_book.specs.Tickets.{entry_at, look_count, lookup, looked_at};
+ghost use Rattle.ticket_book.specs.Tickets.{without_ticket};
 ghost use Rattle.triple_arena.specs.ArenaRoom.{room_of};
 ghost use Rattle.triple_arena_stack.specs.Room.{capacity as capacity_of, IsBeyond};
 
@@ -33,7 +37,8 @@ impl<P: PtrCore, S: OrdSlots<P, Entry<P>>> Model for TicketBook<P, S> {
 
     ghost Value = { Tickets };
 
-    ghost use Rattle.ticket_book.specs.InArena.{entries_of, standing_in, spares_in, asked_in, asked_beside};
+    ghost use Rattle.ticket_book.specs.InArena.{entries_of, standing_in, spares_in, asked_in};
+    ghost use Rattle.ticket_book.specs.InArena.{asked_beside};
     ghost use Rattle.ticket_book.specs.Tickets.{TicketsRise};
     ghost use Rattle.triple_arena.specs.Content.{arena_capacity};
 

@@ -29,14 +29,20 @@ turned x l = reverse-append (x ∷ []) l
 -- it has the same pointers
 pub in_turned : (l : List (ℕ × ℕ)) (p : ℕ × ℕ) → IsOneOf (reverse l) p → IsOneOf l p
 in_turned [] p one = one
-in_turned (q ∷ l) p one = back (in_turned l p) (either_of (reverse l) (q ∷ []) p (subst (λ m. IsOneOf m p) (turned q l) one))
+in_turned (q ∷ l) p one =
+    back (in_turned l p) (either_of (reverse l) (q ∷ []) p
+    (subst (λ m. IsOneOf m p) (turned q l) one))
   where
-    back : (IsOneOf (reverse l) p → IsOneOf l p) → IsOneOf (reverse l) p ⊎ IsOneOf (q ∷ []) p → IsOneOf (q ∷ l) p
+    back : (IsOneOf (reverse l) p → IsOneOf l p) → IsOneOf (reverse l) p ⊎ IsOneOf (q ∷ []) p
+        → IsOneOf (q ∷ l) p
     back behind (inl later) = inr (behind later)
     back behind (inr (inl here)) = inl here
     back behind (inr (inr none)) = absurd none
 
 pub turned_in : (l : List (ℕ × ℕ)) (p : ℕ × ℕ) → IsOneOf l p → IsOneOf (reverse l) p
 turned_in [] p one = one
-turned_in (q ∷ l) p (inl here) = subst (λ m. IsOneOf m p) (sym (turned q l)) (second_of (reverse l) (q ∷ []) p (inl here))
-turned_in (q ∷ l) p (inr one) = subst (λ m. IsOneOf m p) (sym (turned q l)) (first_of (reverse l) (q ∷ []) p (turned_in l p one))
+turned_in (q ∷ l) p (inl here) =
+    subst (λ m. IsOneOf m p) (sym (turned q l)) (second_of (reverse l) (q ∷ []) p (inl here))
+turned_in (q ∷ l) p (inr one) =
+    subst (λ m. IsOneOf m p) (sym (turned q l))
+    (first_of (reverse l) (q ∷ []) p (turned_in l p one))

@@ -1,21 +1,29 @@
 -- The list of free slots, and how each change of the slots keeps it.
-use Rattle.std.proofs.Common.{◌≡◌, ◌≢◌, ◌==◌, if◌then◌else◌, inl, inr, ℕ, zero, suc, ◌+◌, ◌-◌, ◌<◌, ◌≤◌, List, [], ◌∷◌, ◌++◌, map, length, get_or, set, take, Option, Some, None, is_some, count_by, cond, slice_get, refl, sym, ap, subst, ◌∙◌, arith, length-set}
-use Rattle.std.proofs.lemmas.List.{map-set, map_push, length-map, length_push, get_or-map, get_or-set_same, get_or-set_other}
+use Rattle.std.proofs.Common.{◌≡◌, ◌≢◌, ◌==◌, if◌then◌else◌, inl, inr, ℕ, zero, suc, ◌+◌, ◌-◌, ◌<◌}
+use Rattle.std.proofs.Common.{◌≤◌, List, [], ◌∷◌, ◌++◌, map, length, get_or, set, take, Option}
+use Rattle.std.proofs.Common.{Some, None, is_some, count_by, cond, slice_get, refl, sym, ap, subst}
+use Rattle.std.proofs.Common.{◌∙◌, arith, length-set}
+use Rattle.std.proofs.lemmas.List.{map-set, map_push, length-map, length_push, get_or-map}
+use Rattle.std.proofs.lemmas.List.{get_or-set_same, get_or-set_other}
 use Rattle.std.proofs.lemmas.List.Sums.{sum_by-set, sum_by_push}
 use Rattle.std.proofs.lemmas.Option.{slice_get_within, get_or_from_slice_get}
 use Rattle.triple_arena.specs.FreeLinks.{Ends, first_or, Stands, with_prev_at}
-use Rattle.triple_arena.specs.Slot.{Slot, free, used, entry_of, links_of, value_of, with_slot_value, with_slot_generation}
+use Rattle.triple_arena.specs.Slot.{Slot, free, used, entry_of, links_of, value_of, with_slot_value}
+use Rattle.triple_arena.specs.Slot.{with_slot_generation}
 use Rattle.std.proofs.Common.{IsSome, Bor, option_copied, true, false, true≢false, eqb}
 use Rattle.std.specs.Option.{option_map}
 use Rattle.std.proofs.lemmas.Bool.{eq-eqb, ne_eqb}
 use Rattle.std.proofs.lemmas.Bool.Decides.{eqb_tells}
 use Rattle.std.proofs.Math.Seq.{take-append_seam}
 use Rattle.triple_arena_stack.specs.Room.{Room, capacity}
-use Rattle.triple_arena.specs.Content.{Content, entry_at, get, live_count, arena_capacity, inserted, vacated, with_value, with_generation, Lacks, AllVacant, IsWellFormed}
+use Rattle.triple_arena.specs.Content.{Content, entry_at, get, live_count, arena_capacity, inserted}
+use Rattle.triple_arena.specs.Content.{vacated, with_value, with_generation, Lacks, AllVacant}
+use Rattle.triple_arena.specs.Content.{IsWellFormed}
 use Rattle.triple_arena.specs.Entries.{value_if}
 use Rattle.triple_arena.specs.ContentLaws.{entry_at_slot}
 use Rattle.triple_arena.specs.Layout.{links, content_of, links_at, IsFreeList, IsSound}
-use Rattle.triple_arena.proofs.FreeLinkLemmas.{first_differs, first_links, once, none_off, prev_same, stands_all, put_first, first_gone}
+use Rattle.triple_arena.proofs.FreeLinkLemmas.{first_differs, first_links, once, none_off}
+use Rattle.triple_arena.proofs.FreeLinkLemmas.{prev_same, stands_all, put_first, first_gone}
 
 -- an option that is there
 pub the_some : {X : Type 0} (o : Option X) → IsSome o → (x : X) × (o ≡ Some x)
@@ -27,12 +35,14 @@ pub copied_some : {X : Type 0} (o : Option (Bor X)) → is_some o ≡ true → I
 copied_some None some = absurd (true≢false (sym some))
 copied_some (Some x) some = refl
 
-pub copied_none : {X : Type 0} (o : Option (Bor X)) → is_some o ≡ false → IsSome (option_copied o) → ⊥
+pub copied_none : {X : Type 0} (o : Option (Bor X)) → is_some o ≡ false → IsSome (option_copied o)
+    → ⊥
 copied_none None none some = true≢false (sym some)
 copied_none (Some x) none some = true≢false none
 
 module _ {T : Type 0} where
-  pub slot_absent : (es : List (Slot T)) (k : ℕ) → slice_get es k ≡ None → get_or (map entry_of es) k None ≡ None
+  pub slot_absent : (es : List (Slot T)) (k : ℕ) → slice_get es k ≡ None
+      → get_or (map entry_of es) k None ≡ None
   slot_absent [] k e = refl
   slot_absent (x ∷ es) zero e = absurd (cc)
   slot_absent (x ∷ es) (suc k) e = slot_absent es k e
@@ -43,7 +53,8 @@ module _ {T : Type 0} where
     pub found : slice_get es (i - 1) ≡ Some (free v.0 v.1)
     pub within : i ≤ length es
 
-  free_slot : (es : List (Slot T)) (k : ℕ) (v : Ends) → get_or (map links_of es) k None ≡ Some v → slice_get es k ≡ Some (free v.0 v.1)
+  free_slot : (es : List (Slot T)) (k : ℕ) (v : Ends) → get_or (map links_of es) k None ≡ Some v
+      → slice_get es k ≡ Some (free v.0 v.1)
   free_slot [] k v found = absurd (cc)
   free_slot (free p n ∷ es) zero v found =
       let pair : (p, n) ≡ v = cc in
@@ -56,15 +67,21 @@ module _ {T : Type 0} where
   free_at es (suc k) v found =
       let back : suc k - 1 ≡ k = omega arith in
       let there = ap (slice_get es) back ∙ free_slot es k v found in
-      record { positive = omega arith; found = there; within = omega (arith, slice_get_within es (suc k - 1) _ there) }
+      record {
+        positive = omega arith;
+        found = there;
+        within = omega (arith, slice_get_within es (suc k - 1) _ there);
+      }
 
   -- the links at an index are those of its slot
-  pub links_of_slot : (es : List (Slot T)) (i : ℕ) (x : Slot T) → 0 < i → slice_get es (i - 1) ≡ Some x → links_at es i ≡ links_of x
+  pub links_of_slot : (es : List (Slot T)) (i : ℕ) (x : Slot T) → 0 < i
+      → slice_get es (i - 1) ≡ Some x → links_at es i ≡ links_of x
   links_of_slot es zero x positive found = absurd (omega arith)
   links_of_slot es (suc k) x positive found =
       let back : k ≡ suc k - 1 = omega arith in
       let there : slice_get es k ≡ Some x = ap (slice_get es) back ∙ found in
-      get_or-map links_of es k x None (slice_get_within es k x there) ∙ ap links_of (get_or_from_slice_get es k x x there)
+      get_or-map links_of es k x None (slice_get_within es k x there)
+      ∙ ap links_of (get_or_from_slice_get es k x x there)
 
   -- the links after a write of a slot
   pub links-set : (es : List (Slot T)) (i : ℕ) (x : Slot T) → 0 < i → i - 1 < length es → (j : ℕ)
@@ -75,30 +92,35 @@ module _ {T : Type 0} where
       rw (map-set links_of es (i - 1) x) (elim (eqb_tells (suc k) i) [
         | inl same ↦
             let at : k ≡ i - 1 = omega (arith, same.1) in
-            rw (same.0, at) (get_or-set_same (map links_of es) (i - 1) (links_of x) None (omega (arith, within, sizes)))
+            rw (same.0, at) (get_or-set_same (map links_of es) (i - 1) (links_of x) None
+            (omega (arith, within, sizes)))
         | inr other ↦
             let differs : k ≢ i - 1 = λ e. other.1 (omega (arith, e, positive)) in
             rw other.0 (get_or-set_other (map links_of es) (i - 1) k (links_of x) None differs)
       ])
 
   -- a slot behind the slots adds its own links
-  links_front : (es : List (Slot T)) (x : Slot T) (k : ℕ) → k < length es → get_or (map links_of (es ++ x ∷ [])) k None ≡ get_or (map links_of es) k None
+  links_front : (es : List (Slot T)) (x : Slot T) (k : ℕ) → k < length es
+      → get_or (map links_of (es ++ x ∷ [])) k None ≡ get_or (map links_of es) k None
   links_front [] x k below = absurd (omega (arith, below))
   links_front (e ∷ es) x zero below = refl
   links_front (e ∷ es) x (suc k) below = links_front es x k (omega (arith, below))
 
-  pub links-push : (es : List (Slot T)) (x : Slot T) (j : ℕ) → j ≤ length es → links_at (es ++ x ∷ []) j ≡ links_at es j
+  pub links-push : (es : List (Slot T)) (x : Slot T) (j : ℕ) → j ≤ length es
+      → links_at (es ++ x ∷ []) j ≡ links_at es j
   links-push es x zero below = refl
   links-push es x (suc k) below = links_front es x k (omega (arith, below))
 
-  links_used : (es : List (Slot T)) (g : ℕ) (t : T) (k : ℕ) → get_or (map links_of (es ++ used g t ∷ [])) k None ≡ get_or (map links_of es) k None
+  links_used : (es : List (Slot T)) (g : ℕ) (t : T) (k : ℕ)
+      → get_or (map links_of (es ++ used g t ∷ [])) k None ≡ get_or (map links_of es) k None
   links_used [] g t zero = refl
   links_used [] g t (suc k) = refl
   links_used (e ∷ es) g t zero = refl
   links_used (e ∷ es) g t (suc k) = links_used es g t k
 
   -- and none if it is live
-  pub links-push_used : (es : List (Slot T)) (g : ℕ) (t : T) (j : ℕ) → links_at (es ++ used g t ∷ []) j ≡ links_at es j
+  pub links-push_used : (es : List (Slot T)) (g : ℕ) (t : T) (j : ℕ)
+      → links_at (es ++ used g t ∷ []) j ≡ links_at es j
   links-push_used es g t zero = refl
   links-push_used es g t (suc k) = links_used es g t k
 
@@ -106,43 +128,53 @@ module _ {T : Type 0} where
   pub none_free : (es : List (Slot T)) → IsFreeList es None []
   none_free es = record { first = refl; stands = tt }
 
-  chain_links : (es : List (Slot T)) (n : ℕ) (b : Option ℕ) (l : List ℕ) → length l ≤ n → Stands (links_at es) b l None
+  chain_links : (es : List (Slot T)) (n : ℕ) (b : Option ℕ) (l : List ℕ) → length l ≤ n
+      → Stands (links_at es) b l None
       → links es n (first_or l None) ≡ l
   chain_links es zero b [] h s = refl
   chain_links es zero b (i ∷ l) h s = absurd (omega (arith, h))
   chain_links es (suc n) b [] h s = refl
   chain_links es (suc n) b (i ∷ l) h s =
       let f = free_at es i (b, first_or l None) s.0 in
-      let read : get_or es (i - 1) (free None None) ≡ free b (first_or l None) = get_or_from_slice_get es (i - 1) _ (free None None) f.found in
+      let read : get_or es (i - 1) (free None None) ≡ free b (first_or l None) =
+      get_or_from_slice_get es (i - 1) _ (free None None) f.found in
       rw read (ap (λ xs. i ∷ xs) (chain_links es n (Some i) l (omega (arith, h)) s.1))
 
   -- the links from a head are the list of free slots
-  pub list_links : (es : List (Slot T)) (n : ℕ) (head : Option ℕ) (l : List ℕ) → length l ≤ n → IsFreeList es head l → links es n head ≡ l
+  pub list_links : (es : List (Slot T)) (n : ℕ) (head : Option ℕ) (l : List ℕ) → length l ≤ n
+      → IsFreeList es head l → links es n head ≡ l
   list_links es n head l fits f = ap (links es n) f.first ∙ chain_links es n None l fits f.stands
 
   -- a free slot is one of the slots
   pub free_within : (es : List (Slot T)) (i : ℕ) → IsSome (links_at es i) → i ≤ length es
   free_within es i some = let o = the_some (links_at es i) some in (free_at es i o.0 o.1).within
 
-  pub slot_free : (es : List (Slot T)) (i : ℕ) (x : Slot T) → 0 < i → Some x ≡ slice_get es (i - 1) → IsSome (links_at es i) → IsSome (links_of x)
-  slot_free es i x positive found some = subst IsSome (links_of_slot es i x positive (sym found)) some
+  pub slot_free : (es : List (Slot T)) (i : ℕ) (x : Slot T) → 0 < i → Some x ≡ slice_get es (i - 1)
+      → IsSome (links_at es i) → IsSome (links_of x)
+  slot_free es i x positive found some =
+      subst IsSome (links_of_slot es i x positive (sym found)) some
 
   -- the first of a list is free after a write elsewhere
-  pub first_free : (es : List (Slot T)) (i : ℕ) (new : Slot T) (b : Option ℕ) (l : List ℕ) → 0 < i → i - 1 < length es → Stands (links_at es) b l None
+  pub first_free : (es : List (Slot T)) (i : ℕ) (new : Slot T) (b : Option ℕ) (l : List ℕ) → 0 < i
+      → i - 1 < length es → Stands (links_at es) b l None
       → Lacks l i → (j : ℕ) → first_or l None ≡ Some j → IsSome (links_at (set es (i - 1) new) j)
   first_free es i new b l positive within s off j is =
       let w = first_links (links_at es) b l s j is in
       let differs : j ≢ i = λ same. first_differs l i off (is ∙ ap Some same) in
-      let stays : links_at (set es (i - 1) new) j ≡ links_at es j = links-set es i new positive within j ∙ rw (ne_eqb j i differs) refl in
+      let stays : links_at (set es (i - 1) new) j ≡ links_at es j =
+      links-set es i new positive within j ∙ rw (ne_eqb j i differs) refl in
       ap is_some (stays ∙ w.1)
 
   -- the slots are sound, and the free indexes are these
-  pub record Fits (es : List (Slot T)) (len : ℕ) (head : Option ℕ) (l : List ℕ) (room : Room) : Type 0 where
+  pub record Fits (es : List (Slot T)) (len : ℕ) (head : Option ℕ) (l : List ℕ) (room : Room) : Type
+      0 where
     pub sound : IsSound es len head room
     pub free_is : links es (length es) head ≡ l
 
-  pub sound_of : (es : List (Slot T)) (len : ℕ) (head : Option ℕ) (l : List ℕ) (room : Room) → len ≡ count_by is_some (map entry_of es)
-      → len + length l ≡ length es → IsFreeList es head l → length es ≤ capacity room → Fits es len head l room
+  pub sound_of : (es : List (Slot T)) (len : ℕ) (head : Option ℕ) (l : List ℕ) (room : Room)
+      → len ≡ count_by is_some (map entry_of es)
+      → len + length l ≡ length es → IsFreeList es head l → length es ≤ capacity room
+      → Fits es len head l room
   sound_of es len head l room counted total listed fits =
       let e = list_links es (length es) head l (omega arith) listed in
       record {
@@ -152,41 +184,53 @@ module _ {T : Type 0} where
 
   -- the count of live slots after a write
   pub count-set : (es : List (Slot T)) (key : ℕ) (old new : Slot T) → slice_get es key ≡ Some old
-      → count_by is_some (map entry_of (set es key new)) + cond (is_some (entry_of old)) 1 0 ≡ count_by is_some (map entry_of es) + cond (is_some
+      → count_by is_some (map entry_of (set es key new)) + cond (is_some (entry_of old)) 1 0
+      ≡ count_by is_some (map entry_of es) + cond (is_some
       (entry_of new)) 1 0
   count-set es key old new found =
       let within = slice_get_within es key old found in
       let read : get_or (map entry_of es) key None ≡ entry_of old =
-      get_or-map entry_of es key old None within ∙ ap entry_of (get_or_from_slice_get es key old old found) in
-      let counted = sum_by-set (λ o. cond (is_some o) 1 0) (map entry_of es) key (entry_of new) None (omega (arith, length-map es entry_of)) in
+      get_or-map entry_of es key old None within
+      ∙ ap entry_of (get_or_from_slice_get es key old old found) in
+      let counted = sum_by-set (λ o. cond (is_some o) 1 0) (map entry_of es) key (entry_of new) None
+      (omega (arith, length-map es entry_of)) in
       rw (map-set entry_of es key new, ← read) counted
 
-  count_push : (es : List (Slot T)) (g : ℕ) (t : T) → count_by is_some (map entry_of (es ++ used g t ∷ [])) ≡ count_by is_some (map entry_of es) + 1
-  count_push es g t = rw (map_push entry_of es (used g t)) (sum_by_push (λ o. cond (is_some o) 1 0) (map entry_of es) (Some (g, t)))
+  count_push : (es : List (Slot T)) (g : ℕ) (t : T)
+      → count_by is_some (map entry_of (es ++ used g t ∷ []))
+      ≡ count_by is_some (map entry_of es) + 1
+  count_push es g t = rw (map_push entry_of es (used g t))
+      (sum_by_push (λ o. cond (is_some o) 1 0) (map entry_of es) (Some (g, t)))
 
   -- the same slots in another room
-  pub resized : {es es' : List (Slot T)} {len : ℕ} {head : Option ℕ} {room room' : Room} → IsSound es len head room → es' ≡ es → length es ≤ capacity room'
+  pub resized : {es es' : List (Slot T)} {len : ℕ} {head : Option ℕ} {room room' : Room}
+      → IsSound es len head room → es' ≡ es → length es ≤ capacity room'
       → IsSound es' len head room'
-  resized s same fits = rw same record { counted = s.counted; total = s.total; listed = s.listed; fits = fits }
+  resized s same fits =
+      rw same record { counted = s.counted; total = s.total; listed = s.listed; fits = fits }
 
   -- with no head every slot is live
-  pub full_at_none : (es : List (Slot T)) (len : ℕ) (room : Room) → IsSound es len None room → len ≡ length es
+  pub full_at_none : (es : List (Slot T)) (len : ℕ) (room : Room) → IsSound es len None room
+      → len ≡ length es
   full_at_none es len room s = by_list (links es (length es) None) s.total s.listed.first
     where
       by_list : (l : List ℕ) → len + length l ≡ length es → None ≡ first_or l None → len ≡ length es
       by_list [] total none = omega arith
       by_list (i ∷ l) total none = absurd (cc)
 
-  pub push_fits : (es : List (Slot T)) (len g : ℕ) (t : T) (room : Room) → length es < capacity room → IsSound es len None room
+  pub push_fits : (es : List (Slot T)) (len g : ℕ) (t : T) (room : Room) → length es < capacity room
+      → IsSound es len None room
       → Fits (es ++ used g t ∷ []) (len + 1) None [] room
   push_fits es len g t room below s =
       let full = full_at_none es len room s in
       let longer = length_push es (used g t) in
-      sound_of (es ++ used g t ∷ []) (len + 1) None [] room (omega (arith, count_push es g t, s.counted)) (omega (arith, longer)) (none_free _) (omega
+      sound_of (es ++ used g t ∷ []) (len + 1) None [] room
+      (omega (arith, count_push es g t, s.counted)) (omega (arith, longer)) (none_free _) (omega
       (arith, longer, below))
 
   -- with no head there is room behind the slots, where there is room at all
-  pub room_behind : {es : List (Slot T)} {len : ℕ} {head : Option ℕ} {room : Room} {g : ℕ} {c : Content T} → head ≡ None → IsSound es len head room
+  pub room_behind : {es : List (Slot T)} {len : ℕ} {head : Option ℕ} {room : Room} {g : ℕ}
+      {c : Content T} → head ≡ None → IsSound es len head room
       → content_of es room g head ≡ c → live_count c < arena_capacity c → length es < capacity room
   room_behind {es} {len} {room} is sound seen below =
       let s = rw is at sound in
@@ -203,10 +247,12 @@ module _ {T : Type 0} where
     pub total : len + (length rest + 1) ≡ length es
     pub stands : Stands (links_at es) None (i ∷ rest) None
 
-  pub head_of : (es : List (Slot T)) (len i : ℕ) (room : Room) → IsSound es len (Some i) room → Heads es len i
+  pub head_of : (es : List (Slot T)) (len i : ℕ) (room : Room) → IsSound es len (Some i) room
+      → Heads es len i
   head_of es len i room s = by_list (links es (length es) (Some i)) refl s.total s.listed
     where
-      by_list : (l : List ℕ) → links es (length es) (Some i) ≡ l → len + length l ≡ length es → IsFreeList es (Some i) l → Heads es len i
+      by_list : (l : List ℕ) → links es (length es) (Some i) ≡ l → len + length l ≡ length es
+          → IsFreeList es (Some i) l → Heads es len i
       by_list [] e total f = absurd (let none = f.first in cc)
       by_list (j ∷ l) e total f =
           let first = f.first in
@@ -221,11 +267,13 @@ module _ {T : Type 0} where
           }
 
   -- the head is one of the slots
-  pub head_within : {es : List (Slot T)} {len i : ℕ} {head : Option ℕ} {room : Room} → head ≡ Some i → IsSound es len head room → i ≤ length es
+  pub head_within : {es : List (Slot T)} {len i : ℕ} {head : Option ℕ} {room : Room} → head ≡ Some i
+      → IsSound es len head room → i ≤ length es
   head_within {es} {len} {i} {room} is s = (head_of es len i room (rw is at s)).slot.within
 
   -- its slot is free, and what follows it is one of the slots
-  pub head_links : {es : List (Slot T)} {len i : ℕ} {head : Option ℕ} {room : Room} {old : Slot T} → head ≡ Some i → IsSound es len head room
+  pub head_links : {es : List (Slot T)} {len i : ℕ} {head : Option ℕ} {room : Room} {old : Slot T}
+      → head ≡ Some i → IsSound es len head room
       → slice_get es (i - 1) ≡ Some old → IsSome (links_of old)
   head_links {es} {len} {i} {room} {old} is s found =
       let h = (head_of es len i room (rw is at s)).slot.found in
@@ -234,8 +282,10 @@ module _ {T : Type 0} where
       rw same refl
 
   -- what follows it is free after a write of the first free slot
-  pub next_free : {es es' : List (Slot T)} {len i : ℕ} {head next : Option ℕ} {room : Room} {old : Slot T} (new : Slot T) → head ≡ Some i → IsSound es len head room
-      → slice_get es (i - 1) ≡ Some old → option_map (λ (l : Ends). l.1) (links_of old) ≡ Some next → es' ≡ set es (i - 1) new → (j : ℕ)
+  pub next_free : {es es' : List (Slot T)} {len i : ℕ} {head next : Option ℕ} {room : Room}
+      {old : Slot T} (new : Slot T) → head ≡ Some i → IsSound es len head room
+      → slice_get es (i - 1) ≡ Some old → option_map (λ (l : Ends). l.1) (links_of old) ≡ Some next
+      → es' ≡ set es (i - 1) new → (j : ℕ)
       → next ≡ Some j → IsSome (links_at es' j)
   next_free {es} {es'} {len} {i} {next} {room} {old} new is s found given written j at =
       let h = head_of es len i room (rw is at s) in
@@ -247,30 +297,39 @@ module _ {T : Type 0} where
       let within = h.slot.within in
       let off = once (links_at es) None i h.rest h.stands in
       subst (λ xs. IsSome (links_at xs j)) (sym written)
-      (first_free es i new (Some i) h.rest positive (omega (arith, positive, within)) h.stands.1 off j (sym next_is ∙ at))
+      (first_free es i new (Some i) h.rest positive (omega (arith, positive, within)) h.stands.1 off
+      j (sym next_is ∙ at))
 
   -- where a slot is free there is room
-  pub free_is_room : {es : List (Slot T)} {len i : ℕ} {head : Option ℕ} {room : Room} {g : ℕ} {c : Content T} → head ≡ Some i → IsSound es len head room
+  pub free_is_room : {es : List (Slot T)} {len i : ℕ} {head : Option ℕ} {room : Room} {g : ℕ}
+      {c : Content T} → head ≡ Some i → IsSound es len head room
       → content_of es room g head ≡ c → live_count c < arena_capacity c
   free_is_room {es} {len} {i} {room = room} is s seen =
       let h = head_of es len i room (rw is at s) in
       let total = h.total in
       let fits = s.fits in
       let counted = s.counted in
-      let below : count_by is_some (map entry_of es) < capacity room = omega (arith, total, fits, counted) in
+      let below : count_by is_some (map entry_of es) < capacity room =
+      omega (arith, total, fits, counted) in
       rw (← seen) below
 
   -- the slots are sound, and this is what they are seen as
-  pub record Becomes (es : List (Slot T)) (len : ℕ) (head : Option ℕ) (room : Room) (g : ℕ) (c : Content T) : Type 0 where
+  pub record Becomes (es : List (Slot T)) (len : ℕ) (head : Option ℕ) (room : Room) (g : ℕ)
+      (c : Content T) : Type 0 where
     pub sound : IsSound es len head room
     pub content : content_of es room g head ≡ c
 
   -- a live slot in the place of the first free one, and the next free one is the first
-  pub filled : {es es1 es' : List (Slot T)} {len i : ℕ} {head next head' : Option ℕ} {room room' : Room} {g : ℕ} {t : T} {old new : Slot T} {c : Content T}
-      → head ≡ Some i → IsSound es len head room → slice_get es (i - 1) ≡ Some old → option_map (λ (l : Ends). l.1) (links_of old) ≡ Some next
-      → es1 ≡ set es (i - 1) new → new ≡ used g t → ((j : ℕ) → links_at es' j ≡ with_prev_at (links_at es1) next None j)
-      → map entry_of es' ≡ map entry_of es1 → head' ≡ next → room' ≡ room → content_of es room g head ≡ c → Becomes es' (len + 1) head' room' g (inserted c t)
-  filled {es} {es1} {es'} {len} {i} {next = next} {room = room} {g = g} {t = t} {old = old} is sound found given written filling linked entries first kept seen =
+  pub filled : {es es1 es' : List (Slot T)} {len i : ℕ} {head next head' : Option ℕ}
+      {room room' : Room} {g : ℕ} {t : T} {old new : Slot T} {c : Content T}
+      → head ≡ Some i → IsSound es len head room → slice_get es (i - 1) ≡ Some old
+      → option_map (λ (l : Ends). l.1) (links_of old) ≡ Some next
+      → es1 ≡ set es (i - 1) new → new ≡ used g t
+      → ((j : ℕ) → links_at es' j ≡ with_prev_at (links_at es1) next None j)
+      → map entry_of es' ≡ map entry_of es1 → head' ≡ next → room' ≡ room
+      → content_of es room g head ≡ c → Becomes es' (len + 1) head' room' g (inserted c t)
+  filled {es} {es1} {es'} {len} {i} {next = next} {room = room} {g = g} {t = t} {old = old} is sound
+      found given written filling linked entries first kept seen =
       let s = rw is at sound in
       let h = head_of es len i room s in
       let there = h.slot.found in
@@ -280,10 +339,13 @@ module _ {T : Type 0} where
       let next_is : next ≡ first_or h.rest None = cc in
       let put : es1 ≡ set es (i - 1) (used g t) = written ∙ ap (set es (i - 1)) filling in
       let within = h.slot.within in
-      let others : (k : ℕ) → k ≢ i → links_at es' k ≡ with_prev_at (links_at es) (first_or h.rest None) None k =
+      let others : (k : ℕ) → k ≢ i
+      → links_at es' k ≡ with_prev_at (links_at es) (first_or h.rest None) None k =
       λ k other. linked k ∙ ap (λ o. with_prev_at (links_at es1) o None k) next_is
       ∙ prev_same (links_at es1) (links_at es) (first_or h.rest None) None k
-      (ap (λ xs. links_at xs k) put ∙ links-set es i (used g t) positive (omega (arith, positive, within)) k ∙ rw (ne_eqb k i other) refl) in
+      (ap (λ xs. links_at xs k) put
+      ∙ links-set es i (used g t) positive (omega (arith, positive, within)) k
+      ∙ rw (ne_eqb k i other) refl) in
       let stands = first_gone (links_at es) (links_at es') i h.rest h.stands others in
       let sizes = length-set es (i - 1) (used g t) in
       let there1 = length-map es1 entry_of in
@@ -291,18 +353,24 @@ module _ {T : Type 0} where
       let long = ap length entries in
       let size1 = ap length put in
       let counted = count-set es (i - 1) (free None (first_or h.rest None)) (used g t) there in
-      let live : count_by is_some (map entry_of es') ≡ count_by is_some (map entry_of (set es (i - 1) (used g t))) =
+      let live : count_by is_some (map entry_of es')
+      ≡ count_by is_some (map entry_of (set es (i - 1) (used g t))) =
       ap (count_by is_some) entries ∙ ap (λ xs. count_by is_some (map entry_of xs)) put in
-      let left = sound_of es' (len + 1) next h.rest room (omega (arith, counted, live, s.counted)) (omega
-      (arith, sizes, there1, there2, long, size1, h.total)) (record { first = next_is; stands = stands }) (omega
+      let left = sound_of es' (len + 1) next h.rest room (omega (arith, counted, live, s.counted))
+      (omega
+      (arith, sizes, there1, there2, long, size1, h.total))
+      (record { first = next_is; stands = stands }) (omega
       (arith, sizes, there1, there2, long, size1, s.fits)) in
-      let slots : map entry_of es' ≡ set (map entry_of es) (i - 1) (Some (g, t)) = entries ∙ ap (map entry_of) put ∙ map-set entry_of es (i - 1) (used g t) in
+      let slots : map entry_of es' ≡ set (map entry_of es) (i - 1) (Some (g, t)) = entries
+      ∙ ap (map entry_of) put ∙ map-set entry_of es (i - 1) (used g t) in
       rw (first, kept, ← seen, is)
       record { sound = left.sound; content = rw (h.free_is, left.free_is, slots) refl }
 
   -- a live slot behind full slots
-  pub pushed : {es es' : List (Slot T)} {len : ℕ} {head : Option ℕ} {room room' : Room} {g : ℕ} {t : T} {new : Slot T} {c : Content T} → head ≡ None
-      → IsSound es len head room → live_count c < arena_capacity c → es' ≡ es ++ new ∷ [] → new ≡ used g t → room' ≡ room → content_of es room g head ≡ c
+  pub pushed : {es es' : List (Slot T)} {len : ℕ} {head : Option ℕ} {room room' : Room} {g : ℕ}
+      {t : T} {new : Slot T} {c : Content T} → head ≡ None
+      → IsSound es len head room → live_count c < arena_capacity c → es' ≡ es ++ new ∷ []
+      → new ≡ used g t → room' ≡ room → content_of es room g head ≡ c
       → Becomes es' (len + 1) head room' g (inserted c t)
   pushed {es} {len} {room} {g} {t} is sound below written filling kept seen =
       let s = rw is at sound in
@@ -313,11 +381,16 @@ module _ {T : Type 0} where
       rw (written, filling, kept, ← seen, is)
       record {
         sound = fits.sound;
-        content = rw (list_links es (length es) None [] (omega arith) (none_free es), fits.free_is, map_push entry_of es (used g t));
+        content = rw (
+          list_links es (length es) None [] (omega arith) (none_free es),
+          fits.free_is,
+          map_push entry_of es (used g t),
+        );
       }
 
   -- a live index has a live slot
-  pub live_slot : (es : List (Slot T)) (k g : ℕ) (t : T) → get_or (map entry_of es) k None ≡ Some (g, t) → slice_get es k ≡ Some (used g t)
+  pub live_slot : (es : List (Slot T)) (k g : ℕ) (t : T)
+      → get_or (map entry_of es) k None ≡ Some (g, t) → slice_get es k ≡ Some (used g t)
   live_slot [] k g t found = absurd (cc)
   live_slot (free prev next ∷ es) zero g t found = absurd (cc)
   live_slot (used h u ∷ es) zero g t found =
@@ -326,15 +399,19 @@ module _ {T : Type 0} where
   live_slot (x ∷ es) (suc k) g t found = live_slot es k g t found
 
   -- the entry at an index is that of its slot
-  pub entry_of_slot : (es : List (Slot T)) {room : Room} {g : ℕ} (head : Option ℕ) {c : Content T} {i : ℕ} {slot : Slot T}
-      → content_of es room g head ≡ c → 0 < i → slice_get es (i - 1) ≡ Some slot → entry_at c i ≡ entry_of slot
+  pub entry_of_slot : (es : List (Slot T)) {room : Room} {g : ℕ} (head : Option ℕ) {c : Content T}
+      {i : ℕ} {slot : Slot T}
+      → content_of es room g head ≡ c → 0 < i → slice_get es (i - 1) ≡ Some slot
+      → entry_at c i ≡ entry_of slot
   entry_of_slot es head {c} {i} {slot} seen positive found =
       let within = slice_get_within es (i - 1) slot found in
       entry_at_slot c i positive
-      ∙ rw (← seen) (get_or-map entry_of es (i - 1) slot None within ∙ ap entry_of (get_or_from_slice_get es (i - 1) slot slot found))
+      ∙ rw (← seen) (get_or-map entry_of es (i - 1) slot None within
+      ∙ ap entry_of (get_or_from_slice_get es (i - 1) slot slot found))
 
   -- an index past the slots has no entry
-  pub no_entry : (es : List (Slot T)) {room : Room} {g : ℕ} (head : Option ℕ) {c : Content T} (i : ℕ) → content_of es room g head ≡ c
+  pub no_entry : (es : List (Slot T)) {room : Room} {g : ℕ} (head : Option ℕ) {c : Content T}
+      (i : ℕ) → content_of es room g head ≡ c
       → slice_get es (i - 1) ≡ None → entry_at c i ≡ None
   no_entry es head zero seen found = refl
   no_entry es head (suc k) seen found =
@@ -347,33 +424,42 @@ module _ {T : Type 0} where
     pub found : slice_get es (i - 1) ≡ Some (used e.0 e.1)
     pub within : i ≤ length es
 
-  pub finds : {es : List (Slot T)} {room : Room} {g : ℕ} (head : Option ℕ) {c : Content T} {i : ℕ} {e : ℕ × T} → content_of es room g head ≡ c
+  pub finds : {es : List (Slot T)} {room : Room} {g : ℕ} (head : Option ℕ) {c : Content T} {i : ℕ}
+      {e : ℕ × T} → content_of es room g head ≡ c
       → entry_at c i ≡ Some e → Finds es i e
   finds head {i = zero} seen is = absurd (cc)
   finds {es} head {i = suc k} {e} seen is =
       let back : suc k - 1 ≡ k = omega arith in
       let found = ap (slice_get es) back ∙ live_slot es k e.0 e.1 (rw (← seen) at is) in
-      record { positive = omega arith; found = found; within = omega (arith, slice_get_within es (suc k - 1) _ found) }
+      record {
+        positive = omega arith;
+        found = found;
+        within = omega (arith, slice_get_within es (suc k - 1) _ found);
+      }
 
   get_at_end : (es : List (Slot T)) (x : Slot T) → slice_get (es ++ x ∷ []) (length es) ≡ Some x
   get_at_end [] x = refl
   get_at_end (e ∷ es) x = get_at_end es x
 
-  end_is : (es es' : List (Slot T)) (k : ℕ) (slot x : Slot T) → es ≡ es' ++ slot ∷ [] → k ≡ length es' → slice_get es k ≡ Some x → slot ≡ x
+  end_is : (es es' : List (Slot T)) (k : ℕ) (slot x : Slot T) → es ≡ es' ++ slot ∷ []
+      → k ≡ length es' → slice_get es k ≡ Some x → slot ≡ x
   end_is es es' k slot x split at found =
       let there = rw (split, at) at found in
       let end = get_at_end es' slot in
       cc
 
   -- the slots are sound, this is what they are seen as, and the slot that was there had the entry
-  pub record Leaves (es : List (Slot T)) (len : ℕ) (head : Option ℕ) (room : Room) (g : ℕ) (c : Content T) (slot : Slot T) (e : ℕ × T) : Type 0 where
+  pub record Leaves (es : List (Slot T)) (len : ℕ) (head : Option ℕ) (room : Room) (g : ℕ)
+      (c : Content T) (slot : Slot T) (e : ℕ × T) : Type 0 where
     pub sound : IsSound es len head room
     pub content : content_of es room g head ≡ c
     pub entry_is : slot ≡ used e.0 e.1
 
   -- the last slot goes
-  pub popped : {es es' : List (Slot T)} {len i : ℕ} {head : Option ℕ} {room room' : Room} {g : ℕ} {slot : Slot T} {e : ℕ × T} {c : Content T}
-      → IsSound es len head room → i ≡ length es → content_of es room g head ≡ c → entry_at c i ≡ Some e → es ≡ es' ++ slot ∷ [] → room' ≡ room
+  pub popped : {es es' : List (Slot T)} {len i : ℕ} {head : Option ℕ} {room room' : Room} {g : ℕ}
+      {slot : Slot T} {e : ℕ × T} {c : Content T}
+      → IsSound es len head room → i ≡ length es → content_of es room g head ≡ c
+      → entry_at c i ≡ Some e → es ≡ es' ++ slot ∷ [] → room' ≡ room
       → Leaves es' (len - 1) head room' g (vacated c i) slot e
   popped {es} {es'} {len} {i} {head} {room} {slot} {e} sound last seen is split kept =
       let f = finds head seen is in
@@ -385,15 +471,23 @@ module _ {T : Type 0} where
       let at : i - 1 ≡ length es' = omega arith in
       let same : slot ≡ used e.0 e.1 = end_is es es' (i - 1) slot (used e.0 e.1) split at f.found in
       let whole : es ≡ es' ++ used e.0 e.1 ∷ [] = rw (← same) split in
-      let counted = sound.counted ∙ ap (λ xs. count_by is_some (map entry_of xs)) whole ∙ count_push es' e.0 e.1 in
+      let counted = sound.counted ∙ ap (λ xs. count_by is_some (map entry_of xs)) whole
+      ∙ count_push es' e.0 e.1 in
       let l = links es (length es) head in
-      let linked : (k : ℕ) → links_at es' k ≡ links_at es k = λ k. sym (ap (λ xs. links_at xs k) whole ∙ links-push_used es' e.0 e.1 k) in
+      let linked : (k : ℕ) → links_at es' k ≡ links_at es k =
+      λ k. sym (ap (λ xs. links_at xs k) whole ∙ links-push_used es' e.0 e.1 k) in
       let listed : IsFreeList es' head l =
-      record { first = sound.listed.first; stands = stands_all (links_at es) (links_at es') linked None None l sound.listed.stands } in
-      let left = sound_of es' (len - 1) head l room (omega arith) (omega arith) listed (omega arith) in
-      let test : eqb i (length (map entry_of es)) ≡ true = eq-eqb _ _ (omega (arith, length-map es entry_of)) in
+      record {
+        first = sound.listed.first;
+        stands = stands_all (links_at es) (links_at es') linked None None l sound.listed.stands;
+      } in
+      let left = sound_of es' (len - 1) head l room (omega arith) (omega arith) listed (omega arith)
+      in
+      let test : eqb i (length (map entry_of es)) ≡ true =
+      eq-eqb _ _ (omega (arith, length-map es entry_of)) in
       let front : take (i - 1) (map entry_of es) ≡ map entry_of es' =
-      rw (whole, at, map_push entry_of es' (used e.0 e.1), ← length-map es' entry_of) (take-append_seam (map entry_of es') (Some (e.0, e.1) ∷ [])) in
+      rw (whole, at, map_push entry_of es' (used e.0 e.1), ← length-map es' entry_of)
+      (take-append_seam (map entry_of es') (Some (e.0, e.1) ∷ [])) in
       rw kept
       record {
         sound = left.sound;
@@ -402,22 +496,31 @@ module _ {T : Type 0} where
       }
 
   -- the head is free after a write of a live slot
-  pub head_free : {es es' : List (Slot T)} {len : ℕ} (i : ℕ) {head : Option ℕ} {room : Room} {g : ℕ} {e : ℕ × T} {c : Content T} (new : Slot T) → IsSound es len head room
-      → content_of es room g head ≡ c → entry_at c i ≡ Some e → es' ≡ set es (i - 1) new → (j : ℕ) → head ≡ Some j → IsSome (links_at es' j)
+  pub head_free : {es es' : List (Slot T)} {len : ℕ} (i : ℕ) {head : Option ℕ} {room : Room} {g : ℕ}
+      {e : ℕ × T} {c : Content T} (new : Slot T) → IsSound es len head room
+      → content_of es room g head ≡ c → entry_at c i ≡ Some e → es' ≡ set es (i - 1) new → (j : ℕ)
+      → head ≡ Some j → IsSome (links_at es' j)
   head_free {es} {es'} i {head = head} {e = e} new sound seen is written j at =
       let f = finds head seen is in
       let l = links es (length es) head in
       let within = slice_get_within es (i - 1) _ f.found in
-      let off = none_off (links_at es) None l i sound.listed.stands (links_of_slot es i (used e.0 e.1) f.positive f.found) in
+      let off = none_off (links_at es) None l i sound.listed.stands
+      (links_of_slot es i (used e.0 e.1) f.positive f.found) in
       subst (λ xs. IsSome (links_at xs j)) (sym written)
-      (first_free es i new None l f.positive within sound.listed.stands off j (sym sound.listed.first ∙ at))
+      (first_free es i new None l f.positive within sound.listed.stands off j
+      (sym sound.listed.first ∙ at))
 
   -- a slot becomes the next one to be taken, and the first free one stands behind it
-  pub freed : {es es1 es' : List (Slot T)} {len i : ℕ} {head head' : Option ℕ} {room room' : Room} {g : ℕ} {old new : Slot T} {e : ℕ × T} {c : Content T}
-      → IsSound es len head room → (i ≡ length es → ⊥) → content_of es room g head ≡ c → entry_at c i ≡ Some e → slice_get es (i - 1) ≡ Some old
-      → es1 ≡ set es (i - 1) new → new ≡ free None head → head' ≡ Some i → ((j : ℕ) → links_at es' j ≡ with_prev_at (links_at es1) head head' j)
-      → map entry_of es' ≡ map entry_of es1 → room' ≡ room → Leaves es' (len - 1) head' room' g (vacated c i) old e
-  freed {es} {es1} {es'} {len} {i} {head} {head'} {room} {old = old} {e = e} sound inner seen is was written emptied first linked entries kept =
+  pub freed : {es es1 es' : List (Slot T)} {len i : ℕ} {head head' : Option ℕ} {room room' : Room}
+      {g : ℕ} {old new : Slot T} {e : ℕ × T} {c : Content T}
+      → IsSound es len head room → (i ≡ length es → ⊥) → content_of es room g head ≡ c
+      → entry_at c i ≡ Some e → slice_get es (i - 1) ≡ Some old
+      → es1 ≡ set es (i - 1) new → new ≡ free None head → head' ≡ Some i
+      → ((j : ℕ) → links_at es' j ≡ with_prev_at (links_at es1) head head' j)
+      → map entry_of es' ≡ map entry_of es1 → room' ≡ room
+      → Leaves es' (len - 1) head' room' g (vacated c i) old e
+  freed {es} {es1} {es'} {len} {i} {head} {head'} {room} {old = old} {e = e} sound inner seen is was
+      written emptied first linked entries kept =
       let f = finds head seen is in
       let found = f.found in
       let positive = f.positive in
@@ -434,17 +537,23 @@ module _ {T : Type 0} where
       let there2 = length-map es' entry_of in
       let long = ap length entries in
       let size1 = ap length put in
-      let live : count_by is_some (map entry_of es') ≡ count_by is_some (map entry_of (set es (i - 1) (free None head))) =
+      let live : count_by is_some (map entry_of es')
+      ≡ count_by is_some (map entry_of (set es (i - 1) (free None head))) =
       ap (count_by is_some) entries ∙ ap (λ xs. count_by is_some (map entry_of xs)) put in
       let at : (k : ℕ) → links_at es1 k ≡ (if k == i then Some (None, head) else links_at es k) =
       λ k. ap (λ xs. links_at xs k) put ∙ links-set es i (free None head) positive within k in
-      let off = none_off (links_at es) None l i sound.listed.stands (links_of_slot es i (used e.0 e.1) positive found) in
-      let stands = put_first (links_at es) (links_at es') (links_at es1) head i l sound.listed.stands sound.listed.first off
+      let off = none_off (links_at es) None l i sound.listed.stands
+      (links_of_slot es i (used e.0 e.1) positive found) in
+      let stands = put_first (links_at es) (links_at es') (links_at es1) head i l
+      sound.listed.stands sound.listed.first off
       (at i ∙ rw (eq-eqb i i refl) refl) (λ k other. at k ∙ rw (ne_eqb k i other) refl)
       (λ k. linked k ∙ ap (λ o. with_prev_at (links_at es1) head o k) first) in
-      let left = sound_of es' (len - 1) (Some i) (i ∷ l) room (omega arith) (omega arith) (record { first = refl; stands = stands }) (omega arith) in
-      let test : eqb i (length (map entry_of es)) ≡ false = ne_eqb _ _ (λ last. inner (last ∙ length-map es entry_of)) in
-      let slots : map entry_of es' ≡ set (map entry_of es) (i - 1) None = entries ∙ ap (map entry_of) put ∙ map-set entry_of es (i - 1) (free None head) in
+      let left = sound_of es' (len - 1) (Some i) (i ∷ l) room (omega arith) (omega arith)
+      (record { first = refl; stands = stands }) (omega arith) in
+      let test : eqb i (length (map entry_of es)) ≡ false =
+      ne_eqb _ _ (λ last. inner (last ∙ length-map es entry_of)) in
+      let slots : map entry_of es' ≡ set (map entry_of es) (i - 1) None = entries
+      ∙ ap (map entry_of) put ∙ map-set entry_of es (i - 1) (free None head) in
       rw (first, kept)
       record {
         sound = left.sound;
@@ -453,22 +562,28 @@ module _ {T : Type 0} where
       }
 
   -- a live slot that stays live keeps the list
-  pub list_set : (es : List (Slot T)) (i g h : ℕ) (t w : T) (head : Option ℕ) (l : List ℕ) → 0 < i → slice_get es (i - 1) ≡ Some (used g t)
+  pub list_set : (es : List (Slot T)) (i g h : ℕ) (t w : T) (head : Option ℕ) (l : List ℕ) → 0 < i
+      → slice_get es (i - 1) ≡ Some (used g t)
       → IsFreeList es head l → IsFreeList (set es (i - 1) (used h w)) head l
   list_set es i g h t w head l positive found f =
       record {
         first = f.first;
-        stands = stands_all (links_at es) _ (λ k. links-set es i (used h w) positive (slice_get_within es (i - 1) _ found) k
+        stands = stands_all (links_at es) _
+            (λ k. links-set es i (used h w) positive (slice_get_within es (i - 1) _ found) k
             ∙ elim (eqb_tells k i) [
-              | inl same ↦ rw same.0 (sym (ap (links_at es) same.1 ∙ links_of_slot es i (used g t) positive found))
+              | inl same ↦ rw same.0
+                  (sym (ap (links_at es) same.1 ∙ links_of_slot es i (used g t) positive found))
               | inr other ↦ rw other.0 refl
             ]) None None l f.stands;
       }
 
   -- a live slot has another value
-  pub rewritten : {es es' : List (Slot T)} {len : ℕ} (i : ℕ) {head : Option ℕ} {room room' : Room} {g : ℕ} (w : T) {old : Slot T} {e : ℕ × T} {c : Content T}
-      → IsSound es len head room → content_of es room g head ≡ c → entry_at c i ≡ Some e → slice_get es (i - 1) ≡ Some old
-      → es' ≡ set es (i - 1) (with_slot_value old w) → room' ≡ room → Leaves es' len head room' g (with_value c i w) old e
+  pub rewritten : {es es' : List (Slot T)} {len : ℕ} (i : ℕ) {head : Option ℕ} {room room' : Room}
+      {g : ℕ} (w : T) {old : Slot T} {e : ℕ × T} {c : Content T}
+      → IsSound es len head room → content_of es room g head ≡ c → entry_at c i ≡ Some e
+      → slice_get es (i - 1) ≡ Some old
+      → es' ≡ set es (i - 1) (with_slot_value old w) → room' ≡ room
+      → Leaves es' len head room' g (with_value c i w) old e
   rewritten {es} {len} i {head} {room} w {old} {e} sound seen is was written kept =
       let f = finds head seen is in
       let found = f.found in
@@ -490,9 +605,12 @@ module _ {T : Type 0} where
       }
 
   -- a live slot has another generation
-  pub renewed : {es es' : List (Slot T)} {len : ℕ} (i : ℕ) {head : Option ℕ} {room room' : Room} {g : ℕ} (h : ℕ) {old new : Slot T} {e : ℕ × T} {c : Content T}
-      → IsSound es len head room → content_of es room g head ≡ c → entry_at c i ≡ Some e → Some old ≡ slice_get es (i - 1)
-      → new ≡ with_slot_generation old h → es' ≡ set es (i - 1) new → room' ≡ room → Leaves es' len head room' g (with_generation c i h) old e
+  pub renewed : {es es' : List (Slot T)} {len : ℕ} (i : ℕ) {head : Option ℕ} {room room' : Room}
+      {g : ℕ} (h : ℕ) {old new : Slot T} {e : ℕ × T} {c : Content T}
+      → IsSound es len head room → content_of es room g head ≡ c → entry_at c i ≡ Some e
+      → Some old ≡ slice_get es (i - 1)
+      → new ≡ with_slot_generation old h → es' ≡ set es (i - 1) new → room' ≡ room
+      → Leaves es' len head room' g (with_generation c i h) old e
   renewed {es} {len} i {head} {room} h {old} {e} sound seen is was changed written kept =
       let f = finds head seen is in
       let found = f.found in
@@ -513,40 +631,54 @@ module _ {T : Type 0} where
         entry_is = refl;
       }
 
-  all_vacant : (es : List (Slot T)) (c : Content T) (b : Option ℕ) (l : List ℕ) → c.slots ≡ map entry_of es → Stands (links_at es) b l None → AllVacant c l
+  all_vacant : (es : List (Slot T)) (c : Content T) (b : Option ℕ) (l : List ℕ)
+      → c.slots ≡ map entry_of es → Stands (links_at es) b l None → AllVacant c l
   all_vacant es c b [] same s = tt
   all_vacant es c b (i ∷ l) same s =
       let f = free_at es i _ s.0 in
       let positive = f.positive in
       let within = f.within in
       let sizes = ap length same ∙ length-map es entry_of in
-      let read = get_or-map entry_of es (i - 1) (free None None) None (omega (arith, positive, within))
+      let read = get_or-map entry_of es (i - 1) (free None None) None
+      (omega (arith, positive, within))
       ∙ ap entry_of (get_or_from_slice_get es (i - 1) _ (free None None) f.found) in (
-        record { positive = positive; within = omega arith; vacant = entry_at_slot c i positive ∙ rw same read },
+        record {
+          positive = positive;
+          within = omega arith;
+          vacant = entry_at_slot c i positive ∙ rw same read;
+        },
         (once (links_at es) b i l s, all_vacant es c (Some i) l same s.1),
       )
 
   -- sound slots are seen as a content that is well formed
-  pub formed : {es : List (Slot T)} {len : ℕ} {head : Option ℕ} {room : Room} {g : ℕ} {c : Content T} → IsSound es len head room
+  pub formed : {es : List (Slot T)} {len : ℕ} {head : Option ℕ} {room : Room} {g : ℕ}
+      {c : Content T} → IsSound es len head room
       → content_of es room g head ≡ c → IsWellFormed c
   formed {es} {head} {room} {g} sound seen =
       rw (← seen)
       record {
-        free = all_vacant es (content_of es room g head) None (links es (length es) head) refl sound.listed.stands;
+        free = all_vacant es (content_of es room g head) None (links es (length es) head) refl
+            sound.listed.stands;
         counted = omega (arith, sound.counted, sound.total, length-map es entry_of);
         fits = omega (arith, sound.fits, length-map es entry_of);
       }
 
   -- what a pointer finds by the slot at its index
-  pub get_of_none : (es : List (Slot T)) {room : Room} {g : ℕ} (head : Option ℕ) {c : Content T} {o : Option (Slot T)} {i j : ℕ} (gen : ℕ)
-      → content_of es room g head ≡ c → o ≡ None → o ≡ slice_get es (i - 1) → i ≡ j → get c j gen ≡ None
+  pub get_of_none : (es : List (Slot T)) {room : Room} {g : ℕ} (head : Option ℕ) {c : Content T}
+      {o : Option (Slot T)} {i j : ℕ} (gen : ℕ)
+      → content_of es room g head ≡ c → o ≡ None → o ≡ slice_get es (i - 1) → i ≡ j
+      → get c j gen ≡ None
   get_of_none es head {j} gen seen none read same =
-      ap (value_if gen) (no_entry es head j seen (subst (λ x. slice_get es (x - 1) ≡ None) same (sym read ∙ none)))
+      ap (value_if gen) (no_entry es head j seen
+      (subst (λ x. slice_get es (x - 1) ≡ None) same (sym read ∙ none)))
 
-  pub get_of_slot : (es : List (Slot T)) {room : Room} {g : ℕ} (head : Option ℕ) {c : Content T} {o : Option (Slot T)} {slot : Slot T} {i j : ℕ} (gen : ℕ)
-      → content_of es room g head ≡ c → o ≡ Some slot → o ≡ slice_get es (i - 1) → 0 < i → i ≡ j → get c j gen ≡ value_if gen (entry_of slot)
+  pub get_of_slot : (es : List (Slot T)) {room : Room} {g : ℕ} (head : Option ℕ) {c : Content T}
+      {o : Option (Slot T)} {slot : Slot T} {i j : ℕ} (gen : ℕ)
+      → content_of es room g head ≡ c → o ≡ Some slot → o ≡ slice_get es (i - 1) → 0 < i → i ≡ j
+      → get c j gen ≡ value_if gen (entry_of slot)
   get_of_slot es head {c} gen seen some read positive same =
-      ap (λ x. get c x gen) (sym same) ∙ ap (value_if gen) (entry_of_slot es head seen positive (sym read ∙ some))
+      ap (λ x. get c x gen) (sym same)
+      ∙ ap (value_if gen) (entry_of_slot es head seen positive (sym read ∙ some))
 
   slice_get_past : (es : List (Slot T)) (k : ℕ) → length es ≤ k → slice_get es k ≡ None
   slice_get_past [] k past = refl
@@ -554,7 +686,8 @@ module _ {T : Type 0} where
   slice_get_past (x ∷ es) (suc k) past = slice_get_past es k (omega arith)
 
   -- an index past every number of slots has no entry
-  pub entry_past : (es : List (Slot T)) (room : Room) (g : ℕ) (head : Option ℕ) (c : Content T) (n i j : ℕ) → content_of es room g head ≡ c
+  pub entry_past : (es : List (Slot T)) (room : Room) (g : ℕ) (head : Option ℕ) (c : Content T)
+      (n i j : ℕ) → content_of es room g head ≡ c
       → length es < n → n ≤ i → i ≡ j → entry_at c j ≡ None
   entry_past es room g head c n i j seen few past same =
       no_entry es head j seen (slice_get_past es (j - 1) (omega arith))
@@ -569,13 +702,17 @@ module _ {T : Type 0} where
   value_of_entry (used g t) = refl
 
   -- what stands at an index by its slot
-  pub entry_of_none : (es : List (Slot T)) {room : Room} {g : ℕ} (head : Option ℕ) {c : Content T} {o : Option (Slot T)} {i j : ℕ}
-      → content_of es room g head ≡ c → o ≡ None → o ≡ slice_get es (i - 1) → i ≡ j → entry_at c j ≡ None
+  pub entry_of_none : (es : List (Slot T)) {room : Room} {g : ℕ} (head : Option ℕ) {c : Content T}
+      {o : Option (Slot T)} {i j : ℕ}
+      → content_of es room g head ≡ c → o ≡ None → o ≡ slice_get es (i - 1) → i ≡ j
+      → entry_at c j ≡ None
   entry_of_none es head {j} seen none read same =
       no_entry es head j seen (subst (λ x. slice_get es (x - 1) ≡ None) same (sym read ∙ none))
 
-  pub entry_of_some : (es : List (Slot T)) {room : Room} {g : ℕ} (head : Option ℕ) {c : Content T} {o : Option (Slot T)} {slot : Slot T} {i j : ℕ}
-      → content_of es room g head ≡ c → o ≡ Some slot → o ≡ slice_get es (i - 1) → 0 < i → i ≡ j → entry_at c j ≡ entry_of slot
+  pub entry_of_some : (es : List (Slot T)) {room : Room} {g : ℕ} (head : Option ℕ) {c : Content T}
+      {o : Option (Slot T)} {slot : Slot T} {i j : ℕ}
+      → content_of es room g head ≡ c → o ≡ Some slot → o ≡ slice_get es (i - 1) → 0 < i → i ≡ j
+      → entry_at c j ≡ entry_of slot
   entry_of_some es head {c} seen some read positive same =
       ap (entry_at c) (sym same) ∙ entry_of_slot es head seen positive (sym read ∙ some)
 

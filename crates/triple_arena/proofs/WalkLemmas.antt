@@ -1,5 +1,6 @@
 -- Steps over the indexes of an arena.
-use Rattle.std.proofs.Common.{◌≡◌, ℕ, zero, suc, ◌<◌, ◌≤◌, List, [], ◌∷◌, length, get_or, Bool, true, Option, Some, None, IfSome, IfNone, inl, inr, refl, arith}
+use Rattle.std.proofs.Common.{◌≡◌, ℕ, zero, suc, ◌<◌, ◌≤◌, List, [], ◌∷◌, length, get_or, Bool}
+use Rattle.std.proofs.Common.{true, Option, Some, None, IfSome, IfNone, inl, inr, refl, arith}
 use Rattle.std.proofs.lemmas.Bool.Decides.{leb_tells}
 use Rattle.std.specs.Option.{option_map}
 use Rattle.triple_arena.specs.Content.{Content, entry_at}
@@ -17,8 +18,10 @@ module _ {T : Type 0} where
       absent (x ∷ xs) (suc k) beyond = absent xs k (omega arith)
 
   -- nothing found among all slots: nothing is live
-  pub none_at_all : {P : Type 0} (c : Content T) (number : P → ℕ × ℕ) (n : ℕ) (falls : Bool) (given : Option P) → n ≡ length c.slots
-      → Finds (entry_at c) (record { low = 1; high = n; falls = falls }) (option_map number given) → IfNone given ((j : ℕ) → entry_at c j ≡ None)
+  pub none_at_all : {P : Type 0} (c : Content T) (number : P → ℕ × ℕ) (n : ℕ) (falls : Bool)
+      (given : Option P) → n ≡ length c.slots
+      → Finds (entry_at c) (record { low = 1; high = n; falls = falls }) (option_map number given)
+      → IfNone given ((j : ℕ) → entry_at c j ≡ None)
   none_at_all c number n falls (Some p) all finds = tt
   none_at_all c number n falls None all finds = each
     where
@@ -31,7 +34,8 @@ module _ {T : Type 0} where
           ]
 
   -- the last one found among all slots: nothing after it is live
-  pub none_after : {P : Type 0} (c : Content T) (number : P → ℕ × ℕ) (n : ℕ) (given : Option P) → n ≡ length c.slots
+  pub none_after : {P : Type 0} (c : Content T) (number : P → ℕ × ℕ) (n : ℕ) (given : Option P)
+      → n ≡ length c.slots
       → Finds (entry_at c) (record { low = 1; high = n; falls = true }) (option_map number given)
       → IfSome given (λ p. (j : ℕ) → (number p).0 < j → entry_at c j ≡ None)
   none_after c number n None all finds = tt

@@ -5,8 +5,10 @@ use Rattle.std.specs.Option.{option_map}
 use Rattle.triple_arena_ptr.specs.Generation.{next_generation}
 use Rattle.triple_arena_stack.specs.Room.{Room}
 use Rattle.triple_arena.specs.ArenaRoom.{room_with}
-use Rattle.triple_arena.specs.Entries.{with_entry, without, with_generation_at, with_values_exchanged}
-use Rattle.triple_arena.specs.Compression.{renewed, generation_given, entry_of_listed, generation_of, IsCompact}
+use Rattle.triple_arena.specs.Entries.{with_entry, without, with_generation_at}
+use Rattle.triple_arena.specs.Entries.{with_values_exchanged}
+use Rattle.triple_arena.specs.Compression.{renewed, generation_given, entry_of_listed}
+use Rattle.triple_arena.specs.Compression.{generation_of, IsCompact}
 
 module _ {S T : Type 0} (entry_of : S → ℕ → Option (ℕ × T)) (live_of : S → ℕ)
     (counter_of : S → Option ℕ) where

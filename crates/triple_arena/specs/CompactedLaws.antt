@@ -1,7 +1,9 @@
 -- What each exact state after a compression holds, of an `Arena` and of a `DirectArena`: the entry
 -- at each index, how many are live, how far the slots reach, the counter, the free indexes, the
 -- room, and that the slots are within it.
-use Rattle.std.proofs.Common.{◌≡◌, Bool, ℕ, zero, suc, ◌+◌, ◌-◌, List, [], ◌∷◌, length, map, get_or, slice_get, count_by, cond, Option, Some, None, is_some, refl, ap, ◌∙◌, arith}
+use Rattle.std.proofs.Common.{◌≡◌, Bool, ℕ, zero, suc, ◌+◌, ◌-◌, List, [], ◌∷◌, length, map, get_or}
+use Rattle.std.proofs.Common.{slice_get, count_by, cond, Option, Some, None, is_some, refl, ap, ◌∙◌}
+use Rattle.std.proofs.Common.{arith}
 use Rattle.std.specs.List.{zip}
 use Rattle.std.specs.Option.{option_map}
 use Rattle.std.proofs.lemmas.List.{length-map}
@@ -10,7 +12,10 @@ use Rattle.triple_arena.specs.Content.{Content, entry_at, live_count, IsWellForm
 use Rattle.triple_arena.specs.ContentLaws.{entry_at_slot}
 use Rattle.triple_arena.specs.LiveEntries.{live_entries, live_entries-length}
 use Rattle.triple_arena.specs.Compression.{renewed, generation_of, value_of, compacted}
-use Rattle.triple_arena.specs.DirectContent.{DirectContent, as_content, entry_at as direct_entry_at, live_count as direct_live_count, live_entries as direct_live_entries, compressed, IsWellFormed as IsDirectlyWellFormed}
+use Rattle.triple_arena.specs.DirectContent.{DirectContent, as_content, entry_at as direct_entry_at}
+use Rattle.triple_arena.specs.DirectContent.{live_count as direct_live_count}
+use Rattle.triple_arena.specs.DirectContent.{live_entries as direct_live_entries, compressed}
+use Rattle.triple_arena.specs.DirectContent.{IsWellFormed as IsDirectlyWellFormed}
 
 module _ {X : Type 0} where
   -- slots that are all live read as what they hold

@@ -1,5 +1,6 @@
 -- The live entries at the first indexes, in the order of the indexes that they had.
-use Rattle.std.specs.Prelude.{◌≡◌, ℕ, ◌+◌, Bool, false, List, [], ◌∷◌, map, slice_get, Option, Some, None, if◌then◌else◌}
+use Rattle.std.specs.Prelude.{◌≡◌, ℕ, ◌+◌, Bool, false, List, [], ◌∷◌, map, slice_get, Option, Some}
+use Rattle.std.specs.Prelude.{None, if◌then◌else◌}
 use Rattle.std.specs.List.{FoldsTo, list_any}
 use Rattle.triple_arena_ptr.specs.Generation.{second_generation, next_generation, next_wraps}
 use Rattle.triple_arena.specs.Content.{Content}

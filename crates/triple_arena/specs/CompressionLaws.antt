@@ -2,7 +2,8 @@
 -- `mapped` first.
 use Rattle.std.proofs.Common.{◌≡◌, ℕ, List, [], ◌∷◌, map, refl, ap, ◌∙◌}
 use Rattle.std.specs.List.{FoldsTo, AllZip}
-use Rattle.triple_arena.specs.Compression.{Move, value_of, given_in_turn, entry_before, entry_after, IsMapped}
+use Rattle.triple_arena.specs.Compression.{Move, value_of, given_in_turn, entry_before, entry_after}
+use Rattle.triple_arena.specs.Compression.{IsMapped}
 
 module _ {P T F : Type 0} {index generation : P → ℕ} {step : F → P → T → P → T → F → Type 0} {f : F}
     {old new : List (ℕ × (ℕ × T))} (m : IsMapped

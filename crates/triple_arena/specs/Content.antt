@@ -1,5 +1,7 @@
 -- What a contract sees of an `Arena`.
-use Rattle.std.specs.Prelude.{◌≡◌, ◌≢◌, ℕ, zero, suc, ◌+◌, ◌-◌, ◌<◌, ◌≤◌, ◌==◌, List, [], ◌∷◌, ◌++◌, length, take, Option, Some, None, is_some, count_by, filter, slice_index_or, slice_set, nat_lt, nat_le, min, if◌then◌else◌, refl}
+use Rattle.std.specs.Prelude.{◌≡◌, ◌≢◌, ℕ, zero, suc, ◌+◌, ◌-◌, ◌<◌, ◌≤◌, ◌==◌, List, [], ◌∷◌, ◌++◌}
+use Rattle.std.specs.Prelude.{length, take, Option, Some, None, is_some, count_by, filter}
+use Rattle.std.specs.Prelude.{slice_index_or, slice_set, nat_lt, nat_le, min, if◌then◌else◌, refl}
 use Rattle.std.specs.List.{suffix_len}
 use Rattle.std.specs.Option.{is_none}
 use Rattle.std.specs.Coded.{Coded, code_by, coded×, coded_ℕ, coded_list, coded_option}

@@ -1,6 +1,8 @@
 -- The entries of a content by their slots, what carries the free indexes over from one content to
 -- another, and what a write of a value changes and keeps.
-use Rattle.std.proofs.Common.{◌≡◌, ◌≢◌, ◌==◌, if◌then◌else◌, ℕ, zero, suc, ◌+◌, ◌-◌, ◌<◌, ◌≤◌, List, [], ◌∷◌, length, get_or, set, cond, Option, Some, None, IsSome, is_some, true≢false, inl, inr, refl, sym, ap, subst, ◌∙◌, arith}
+use Rattle.std.proofs.Common.{◌≡◌, ◌≢◌, ◌==◌, if◌then◌else◌, ℕ, zero, suc, ◌+◌, ◌-◌, ◌<◌, ◌≤◌, List}
+use Rattle.std.proofs.Common.{[], ◌∷◌, length, get_or, set, cond, Option, Some, None, IsSome}
+use Rattle.std.proofs.Common.{is_some, true≢false, inl, inr, refl, sym, ap, subst, ◌∙◌, arith}
 use Rattle.std.proofs.lemmas.Bool.{eq-eqb, ne_eqb}
 use Rattle.std.proofs.lemmas.Bool.Decides.{eqb_tells}
 use Rattle.std.proofs.lemmas.List.{get_or-set_same, get_or-set_other, length-set}
@@ -8,7 +10,8 @@ use Rattle.std.proofs.lemmas.List.Sums.{sum_by-set}
 use Rattle.std.specs.Option.{option_map}
 use Rattle.triple_arena.specs.Entries.{generation_at, value_if, with_value_at}
 use Rattle.triple_arena_stack.specs.Room.{capacity}
-use Rattle.triple_arena.specs.Content.{Content, entry_at, live_count, arena_capacity, next_index, with_value, Lacks, AllVacant, IsWellFormed}
+use Rattle.triple_arena.specs.Content.{Content, entry_at, live_count, arena_capacity, next_index}
+use Rattle.triple_arena.specs.Content.{with_value, Lacks, AllVacant, IsWellFormed}
 
 module _ {T : Type 0} where
   -- the entry at an index from 1 on

@@ -1,7 +1,8 @@
 -- What a copy of an arena is: the same pointers, with the values that a map gives. A source is seen
 -- as the list of its live entries, each an index, a generation and a value, in the order of the
 -- indexes.
-use Rattle.std.specs.Prelude.{◌≡◌, ℕ, ◌+◌, ◌-◌, ◌<◌, Bool, IsTrue, ◌⊎◌, List, [], ◌∷◌, ◌++◌, map, replicate, slice_get, Option, Some, None, unwrap_or, Result, Ok, Err}
+use Rattle.std.specs.Prelude.{◌≡◌, ℕ, ◌+◌, ◌-◌, ◌<◌, Bool, IsTrue, ◌⊎◌, List, [], ◌∷◌, ◌++◌, map}
+use Rattle.std.specs.Prelude.{replicate, slice_get, Option, Some, None, unwrap_or, Result, Ok, Err}
 use Rattle.std.specs.Borrow.{Bor}
 use Rattle.std.specs.List.{FoldsTo, last_or}
 use Rattle.std.specs.Option.{option_map}

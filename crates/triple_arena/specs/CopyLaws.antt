@@ -1,18 +1,29 @@
 -- What a copy holds, of an `Arena` and of a `DirectArena`: the entry at each index, how many are
 -- live, how far the slots reach, the counter, the free indexes, the room, and well-formedness. And
 -- what the calls of its map leave, by what one call does.
-use Rattle.std.proofs.Common.{◌≡◌, ℕ, zero, suc, ◌+◌, ◌-◌, ◌<◌, ◌≤◌, List, [], ◌∷◌, ◌++◌, map, length, get_or, replicate, Option, Some, None, IsSome, refl, sym, ap, ◌∙◌, arith, true≢false}
+use Rattle.std.proofs.Common.{◌≡◌, ℕ, zero, suc, ◌+◌, ◌-◌, ◌<◌, ◌≤◌, List, [], ◌∷◌, ◌++◌, map}
+use Rattle.std.proofs.Common.{length, get_or, replicate, Option, Some, None, IsSome, refl, sym, ap}
+use Rattle.std.proofs.Common.{◌∙◌, arith, true≢false}
 use Rattle.std.specs.Prelude.{Result, Ok, unwrap_or}
 use Rattle.std.specs.Borrow.{Bor}
 use Rattle.std.proofs.lemmas.List.{length-append, length-replicate}
 use Rattle.triple_arena.specs.ArenaRoom.{room_with}
 use Rattle.triple_arena.specs.Entries.{look_up}
 use Rattle.triple_arena.specs.Compression.{listed_under}
-use Rattle.triple_arena.specs.Content.{Content, entry_at, live_count, arena_capacity, last_index, vacant_from, IsWellFormed}
-use Rattle.triple_arena.specs.DirectContent.{DirectContent, as_content, entry_at as direct_entry_at, live_count as direct_live_count, live_entries as direct_live_entries, arena_capacity as direct_capacity, last_index as direct_last_index, IsWellFormed as IsDirectlyWellFormed}
-use Rattle.triple_arena.specs.FreeListLaws.{IsLastIndex, last_index-is, vacant-counted, all_vacant_from}
-use Rattle.triple_arena.specs.LiveEntries.{listed_from, live_entries, entry-listed, live_entries-length}
-use Rattle.triple_arena.specs.Copy.{last_listed, spread, copied, directly_copied, Call, Calls, IsMappedCopy}
+use Rattle.triple_arena.specs.Content.{Content, entry_at, live_count, arena_capacity, last_index}
+use Rattle.triple_arena.specs.Content.{vacant_from, IsWellFormed}
+use Rattle.triple_arena.specs.DirectContent.{DirectContent, as_content, entry_at as direct_entry_at}
+use Rattle.triple_arena.specs.DirectContent.{live_count as direct_live_count}
+use Rattle.triple_arena.specs.DirectContent.{live_entries as direct_live_entries}
+use Rattle.triple_arena.specs.DirectContent.{arena_capacity as direct_capacity}
+use Rattle.triple_arena.specs.DirectContent.{last_index as direct_last_index}
+use Rattle.triple_arena.specs.DirectContent.{IsWellFormed as IsDirectlyWellFormed}
+use Rattle.triple_arena.specs.FreeListLaws.{IsLastIndex, last_index-is, vacant-counted}
+use Rattle.triple_arena.specs.FreeListLaws.{all_vacant_from}
+use Rattle.triple_arena.specs.LiveEntries.{listed_from, live_entries, entry-listed}
+use Rattle.triple_arena.specs.LiveEntries.{live_entries-length}
+use Rattle.triple_arena.specs.Copy.{last_listed, spread, copied, directly_copied, Call, Calls}
+use Rattle.triple_arena.specs.Copy.{IsMappedCopy}
 
 module _ {T : Type 0} where
   -- the indexes rise from this one on

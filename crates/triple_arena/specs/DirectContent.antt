@@ -1,12 +1,19 @@
 -- What a contract sees of a `DirectArena`.
-use Rattle.std.specs.Prelude.{◌≡◌, ℕ, ◌-◌, ◌<◌, ◌≤◌, Bool, List, [], ◌++◌, map, length, replicate, Option, Some, None, slice_set, refl}
+use Rattle.std.specs.Prelude.{◌≡◌, ℕ, ◌-◌, ◌<◌, ◌≤◌, Bool, List, [], ◌++◌, map, length, replicate}
+use Rattle.std.specs.Prelude.{Option, Some, None, slice_set, refl}
 use Rattle.std.specs.Coded.{Coded, code_by, coded×, coded_ℕ, coded_list, coded_option}
 use Rattle.std.specs.List.{zip}
 use Rattle.triple_arena_ptr.specs.Generation.{next_generation}
 use Rattle.triple_arena_stack.specs.Room.{Room, capacity}
 use Rattle.triple_arena.specs.ArenaRoom.{room_with}
 use Rattle.triple_arena.specs.Entries.{value_if}
-use Rattle.triple_arena.specs.Content.{Content, entry_at as entry_of, live_count as live_count_of, with_value as with_value_of, with_exchange as with_exchange_of, with_generation as with_generation_of, last_index as last_index_of, without_free_end as without_free_end_of, with_limit as with_limit_of}
+use Rattle.triple_arena.specs.Content.{Content, entry_at as entry_of, live_count as live_count_of}
+use Rattle.triple_arena.specs.Content.{with_value as with_value_of}
+use Rattle.triple_arena.specs.Content.{with_exchange as with_exchange_of}
+use Rattle.triple_arena.specs.Content.{with_generation as with_generation_of}
+use Rattle.triple_arena.specs.Content.{last_index as last_index_of}
+use Rattle.triple_arena.specs.Content.{without_free_end as without_free_end_of}
+use Rattle.triple_arena.specs.Content.{with_limit as with_limit_of}
 use Rattle.triple_arena.specs.LiveEntries.{live_entries as live_entries_of}
 use Rattle.triple_arena.specs.Compression.{renewed, generation_of}
 use Rattle.triple_arena.specs.Transfer.{filled as filled_of}

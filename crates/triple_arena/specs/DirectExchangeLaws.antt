@@ -1,12 +1,18 @@
 -- What an exchange of two values of a direct arena changes and keeps.
-use Rattle.std.proofs.Common.{◌≡◌, ◌≢◌, ℕ, zero, suc, ◌-◌, length, get_or, set, Some, None, IsSome, is_some, ap, sym, ◌∙◌, arith}
+use Rattle.std.proofs.Common.{◌≡◌, ◌≢◌, ℕ, zero, suc, ◌-◌, length, get_or, set, Some, None, IsSome}
+use Rattle.std.proofs.Common.{is_some, ap, sym, ◌∙◌, arith}
 use Rattle.std.proofs.lemmas.List.{set-get_or}
 use Rattle.triple_arena_stack.specs.Room.{capacity}
 use Rattle.triple_arena.specs.Entries.{with_values_exchanged}
 use Rattle.triple_arena.specs.Content.{with_value as with_value_of}
 use Rattle.triple_arena.specs.ContentLaws.{live_entry}
-use Rattle.triple_arena.specs.ExchangeLaws.{exchange-is as exchange-is_of, entry-with_exchange as entry-with_exchange_of, live-with_exchange as live-with_exchange_of, slots-with_exchange as slots-with_exchange_of, room-with_exchange as room-with_exchange_of}
-use Rattle.triple_arena.specs.DirectContent.{DirectContent, as_content, of_content, entry_at, live_count, with_value, with_exchange, IsWellFormed}
+use Rattle.triple_arena.specs.ExchangeLaws.{exchange-is as exchange-is_of}
+use Rattle.triple_arena.specs.ExchangeLaws.{entry-with_exchange as entry-with_exchange_of}
+use Rattle.triple_arena.specs.ExchangeLaws.{live-with_exchange as live-with_exchange_of}
+use Rattle.triple_arena.specs.ExchangeLaws.{slots-with_exchange as slots-with_exchange_of}
+use Rattle.triple_arena.specs.ExchangeLaws.{room-with_exchange as room-with_exchange_of}
+use Rattle.triple_arena.specs.DirectContent.{DirectContent, as_content, of_content, entry_at}
+use Rattle.triple_arena.specs.DirectContent.{live_count, with_value, with_exchange, IsWellFormed}
 use Rattle.triple_arena.specs.DirectLaws.{content-with_value}
 
 module _ {T : Type 0} where

@@ -1,6 +1,9 @@
 -- What each exact state of a `DirectArena` holds: the entry at each index, how many are live, how
 -- far the slots reach, the room, and that the slots are within it.
-use Rattle.std.proofs.Common.{◌≡◌, ◌==◌, if◌then◌else◌, ℕ, zero, suc, ◌+◌, ◌-◌, ◌<◌, ◌≤◌, List, [], ◌∷◌, ◌++◌, length, replicate, min, max, get_or, cond, Option, Some, None, IsSome, is_some, count_by, refl, sym, ap, ◌∙◌, arith, length-append, length-set}
+use Rattle.std.proofs.Common.{◌≡◌, ◌==◌, if◌then◌else◌, ℕ, zero, suc, ◌+◌, ◌-◌, ◌<◌, ◌≤◌, List, []}
+use Rattle.std.proofs.Common.{◌∷◌, ◌++◌, length, replicate, min, max, get_or, cond, Option, Some}
+use Rattle.std.proofs.Common.{None, IsSome, is_some, count_by, refl, sym, ap, ◌∙◌, arith}
+use Rattle.std.proofs.Common.{length-append, length-set}
 use Rattle.std.proofs.lemmas.List.{length-replicate}
 use Rattle.std.proofs.lemmas.List.Sums.{sum_by-set, sum_by-cons}
 use Rattle.triple_arena_ptr.specs.Generation.{next_generation}
@@ -9,11 +12,29 @@ use Rattle.triple_arena_ptr.specs.Index.{max_index_of}
 use Rattle.triple_arena_stack.specs.Room.{Room, capacity, limited}
 use Rattle.triple_arena.specs.Entries.{with_entry, without, with_value_at, with_generation_at}
 use Rattle.triple_arena.specs.Content.{with_value as with_value_of}
-use Rattle.triple_arena.specs.ContentLaws.{entry_at_slot, live_entry, entry-set, entry-with_value as entry-with_value_of, live-with_value as live-with_value_of, slots-with_value as slots-with_value_of, room-with_value as room-with_value_of}
-use Rattle.triple_arena.specs.GenerationLaws.{entry-with_generation as entry-with_generation_of, live-with_generation as live-with_generation_of, slots-with_generation as slots-with_generation_of, room-with_generation as room-with_generation_of}
-use Rattle.triple_arena.specs.FreeListLaws.{last_index-is, entry-without_free_end as entry-without_free_end_of, live-without_free_end as live-without_free_end_of, slots-without_free_end as slots-without_free_end_of}
-use Rattle.triple_arena.specs.LimitLaws.{capacity-reserved, fitted-within, fitted-less, entry-with_limit as entry-with_limit_of, live-with_limit as live-with_limit_of, slots-with_limit as slots-with_limit_of, room-with_limit as room-with_limit_of}
-use Rattle.triple_arena.specs.DirectContent.{DirectContent, as_content, entry_at, live_count, arena_capacity, reaching, IsPlace, inserted, removed, with_value, with_generation, with_next_generation, invalidated, cleared, in_room, last_index, without_free_end, with_limit, IsWellFormed}
+use Rattle.triple_arena.specs.ContentLaws.{entry_at_slot, live_entry, entry-set}
+use Rattle.triple_arena.specs.ContentLaws.{entry-with_value as entry-with_value_of}
+use Rattle.triple_arena.specs.ContentLaws.{live-with_value as live-with_value_of}
+use Rattle.triple_arena.specs.ContentLaws.{slots-with_value as slots-with_value_of}
+use Rattle.triple_arena.specs.ContentLaws.{room-with_value as room-with_value_of}
+use Rattle.triple_arena.specs.GenerationLaws.{entry-with_generation as entry-with_generation_of}
+use Rattle.triple_arena.specs.GenerationLaws.{live-with_generation as live-with_generation_of}
+use Rattle.triple_arena.specs.GenerationLaws.{slots-with_generation as slots-with_generation_of}
+use Rattle.triple_arena.specs.GenerationLaws.{room-with_generation as room-with_generation_of}
+use Rattle.triple_arena.specs.FreeListLaws.{last_index-is}
+use Rattle.triple_arena.specs.FreeListLaws.{entry-without_free_end as entry-without_free_end_of}
+use Rattle.triple_arena.specs.FreeListLaws.{live-without_free_end as live-without_free_end_of}
+use Rattle.triple_arena.specs.FreeListLaws.{slots-without_free_end as slots-without_free_end_of}
+use Rattle.triple_arena.specs.LimitLaws.{capacity-reserved, fitted-within, fitted-less}
+use Rattle.triple_arena.specs.LimitLaws.{entry-with_limit as entry-with_limit_of}
+use Rattle.triple_arena.specs.LimitLaws.{live-with_limit as live-with_limit_of}
+use Rattle.triple_arena.specs.LimitLaws.{slots-with_limit as slots-with_limit_of}
+use Rattle.triple_arena.specs.LimitLaws.{room-with_limit as room-with_limit_of}
+use Rattle.triple_arena.specs.DirectContent.{DirectContent, as_content, entry_at, live_count}
+use Rattle.triple_arena.specs.DirectContent.{arena_capacity, reaching, IsPlace, inserted, removed}
+use Rattle.triple_arena.specs.DirectContent.{with_value, with_generation, with_next_generation}
+use Rattle.triple_arena.specs.DirectContent.{invalidated, cleared, in_room, last_index}
+use Rattle.triple_arena.specs.DirectContent.{without_free_end, with_limit, IsWellFormed}
 
 free_counts : (X : Type 0) (m : ℕ) → count_by {X = Option X} is_some (replicate m None) ≡ 0
 free_counts X zero = refl

@@ -1,6 +1,7 @@
 -- What a drain leaves of an arena: no entry. A removal does not change it. And how many removals
 -- are to come.
-use Rattle.std.proofs.Common.{◌≡◌, ℕ, zero, suc, ◌+◌, ◌-◌, ◌<◌, List, [], ◌∷◌, length, Option, refl, arith}
+use Rattle.std.proofs.Common.{◌≡◌, ℕ, zero, suc, ◌+◌, ◌-◌, ◌<◌, List, [], ◌∷◌, length, Option, refl}
+use Rattle.std.proofs.Common.{arith}
 use Rattle.std.specs.Fn.{iterate}
 use Rattle.std.specs.Option.{option_map}
 use Rattle.triple_arena_ptr.specs.Generation.{next_generation}
@@ -8,7 +9,8 @@ use Rattle.triple_arena_stack.specs.Room.{Room}
 use Rattle.triple_arena.specs.Changes.{IsRemoved}
 use Rattle.triple_arena.specs.Content.{Content, entry_at, live_count, some_counter}
 use Rattle.triple_arena.specs.ContentLaws.{entry-no_slots}
-use Rattle.triple_arena.specs.DirectContent.{DirectContent, as_content, entry_at as direct_entry_at, live_count as direct_live_count, no_counter, cleared}
+use Rattle.triple_arena.specs.DirectContent.{DirectContent, as_content, entry_at as direct_entry_at}
+use Rattle.triple_arena.specs.DirectContent.{live_count as direct_live_count, no_counter, cleared}
 use Rattle.triple_arena.specs.Drains.{drained, removals, LeavesGivenUp}
 use Rattle.triple_arena.specs.Transfer.{IsGivenUp}
 
@@ -68,8 +70,7 @@ module _ {T : Type 0} (last : Option ℕ) where
         room,
         is,
         one_less,
-        iterate_first (next_generation last) (live_count old) old.counter
-            (omega (arith, fewer)),
+        iterate_first (next_generation last) (live_count old) old.counter (omega (arith, fewer)),
       ) refl
 
   directly_drained-gives_up : (d : DirectContent T)
@@ -88,8 +89,7 @@ module _ (T : Type 0) (last : Option ℕ) where
   unfolding LeavesGivenUp
   drained-leaves = (
     drained-gives_up last,
-    λ old new i removed. drained-same last old new
-        removed.live removed.counter removed.room,
+    λ old new i removed. drained-same last old new removed.live removed.counter removed.room,
   )
 
   pub directly_drained-leaves : LeavesGivenUp {T = T} direct_entry_at direct_live_count no_counter

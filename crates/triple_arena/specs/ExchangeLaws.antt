@@ -1,9 +1,13 @@
 -- What an exchange of two values changes and keeps.
-use Rattle.std.proofs.Common.{◌≡◌, ◌≢◌, ℕ, length, Option, Some, None, IsSome, true≢false, inl, inr, refl, sym, ap, ◌∙◌}
+use Rattle.std.proofs.Common.{◌≡◌, ◌≢◌, ℕ, length, Option, Some, None, IsSome, true≢false, inl, inr}
+use Rattle.std.proofs.Common.{refl, sym, ap, ◌∙◌}
 use Rattle.std.proofs.lemmas.Bool.Decides.{eqb_tells}
 use Rattle.triple_arena.specs.Entries.{with_values_exchanged}
-use Rattle.triple_arena.specs.Content.{Content, entry_at, live_count, with_value, with_value_from, with_exchange, IsWellFormed}
-use Rattle.triple_arena.specs.ContentLaws.{entry-with_value, live-with_value, slots-with_value, counter-with_value, free-with_value, room-with_value, formed-with_value}
+use Rattle.triple_arena.specs.Content.{Content, entry_at, live_count, with_value, with_value_from}
+use Rattle.triple_arena.specs.Content.{with_exchange, IsWellFormed}
+use Rattle.triple_arena.specs.ContentLaws.{entry-with_value, live-with_value, slots-with_value}
+use Rattle.triple_arena.specs.ContentLaws.{counter-with_value, free-with_value, room-with_value}
+use Rattle.triple_arena.specs.ContentLaws.{formed-with_value}
 
 module _ {T : Type 0} where
   -- an exchange is a write at each index

@@ -1,5 +1,9 @@
 -- What is the last live index, and what the calls on the free slots leave.
-use Rattle.std.proofs.Common.{◌≡◌, ℕ, zero, suc, ◌+◌, ◌-◌, ◌<◌, ◌≤◌, List, [], ◌∷◌, length, take, drop, get_or, Option, Some, None, IsSome, Bool, is_some, is_none, count_by, filter, cond, eqb, leb, not, true, false, true≢false, inl, inr, refl, sym, ap, subst, ◌∙◌, arith, get_or-take, get_or-drop, take_all, le-leb, length-take-le, length-drop}
+use Rattle.std.proofs.Common.{◌≡◌, ℕ, zero, suc, ◌+◌, ◌-◌, ◌<◌, ◌≤◌, List, [], ◌∷◌, length, take}
+use Rattle.std.proofs.Common.{drop, get_or, Option, Some, None, IsSome, Bool, is_some, is_none}
+use Rattle.std.proofs.Common.{count_by, filter, cond, eqb, leb, not, true, false, true≢false, inl}
+use Rattle.std.proofs.Common.{inr, refl, sym, ap, subst, ◌∙◌, arith, get_or-take, get_or-drop}
+use Rattle.std.proofs.Common.{take_all, le-leb, length-take-le, length-drop}
 use Rattle.std.specs.List.{suffix_len, AllByRecursion, IsDistinct, list_any}
 use Rattle.std.proofs.lemmas.Bool.{eq-eqb, ne_eqb}
 use Rattle.std.proofs.lemmas.Bool.Decides.{eqb_tells, leb_tells}
@@ -7,7 +11,9 @@ use Rattle.std.proofs.lemmas.List.Sums.{sum_by-cons, suffix_len_is}
 use Rattle.std.proofs.lemmas.List.Filters.{length-filter_both}
 use Rattle.std.proofs.lemmas.Map.Made.{length-le_from_is_member}
 use Rattle.std.specs.Cmp.{nat_eq_equiv}
-use Rattle.triple_arena.specs.Content.{Content, entry_at, live_count, last_index, without_free_end, vacant_from, canonicalized, Lacks, IsVacant, AllVacant, IsWellFormed}
+use Rattle.triple_arena.specs.Content.{Content, entry_at, live_count, last_index, without_free_end}
+use Rattle.triple_arena.specs.Content.{vacant_from, canonicalized, Lacks, IsVacant, AllVacant}
+use Rattle.triple_arena.specs.Content.{IsWellFormed}
 use Rattle.triple_arena.specs.ContentLaws.{entry_at_slot, entry-same_slots}
 
 -- an index that a list lacks is none of its items
@@ -298,8 +304,7 @@ module _ {T : Type 0} where
         positive,
         (
           omega (arith, below, sizes),
-          get_or-take n c.slots (i - 1) None inner ∙ sym
-              (entry_at_slot c i positive) ∙ v.vacant,
+          get_or-take n c.slots (i - 1) None inner ∙ sym (entry_at_slot c i positive) ∙ v.vacant,
         ),
       )) in
       let gone = vacant-fit c (filter (λ i. not (p i)) c.free) (n + 1) (drop n c.slots)

@@ -1,12 +1,14 @@
 -- What another generation at an index changes and keeps, and with it the step of the counter.
-use Rattle.std.proofs.Common.{◌≡◌, ℕ, ◌-◌, length, set, cond, Option, Some, None, IsSome, is_some, inl, inr, refl, ap, subst, ◌∙◌, arith}
+use Rattle.std.proofs.Common.{◌≡◌, ℕ, ◌-◌, length, set, cond, Option, Some, None, IsSome, is_some}
+use Rattle.std.proofs.Common.{inl, inr, refl, ap, subst, ◌∙◌, arith}
 use Rattle.std.proofs.lemmas.Bool.Decides.{eqb_tells}
 use Rattle.std.proofs.lemmas.List.{length-set}
 use Rattle.std.proofs.lemmas.List.Sums.{sum_by-set}
 use Rattle.triple_arena_ptr.specs.Generation.{next_generation}
 use Rattle.triple_arena_stack.specs.Room.{capacity}
 use Rattle.triple_arena.specs.Entries.{with_generation_at}
-use Rattle.triple_arena.specs.Content.{Content, entry_at, live_count, with_generation, invalidated, stepped, IsWellFormed}
+use Rattle.triple_arena.specs.Content.{Content, entry_at, live_count, with_generation, invalidated}
+use Rattle.triple_arena.specs.Content.{stepped, IsWellFormed}
 use Rattle.triple_arena.specs.ContentLaws.{live_entry, entry-set, entry-same_slots, vacant-kept}
 use Rattle.triple_arena.specs.RemovalLaws.{formed-stepped}
 

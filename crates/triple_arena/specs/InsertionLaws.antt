@@ -1,6 +1,9 @@
 -- What an insertion leaves, and a growth before it.
 use Rattle.std.specs.Prelude.{nat_lt}
-use Rattle.std.proofs.Common.{Bool, true, false, if◌then◌else◌, ◌≡◌, ◌≢◌, ℕ, zero, suc, ◌+◌, ◌-◌, ◌*◌, ◌<◌, ◌≤◌, List, [], ◌∷◌, ◌++◌, length, drop, max, get_or, set, cond, Option, Some, None, is_some, inl, inr, refl, sym, ap, ◌∙◌, arith}
+use Rattle.std.proofs.Common.{Bool, true, false, if◌then◌else◌, ◌≡◌, ◌≢◌, ℕ, zero, suc, ◌+◌, ◌-◌}
+use Rattle.std.proofs.Common.{◌*◌, ◌<◌, ◌≤◌, List, [], ◌∷◌, ◌++◌, length, drop, max, get_or, set}
+use Rattle.std.proofs.Common.{cond, Option, Some, None, is_some, inl, inr, refl, sym, ap, ◌∙◌}
+use Rattle.std.proofs.Common.{arith}
 use Rattle.std.proofs.lemmas.Bool.{eq-eqb, ne_eqb}
 use Rattle.std.proofs.lemmas.Bool.Decides.{eqb_tells}
 use Rattle.std.proofs.lemmas.List.{length-set, length_push}
@@ -8,8 +11,10 @@ use Rattle.std.proofs.lemmas.List.Sums.{sum_by-set, sum_by_push}
 use Rattle.std.proofs.Math.Seq.{get_or-append_seam}
 use Rattle.triple_arena_stack.specs.Room.{Room, within, capacity, grown, room_after}
 use Rattle.triple_arena.specs.Entries.{with_entry}
-use Rattle.triple_arena.specs.Content.{Content, entry_at, live_count, arena_capacity, next_index, inserted, in_room, grown_if_full, AllVacant, IsWellFormed}
-use Rattle.triple_arena.specs.ContentLaws.{entry_at_slot, entry-set, entry-same_slots, vacant-kept, vacant-others}
+use Rattle.triple_arena.specs.Content.{Content, entry_at, live_count, arena_capacity, next_index}
+use Rattle.triple_arena.specs.Content.{inserted, in_room, grown_if_full, AllVacant, IsWellFormed}
+use Rattle.triple_arena.specs.ContentLaws.{entry_at_slot, entry-set, entry-same_slots, vacant-kept}
+use Rattle.triple_arena.specs.ContentLaws.{vacant-others}
 
 -- the room that a growth leaves is no smaller
 capacity-grown : (limit : Option ℕ) (n : ℕ)
@@ -63,8 +68,7 @@ module _ {T : Type 0} where
                 get_or-append_seam c.slots (Some (c.counter, t)) [] None)
             | inr other ↦ rw (
               grown,
-              ne_eqb (suc k) (length c.slots + 1)
-                  (λ e. other.1 (omega (arith, e))),
+              ne_eqb (suc k) (length c.slots + 1) (λ e. other.1 (omega (arith, e))),
             ) (push_other c.slots (Some (c.counter, t)) k other.1)
           ]
 

@@ -1,6 +1,8 @@
 -- How a search over the entries of an arena goes on and ends. The entries are those that `iter`
 -- gives; of a direct arena, take its slots and room `as_content`.
-use Rattle.std.proofs.Common.{◌≡◌, ℕ, zero, suc, ◌+◌, ◌-◌, ◌<◌, ◌≤◌, List, [], ◌∷◌, ◌++◌, get_or, append_assoc, append-nil, Bool, true, false, Option, Some, None, refl, sym, ap, subst, ◌∙◌, arith}
+use Rattle.std.proofs.Common.{◌≡◌, ℕ, zero, suc, ◌+◌, ◌-◌, ◌<◌, ◌≤◌, List, [], ◌∷◌, ◌++◌, get_or}
+use Rattle.std.proofs.Common.{append_assoc, append-nil, Bool, true, false, Option, Some, None, refl}
+use Rattle.std.proofs.Common.{sym, ap, subst, ◌∙◌, arith}
 use Rattle.triple_arena.specs.Content.{Content, entry_at}
 use Rattle.triple_arena.specs.Iterators.{IsFirstToPass, SearchFinds, EachFails, HasPassed}
 use Rattle.triple_arena.specs.LiveEntries.{listed_from, live_entries}

@@ -10,6 +10,7 @@ pub mod Changes
 pub mod Content
 pub mod Layout
 pub mod Walk
+pub mod WalkLaws
 pub mod ContentLaws
 pub mod InsertionLaws
 pub mod RemovalLaws
@@ -23,6 +24,7 @@ pub mod InsertEntry
 pub mod LiveEntries
 pub mod Compression
 pub mod CompressionLaws
+pub mod RiseLaws
 pub mod CompactedLaws
 pub mod SlotCompression
 pub mod Transfer

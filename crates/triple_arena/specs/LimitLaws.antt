@@ -1,12 +1,16 @@
 -- What a limit that is set changes and keeps.
 use Rattle.std.specs.Prelude.{nat_lt}
-use Rattle.std.proofs.Common.{◌≡◌, if◌then◌else◌, ℕ, Bool, true, false, ◌<◌, ◌≤◌, length, min, Option, Some, None, refl, ap, ◌∙◌, arith}
+use Rattle.std.proofs.Common.{◌≡◌, if◌then◌else◌, ℕ, Bool, true, false, ◌<◌, ◌≤◌, length, min}
+use Rattle.std.proofs.Common.{Option, Some, None, refl, ap, ◌∙◌, arith}
 use Rattle.std.proofs.lemmas.Bool.{ltb-true, ltb-false}
 use Rattle.triple_arena_ptr.specs.Index.{max_index_of}
 use Rattle.triple_arena_stack.specs.Room.{Room, within, capacity, limited}
-use Rattle.triple_arena.specs.Content.{Content, entry_at, live_count, last_index, without_free_end, fitted, with_limit, IsWellFormed}
+use Rattle.triple_arena.specs.Content.{Content, entry_at, live_count, last_index, without_free_end}
+use Rattle.triple_arena.specs.Content.{fitted, with_limit, IsWellFormed}
 use Rattle.triple_arena.specs.ContentLaws.{entry-same_slots, vacant-kept}
-use Rattle.triple_arena.specs.FreeListLaws.{entry-without_free_end, live-without_free_end, slots-without_free_end, formed-without_free_end, last_index-is}
+use Rattle.triple_arena.specs.FreeListLaws.{entry-without_free_end, live-without_free_end}
+use Rattle.triple_arena.specs.FreeListLaws.{slots-without_free_end, formed-without_free_end}
+use Rattle.triple_arena.specs.FreeListLaws.{last_index-is}
 
 -- what holds whether or not a number is less than another
 by_less : (P : Bool → Type 0) (a b : ℕ) → (a < b → P true) → (b ≤ a → P false) → P (nat_lt a b)

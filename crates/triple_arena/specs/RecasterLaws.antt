@@ -1,7 +1,9 @@
 -- What the map of a compression says of the pointers: each that was valid is renamed to one that
 -- finds the same value, and each that is valid afterwards is the new name of one, and of no other.
 -- The laws take the clause `recaster` first.
-use Rattle.std.proofs.Common.{◌≡◌, ℕ, zero, suc, ◌+◌, List, [], ◌∷◌, map, get_or, Option, Some, None, IsSome, slice_get, is_some, true≢false, refl, sym, ap, ◌∙◌, arith, add-zero}
+use Rattle.std.proofs.Common.{◌≡◌, ℕ, zero, suc, ◌+◌, List, [], ◌∷◌, map, get_or, Option, Some}
+use Rattle.std.proofs.Common.{None, IsSome, slice_get, is_some, true≢false, refl, sym, ap, ◌∙◌}
+use Rattle.std.proofs.Common.{arith, add-zero}
 use Rattle.std.specs.Option.{option_map}
 use Rattle.std.proofs.lemmas.Bool.{eq-eqb}
 use Rattle.std.proofs.lemmas.Option.{slice_get-map}
@@ -10,8 +12,10 @@ use Rattle.triple_arena.specs.ContentLaws.{entry_seen}
 use Rattle.triple_arena.specs.Entries.{value_if}
 use Rattle.triple_arena.specs.Iterators.{pointer_of}
 use Rattle.triple_arena.specs.LiveEntries.{listed_from, live_entries}
-use Rattle.triple_arena.specs.Compression.{index_of, entry_of_listed, value_of, live_values, IsCompact}
-use Rattle.triple_arena.specs.DirectContent.{DirectContent, as_content, get as get_of, live_entries as entries_of}
+use Rattle.triple_arena.specs.Compression.{index_of, entry_of_listed, value_of, live_values}
+use Rattle.triple_arena.specs.Compression.{IsCompact}
+use Rattle.triple_arena.specs.DirectContent.{DirectContent, as_content, get as get_of}
+use Rattle.triple_arena.specs.DirectContent.{live_entries as entries_of}
 use Rattle.triple_arena.specs.Recaster.{pointer_in, IsRecaster, IsRenaming}
 
 module _ {T : Type 0} where
@@ -171,8 +175,7 @@ module _ {P T : Type 0} {index generation : P → ℕ} (c c' : Content T) (d : D
         x.1.0,
         x.1.1,
         found-listed (as_content d) p.0 x.0 x.1.0 x.1.1 m.1,
-        ap
-            (λ (y : ℕ × ℕ). y.0) m.2,
+        ap (λ (y : ℕ × ℕ). y.0) m.2,
         ap (λ (y : ℕ × ℕ). y.1) m.2,
       )
 

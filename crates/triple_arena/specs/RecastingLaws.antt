@@ -1,5 +1,7 @@
 -- What a recast changes and keeps.
-use Rattle.std.proofs.Common.{◌≡◌, ℕ, zero, suc, ◌+◌, List, [], ◌∷◌, ◌++◌, length, map, get_or, flat_map, Option, Some, None, Result, Ok, Err, is_some, count_by, cond, refl, sym, ap, ◌∙◌, arith}
+use Rattle.std.proofs.Common.{◌≡◌, ℕ, zero, suc, ◌+◌, List, [], ◌∷◌, ◌++◌, length, map, get_or}
+use Rattle.std.proofs.Common.{flat_map, Option, Some, None, Result, Ok, Err, is_some, count_by}
+use Rattle.std.proofs.Common.{cond, refl, sym, ap, ◌∙◌, arith}
 use Rattle.std.specs.Option.{option_map}
 use Rattle.std.proofs.lemmas.List.Sums.{sum_by-cons}
 use Rattle.triple_arena_ptr.specs.Recast.{recast_answer, renamed, where_ok}
@@ -9,8 +11,11 @@ use Rattle.triple_arena.specs.ContentLaws.{vacant-kept}
 use Rattle.triple_arena.specs.Entries.{generation_at}
 use Rattle.triple_arena.specs.LiveEntries.{listed_from}
 use Rattle.triple_arena.specs.Compression.{value_of}
-use Rattle.triple_arena.specs.DirectContent.{DirectContent, as_content, entry_at as direct_entry_at, live_count as direct_live_count, IsWellFormed as IsDirectlyFormed}
-use Rattle.triple_arena.specs.Recasting.{content_items, slots_recasted, content_recasted, directly_recasted}
+use Rattle.triple_arena.specs.DirectContent.{DirectContent, as_content, entry_at as direct_entry_at}
+use Rattle.triple_arena.specs.DirectContent.{live_count as direct_live_count}
+use Rattle.triple_arena.specs.DirectContent.{IsWellFormed as IsDirectlyFormed}
+use Rattle.triple_arena.specs.Recasting.{content_items, slots_recasted, content_recasted}
+use Rattle.triple_arena.specs.Recasting.{directly_recasted}
 
 module _ {I T : Type 0} (items : T → List I) where
   -- the items of the values in slots

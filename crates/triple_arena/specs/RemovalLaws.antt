@@ -1,5 +1,7 @@
 -- What a removal leaves, and a removal of all entries.
-use Rattle.std.proofs.Common.{◌≡◌, ◌≢◌, ◌==◌, if◌then◌else◌, ℕ, zero, suc, ◌+◌, ◌-◌, ◌≤◌, List, [], ◌∷◌, length, take, get_or, set, cond, Option, None, IsSome, is_some, count_by, true, inl, inr, refl, sym, ap, subst, ◌∙◌, arith}
+use Rattle.std.proofs.Common.{◌≡◌, ◌≢◌, ◌==◌, if◌then◌else◌, ℕ, zero, suc, ◌+◌, ◌-◌, ◌≤◌, List, []}
+use Rattle.std.proofs.Common.{◌∷◌, length, take, get_or, set, cond, Option, None, IsSome, is_some}
+use Rattle.std.proofs.Common.{count_by, true, inl, inr, refl, sym, ap, subst, ◌∙◌, arith}
 use Rattle.std.proofs.lemmas.Bool.{eq-eqb, ne_eqb}
 use Rattle.std.proofs.lemmas.Bool.Decides.{eqb_tells}
 use Rattle.std.proofs.lemmas.List.{length-set, length-take-le}
@@ -8,8 +10,10 @@ use Rattle.std.proofs.Math.Seq.{take-length}
 use Rattle.triple_arena_ptr.specs.Generation.{next_generation}
 use Rattle.triple_arena.specs.Entries.{without}
 use Rattle.triple_arena_stack.specs.Room.{capacity}
-use Rattle.triple_arena.specs.Content.{Content, entry_at, live_count, next_index, vacated, removed, stepped, cleared, AllVacant, IsWellFormed}
-use Rattle.triple_arena.specs.ContentLaws.{live_entry, entry-set, entry-same_slots, entry-no_slots, live-lacks, vacant-kept, vacant-others}
+use Rattle.triple_arena.specs.Content.{Content, entry_at, live_count, next_index, vacated, removed}
+use Rattle.triple_arena.specs.Content.{stepped, cleared, AllVacant, IsWellFormed}
+use Rattle.triple_arena.specs.ContentLaws.{live_entry, entry-set, entry-same_slots, entry-no_slots}
+use Rattle.triple_arena.specs.ContentLaws.{live-lacks, vacant-kept, vacant-others}
 
 module _ {T : Type 0} where
   take_here : (xs : List (Option (ℕ × T))) (n : ℕ) → n + 1 ≡ length xs
@@ -53,7 +57,8 @@ module _ {T : Type 0} where
           let positive = l.positive in
           elim (eqb_tells k (i - 1)) [
             | inl same ↦ rw (eq-eqb (suc k) i (omega (arith, same.1)))
-                (ap (λ n. get_or (take (i - 1) c.slots) n None) same.1 ∙ take_here c.slots (i - 1) e)
+                (ap (λ n. get_or (take (i - 1) c.slots) n None) same.1
+                ∙ take_here c.slots (i - 1) e)
             | inr other ↦ rw (ne_eqb (suc k) i (λ at. other.1 (omega (arith, at))))
                 (take_other c.slots (i - 1) k e other.1)
           ]

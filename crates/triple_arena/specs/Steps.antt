@@ -1,5 +1,6 @@
 -- What is done with an arena step by step, and the pointers that the steps give.
-use Rattle.std.specs.Prelude.{◌≡◌, ℕ, false, List, [], ◌∷◌, ◌++◌, map, replicate, Option, Some, IsSome}
+use Rattle.std.specs.Prelude.{◌≡◌, ℕ, false, List, [], ◌∷◌, ◌++◌, map, replicate, Option, Some}
+use Rattle.std.specs.Prelude.{IsSome}
 use Rattle.std.specs.Option.{option_map}
 use Rattle.triple_arena_ptr.specs.Generation.{next_generation}
 use Rattle.triple_arena_stack.specs.Room.{Room}
@@ -7,7 +8,8 @@ use Rattle.triple_arena.specs.ArenaRoom.{room_with}
 use Rattle.triple_arena.specs.Compression.{pointer_of}
 use Rattle.triple_arena.specs.Entries.{generation_at, with_value_at, IsOneOf}
 use Rattle.triple_arena.specs.Transfer.{steps_wrap, IsGivenUp}
-use Rattle.triple_arena.specs.Changes.{IsNew, IsInserted, IsRemoved, IsInvalidated, IsCleared, IsStepped, IsCompressed, IsExchanged, IsReallocated}
+use Rattle.triple_arena.specs.Changes.{IsNew, IsInserted, IsRemoved, IsInvalidated, IsCleared}
+use Rattle.triple_arena.specs.Changes.{IsStepped, IsCompressed, IsExchanged, IsReallocated}
 
 -- an entry stored at an index under a generation; the entry at an index removed; its pointer ended,
 -- and one with this generation given in its place; all entries removed at once; each of them taken

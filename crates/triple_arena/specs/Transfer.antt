@@ -1,6 +1,7 @@
 -- The entries of one arena at the first indexes of another, in the order of the indexes that they
 -- had.
-use Rattle.std.specs.Prelude.{◌≡◌, ℕ, zero, suc, ◌+◌, Bool, List, [], ◌∷◌, map, length, replicate, slice_get, Option, None}
+use Rattle.std.specs.Prelude.{◌≡◌, ℕ, zero, suc, ◌+◌, Bool, List, [], ◌∷◌, map, length, replicate}
+use Rattle.std.specs.Prelude.{slice_get, Option, None}
 use Rattle.std.specs.Fn.{iterate}
 use Rattle.std.specs.List.{FoldsTo}
 use Rattle.std.specs.Option.{option_map}
@@ -10,7 +11,8 @@ use Rattle.triple_arena_ptr.specs.InvalidationOption.{value_of, overflowed}
 use Rattle.triple_arena_stack.specs.Room.{Room}
 use Rattle.triple_arena.specs.Entries.{counter_wraps}
 use Rattle.triple_arena.specs.Content.{Content, reallocated}
-use Rattle.triple_arena.specs.Compression.{entry_of_listed, generation_of, listed_under, compacted, IsCompact}
+use Rattle.triple_arena.specs.Compression.{entry_of_listed, generation_of, listed_under, compacted}
+use Rattle.triple_arena.specs.Compression.{IsCompact}
 
 -- of each of so many removals, whether its step starts the generations again; what has no counter
 -- steps none

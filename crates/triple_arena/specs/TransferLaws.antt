@@ -2,7 +2,8 @@
 -- by a transfer or by a drain: the entry at each index, how many are live, how far the slots reach,
 -- the counter, the free indexes, the room, and well-formedness. And the values that a transfer's
 -- map leaves, by what one call gives.
-use Rattle.std.proofs.Common.{◌≡◌, ℕ, ◌+◌, ◌≤◌, List, [], ◌∷◌, map, length, slice_get, Option, None, refl, sym, ap, ◌∙◌, arith}
+use Rattle.std.proofs.Common.{◌≡◌, ℕ, ◌+◌, ◌≤◌, List, [], ◌∷◌, map, length, slice_get, Option, None}
+use Rattle.std.proofs.Common.{refl, sym, ap, ◌∙◌, arith}
 use Rattle.std.specs.Fn.{iterate}
 use Rattle.std.specs.List.{FoldsTo}
 use Rattle.std.specs.Option.{option_map}
@@ -14,9 +15,14 @@ use Rattle.triple_arena_stack.specs.Room.{Room, capacity}
 use Rattle.triple_arena.specs.ArenaRoom.{room_with}
 use Rattle.triple_arena.specs.CompactedLaws.{entry-compacted, live-compacted, slots-compacted}
 use Rattle.triple_arena.specs.Compression.{value_of}
-use Rattle.triple_arena.specs.Content.{Content, entry_at, live_count, arena_capacity, reallocated, IsWellFormed}
+use Rattle.triple_arena.specs.Content.{Content, entry_at, live_count, arena_capacity, reallocated}
+use Rattle.triple_arena.specs.Content.{IsWellFormed}
 use Rattle.triple_arena.specs.ContentLaws.{entry-no_slots}
-use Rattle.triple_arena.specs.DirectContent.{DirectContent, as_content, entry_at as direct_entry_at, live_count as direct_live_count, arena_capacity as direct_capacity, filled as directly_filled, IsWellFormed as IsDirectlyWellFormed}
+use Rattle.triple_arena.specs.DirectContent.{DirectContent, as_content, entry_at as direct_entry_at}
+use Rattle.triple_arena.specs.DirectContent.{live_count as direct_live_count}
+use Rattle.triple_arena.specs.DirectContent.{arena_capacity as direct_capacity}
+use Rattle.triple_arena.specs.DirectContent.{filled as directly_filled}
+use Rattle.triple_arena.specs.DirectContent.{IsWellFormed as IsDirectlyWellFormed}
 use Rattle.triple_arena.specs.Drains.{drained}
 use Rattle.triple_arena.specs.Transfer.{Transfer, entry_before, entry_after, filled, IsTransferred}
 

@@ -1,5 +1,7 @@
 -- Going over the indexes of an arena.
-use Rattle.std.specs.Prelude.{◌≡◌, ℕ, zero, suc, ◌+◌, ◌-◌, ◌<◌, ◌≤◌, ◌&&◌, List, [], ◌∷◌, map, filter, reverse, Bool, true, false, Option, Some, None, nat_le, if◌then◌else◌}
+use Rattle.std.specs.Prelude.{◌≡◌, ℕ, zero, suc, ◌+◌, ◌-◌, ◌<◌, ◌≤◌, ◌&&◌, List, [], ◌∷◌, map}
+use Rattle.std.specs.Prelude.{filter, reverse, Bool, true, false, Option, Some, None, nat_le}
+use Rattle.std.specs.Prelude.{if◌then◌else◌}
 use Rattle.triple_arena.specs.Compression.{pointer_of}
 use Rattle.triple_arena.specs.Entries.{generation_at, IsOneOf}
 

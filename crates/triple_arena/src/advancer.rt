@@ -1,5 +1,6 @@
 //! Going over the pointers of an arena, by their indexes.
-ghost use Rattle.std.specs.Prelude.{◌≡◌, ℕ, ◌+◌, ◌-◌, ◌^◌, ◌<◌, min, if◌then◌else◌, true, false, length, Option, Some, None, IfSome, IfNone, refl, ⊤};
+ghost use Rattle.std.specs.Prelude.{◌≡◌, ℕ, ◌+◌, ◌-◌, ◌^◌, ◌<◌, min, if◌then◌else◌, true, false};
+ghost use Rattle.std.specs.Prelude.{length, Option, Some, None, IfSome, IfNone, refl, ⊤};
 ghost use Rattle.std.specs.Int.NonZero.{non_zero_usize_get};
 ghost use Rattle.std.specs.Option.{option_map};
 ghost use Rattle.triple_arena.specs.Entries.{pointer_at, generation_at};

@@ -1,19 +1,28 @@
 //! What every arena does.
-ghost use Rattle.std.specs.Prelude.{◌≡◌, ◌≢◌, ℕ, ◌+◌, ◌-◌, ◌*◌, ◌^◌, ◌<◌, ◌≤◌, ◌↔◌, Bool, Some, None, IsTrue, IsOk, IsSome, IfSome, IfNone, IfOk, OnSome, OnOk, OnErr, IsErrOf, Option, is_some, option_copied, unwrap_or, true, false, min, if◌then◌else◌, List, map as list_map, length, slice_get};
+ghost use Rattle.std.specs.Prelude.{◌≡◌, ◌≢◌, ℕ, ◌+◌, ◌-◌, ◌*◌, ◌^◌, ◌<◌, ◌≤◌, ◌↔◌, Bool, Some};
+ghost use Rattle.std.specs.Prelude.{None, IsTrue, IsOk, IsSome, IfSome, IfNone, IfOk, OnSome, OnOk};
+ghost use Rattle.std.specs.Prelude.{OnErr, IsErrOf, Option, is_some, option_copied, unwrap_or};
+ghost use Rattle.std.specs.Prelude.{true, false, min, if◌then◌else◌, List, map as list_map, length};
+ghost use Rattle.std.specs.Prelude.{slice_get};
 ghost use Rattle.std.specs.Borrow.{sem, Lends, LendsIf};
 ghost use Rattle.std.specs.Option.{option_map, option_copied_mut};
-ghost use Rattle.triple_arena_ptr.specs.Generation.{IsGeneration, second_generation, next_generation, next_wraps};
+ghost use Rattle.triple_arena_ptr.specs.Generation.{IsGeneration, second_generation};
+ghost use Rattle.triple_arena_ptr.specs.Generation.{next_generation, next_wraps};
 ghost use Rattle.triple_arena_ptr.specs.Index.{max_index_of};
 ghost use Rattle.triple_arena_ptr.specs.InvalidationOption.{value_of, overflowed};
 ghost use Rattle.triple_arena_ptr.specs.InvalidationResult.{answer_of};
 ghost use Rattle.triple_arena_stack.specs.Room.{Room, capacity as capacity_of, IsBeyond};
-ghost use Rattle.triple_arena.specs.Changes.{IsNew, IsReallocated, IsRemoved, IsInvalidated, IsCleared, IsCompressed};
-ghost use Rattle.triple_arena.specs.Drains.{drain_arena, drain_lender, DrainCanStep, DrainKeepsAlong, LeavesGivenUp};
-ghost use Rattle.triple_arena.specs.Entries.{number_if, value_if, counter_wraps, with_value_at, generation_at, look_up};
+ghost use Rattle.triple_arena.specs.Changes.{IsNew, IsReallocated, IsRemoved, IsInvalidated};
+ghost use Rattle.triple_arena.specs.Changes.{IsCleared, IsCompressed};
+ghost use Rattle.triple_arena.specs.Drains.{drain_arena, drain_lender, DrainCanStep};
+ghost use Rattle.triple_arena.specs.Drains.{DrainKeepsAlong, LeavesGivenUp};
+ghost use Rattle.triple_arena.specs.Entries.{number_if, value_if, counter_wraps, with_value_at};
+ghost use Rattle.triple_arena.specs.Entries.{generation_at, look_up};
 ghost use Rattle.triple_arena.specs.Transfer.{IsGivenUp};
 ghost use Rattle.triple_arena.specs.Walk.{Walk, Steps};
 ghost use Rattle.std.specs.List.Sorted.{IsStrictlyIncreasing};
-ghost use Rattle.triple_arena.specs.Compression.{compression_wraps, index_of, generation_of, value_of as value_of_entry, IsMapped};
+ghost use Rattle.triple_arena.specs.Compression.{compression_wraps, index_of, generation_of};
+ghost use Rattle.triple_arena.specs.Compression.{value_of as value_of_entry, IsMapped};
 
 use crate::drain::Drain;
 use triple_arena_ptr::{

@@ -1,9 +1,12 @@
 //! Copies of arenas: the same pointers, with the values that a map gives.
-ghost use Rattle.std.specs.Prelude.{◌≡◌, ◌<◌, ◌≤◌, ◌↔◌, ℕ, ◌∷◌, ◌++◌, Option, [], IsOk, IsErr, IfOk, OnOk, IsErrOf, List, length, is_some, count_by, map as list_map, ⊤};
+ghost use Rattle.std.specs.Prelude.{◌≡◌, ◌<◌, ◌≤◌, ◌↔◌, ℕ, ◌∷◌, ◌++◌, Option, [], IsOk, IsErr};
+ghost use Rattle.std.specs.Prelude.{IfOk, OnOk, IsErrOf, List, length, is_some, count_by};
+ghost use Rattle.std.specs.Prelude.{map as list_map, ⊤};
 ghost use Rattle.triple_arena_ptr.specs.Index.{max_index_of};
 ghost use Rattle.triple_arena_stack.specs.Room.{capacity as capacity_of, IsBeyond};
 ghost use Rattle.triple_arena.specs.LiveEntries.{listed_from};
-ghost use Rattle.triple_arena.specs.Copy.{last_listed, IsMappedCopy, IsRefusedCopy, NeverRefuses, IsCopy, IsUnmadeCopy};
+ghost use Rattle.triple_arena.specs.Copy.{last_listed, IsMappedCopy, IsRefusedCopy, NeverRefuses};
+ghost use Rattle.triple_arena.specs.Copy.{IsCopy, IsUnmadeCopy};
 
 use crate::ArenaTrait;
 use crate::arena::pointer_at;

@@ -1,8 +1,10 @@
 //! Insertion at a pointer of the caller's choice.
 ghost use Rattle.std.specs.Prelude.{◌≡◌, ℕ, ◌<◌, ◌↔◌, IsOk, IfOk, IsErrOf, IsSome};
 ghost use Rattle.std.specs.Borrow.{sem, RestsIfErr};
-ghost use Rattle.triple_arena.specs.DirectEntry.{entry_arena, entry_lender, entry_index, entry_generation};
-ghost use Rattle.triple_arena.specs.DirectContent.{DirectContent, entry_at, arena_capacity, IsPlace};
+ghost use Rattle.triple_arena.specs.DirectEntry.{entry_arena, entry_lender, entry_index};
+ghost use Rattle.triple_arena.specs.DirectEntry.{entry_generation};
+ghost use Rattle.triple_arena.specs.DirectContent.{DirectContent, entry_at, arena_capacity};
+ghost use Rattle.triple_arena.specs.DirectContent.{IsPlace};
 
 use crate::{ArenaDirectInsertEntry, ArenaTrait, DirectSlots};
 use triple_arena_ptr::{DirectInsertionError, PtrCore};

@@ -8,15 +8,19 @@
 //! them again and nobody sets, resets or copies it, a pointer never comes to mean another entry.
 //!
 //! `specs/Walk.antt` has them for the second.
-ghost use Rattle.std.specs.Prelude.{◌≡◌, ◌≤◌, ◌↔◌, ℕ, List, length, map as list_map, Option, Some, IsSome, false};
+ghost use Rattle.std.specs.Prelude.{◌≡◌, ◌≤◌, ◌↔◌, ℕ, List, length, map as list_map, Option, Some};
+ghost use Rattle.std.specs.Prelude.{IsSome, false};
 ghost use Rattle.std.specs.List.{FoldsTo};
 ghost use Rattle.std.specs.Option.{option_map};
 ghost use Rattle.triple_arena.specs.Changes.{IsNew};
 ghost use Rattle.triple_arena.specs.Entries.{generation_at, IsOneOf};
-ghost use Rattle.triple_arena.specs.Steps.{Step, drain, write, give_up_copy, keep, AreNew, Finds, Takes, Happens, all_given, reached};
+ghost use Rattle.triple_arena.specs.Steps.{Step, drain, write, give_up_copy, keep, AreNew, Finds};
+ghost use Rattle.triple_arena.specs.Steps.{Takes, Happens, all_given, reached};
 ghost use Rattle.triple_arena.specs.Walk.{Walk, IsAhead, GoInOrder, given_by, pointers_ahead};
 ghost use Rattle.triple_arena.specs.Compression.{live_values, pointer_of, IsCompact};
-ghost use Rattle.triple_arena.specs.Content.{Content, entry_at, live_count, some_counter, without_free_end, canonicalized, with_limit, grown_if_full, cleared, reallocated};
+ghost use Rattle.triple_arena.specs.Content.{Content, entry_at, live_count, some_counter};
+ghost use Rattle.triple_arena.specs.Content.{without_free_end, canonicalized, with_limit};
+ghost use Rattle.triple_arena.specs.Content.{grown_if_full, cleared, reallocated};
 ghost use Rattle.triple_arena.specs.Recasting.{content_recasted};
 ghost use Rattle.triple_arena.specs.DirectContent.{DirectContent, live_entries as live_entries_of};
 ghost use Rattle.triple_arena.specs.Drains.{drained};

@@ -1,9 +1,13 @@
 //! A slot of an arena.
-ghost use Rattle.std.specs.Prelude.{◌≡◌, ◌≢◌, ◌≤◌, ℕ, length, Option, Some, None, option_copied, IsTrue, ◌↔◌, IsSome, IsNone, ⊤};
+ghost use Rattle.std.specs.Prelude.{◌≡◌, ◌≢◌, ◌≤◌, ℕ, length, Option, Some, None, option_copied};
+ghost use Rattle.std.specs.Prelude.{IsTrue, ◌↔◌, IsSome, IsNone, ⊤};
 ghost use Rattle.std.specs.Borrow.{Lends, sem};
 ghost use Rattle.std.specs.Int.NonZero.{non_zero_usize_get};
 ghost use Rattle.std.specs.Option.{option_map};
-ghost use Rattle.triple_arena.specs.Slot.{Slot, entry_of, free, used, value_of, links_of, index_up_to, free_links as free_links_of, with_links, with_prev, with_next, with_slot_value, with_slot_generation};
+ghost use Rattle.triple_arena.specs.Slot.{Slot, entry_of, free, used, value_of, links_of};
+ghost use Rattle.triple_arena.specs.Slot.{index_up_to, free_links as free_links_of, with_links};
+ghost use Rattle.triple_arena.specs.Slot.{with_prev, with_next, with_slot_value};
+ghost use Rattle.triple_arena.specs.Slot.{with_slot_generation};
 ghost use Rattle.triple_arena_stack.specs.Stack.{item_at, with_item};
 ghost use Rattle.triple_arena.specs.Entries.{value_if};
 

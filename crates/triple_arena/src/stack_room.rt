@@ -1,5 +1,6 @@
 //! The room of an arena, in that of its stack.
-ghost use Rattle.std.specs.Prelude.{◌≡◌, ◌^◌, ◌<◌, ◌≤◌, ◌↔◌, None, IsOk, OnOk, OnErr, IsErrOf, IsTrue, length};
+ghost use Rattle.std.specs.Prelude.{◌≡◌, ◌^◌, ◌<◌, ◌≤◌, ◌↔◌, None, IsOk, OnOk, OnErr, IsErrOf};
+ghost use Rattle.std.specs.Prelude.{IsTrue, length};
 ghost use Rattle.triple_arena_ptr.specs.Index.{max_index_of};
 ghost use Rattle.triple_arena_stack.specs.Room.{capacity, IsBeyond};
 ghost use Rattle.triple_arena.specs.ArenaRoom.{room_of, room_with};

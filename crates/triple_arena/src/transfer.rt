@@ -1,5 +1,7 @@
 //! The entries of one arena moved to another.
-ghost use Rattle.std.specs.Prelude.{◌≡◌, ℕ, ◌+◌, ◌∷◌, ◌++◌, ◌<◌, ◌≤◌, ◌↔◌, List, [], Some, None, IsOk, OnOk, OnErr, IsErrOf, IsTrue, Option, length, map as list_map, is_some, count_by};
+ghost use Rattle.std.specs.Prelude.{◌≡◌, ℕ, ◌+◌, ◌∷◌, ◌++◌, ◌<◌, ◌≤◌, ◌↔◌, List, [], Some, None};
+ghost use Rattle.std.specs.Prelude.{IsOk, OnOk, OnErr, IsErrOf, IsTrue, Option, length};
+ghost use Rattle.std.specs.Prelude.{map as list_map, is_some, count_by};
 ghost use Rattle.std.specs.Fn.{iterate};
 ghost use Rattle.std.specs.Option.{option_map};
 ghost use Rattle.triple_arena_ptr.specs.Generation.{next_generation};

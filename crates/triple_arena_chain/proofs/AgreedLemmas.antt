@@ -2,7 +2,8 @@
 use Rattle.std.proofs.Common.{◌≡◌, ◌≢◌, ℕ, Option, Some, None, refl, sym, ap, subst, ◌∙◌, inl, inr}
 use Rattle.std.proofs.lemmas.Bool.{eq-eqb, ne_eqb}
 use Rattle.std.proofs.lemmas.Bool.Decides.{eqb_tells}
-use Rattle.triple_arena_chain.specs.Chains.{Ends, with_next, with_prev, renext, reprev, linked, unlinked, IsAgreed, next_at, prev_at, next_in, prev_in}
+use Rattle.triple_arena_chain.specs.Chains.{Ends, with_next, with_prev, renext, reprev, linked}
+use Rattle.triple_arena_chain.specs.Chains.{unlinked, IsAgreed, next_at, prev_at, next_in, prev_in}
 
 pub valid_next : (o : Option Ends) (x : ℕ) → next_in o ≡ Some x → (v : Ends) × (o ≡ Some v)
 valid_next None x h = absurd (cc)
@@ -68,7 +69,8 @@ module _ (e : ℕ → Option Ends) (p q : ℕ) (n m : Option ℕ) where
   pub prev_at_other : (i : ℕ) → i ≢ q → prev_at both i ≡ prev_at e i
   prev_at_other i differs = rw (ne_eqb i q differs) (prev_with_next i)
 
-pub IsAgreed-linked : (e : ℕ → Option Ends) (p q : ℕ) (v w : Ends) → e p ≡ Some v → v.1 ≡ None → e q ≡ Some w → w.0 ≡ None
+pub IsAgreed-linked : (e : ℕ → Option Ends) (p q : ℕ) (v w : Ends) → e p ≡ Some v → v.1 ≡ None
+    → e q ≡ Some w → w.0 ≡ None
     → IsAgreed e → IsAgreed (linked e p q)
 IsAgreed-linked e p q v w at_p end at_q start agreed =
     record {
@@ -76,14 +78,18 @@ IsAgreed-linked e p q v w at_p end at_q start agreed =
           λ x y h.
           elim (eqb_tells x p) [
             | inl same ↦
-                let n : next_at (linked e p q) p ≡ Some q = next_at_p e p q (Some q) (Some p) v at_p in
-                let h' : next_at (linked e p q) p ≡ Some y = subst (λ z. next_at (linked e p q) z ≡ Some y) same.1 h in
+                let n : next_at (linked e p q) p ≡ Some q =
+                next_at_p e p q (Some q) (Some p) v at_p in
+                let h' : next_at (linked e p q) p ≡ Some y =
+                subst (λ z. next_at (linked e p q) z ≡ Some y) same.1 h in
                 let t : y ≡ q = cc in
                 let x_is : x ≡ p = same.1 in
                 rw (t, x_is) (prev_at_q e p q (Some q) (Some p) w at_q)
             | inr differs ↦
-                let b = agreed.forward x y (sym (next_at_other e p q (Some q) (Some p) x differs.1) ∙ h) in
-                let not_q : y ≢ q = λ same. let s : prev_at e q ≡ Some x = subst (λ z. prev_at e z ≡ Some x) same b in
+                let b = agreed.forward x y
+                (sym (next_at_other e p q (Some q) (Some p) x differs.1) ∙ h) in
+                let not_q : y ≢ q = λ same. let s : prev_at e q ≡ Some x =
+                subst (λ z. prev_at e z ≡ Some x) same b in
                 let r : prev_at e q ≡ None = ap prev_in at_q ∙ start in cc in
                 prev_at_other e p q (Some q) (Some p) y not_q ∙ b
           ];
@@ -91,20 +97,25 @@ IsAgreed-linked e p q v w at_p end at_q start agreed =
           λ x y h.
           elim (eqb_tells y q) [
             | inl same ↦
-                let n : prev_at (linked e p q) q ≡ Some p = prev_at_q e p q (Some q) (Some p) w at_q in
-                let h' : prev_at (linked e p q) q ≡ Some x = subst (λ z. prev_at (linked e p q) z ≡ Some x) same.1 h in
+                let n : prev_at (linked e p q) q ≡ Some p =
+                prev_at_q e p q (Some q) (Some p) w at_q in
+                let h' : prev_at (linked e p q) q ≡ Some x =
+                subst (λ z. prev_at (linked e p q) z ≡ Some x) same.1 h in
                 let t : x ≡ p = cc in
                 let y_is : y ≡ q = same.1 in
                 rw (t, y_is) (next_at_p e p q (Some q) (Some p) v at_p)
             | inr differs ↦
-                let b = agreed.backward x y (sym (prev_at_other e p q (Some q) (Some p) y differs.1) ∙ h) in
-                let not_p : x ≢ p = λ same. let s : next_at e p ≡ Some y = subst (λ z. next_at e z ≡ Some y) same b in
+                let b = agreed.backward x y
+                (sym (prev_at_other e p q (Some q) (Some p) y differs.1) ∙ h) in
+                let not_p : x ≢ p = λ same. let s : next_at e p ≡ Some y =
+                subst (λ z. next_at e z ≡ Some y) same b in
                 let r : next_at e p ≡ None = ap next_in at_p ∙ end in cc in
                 next_at_other e p q (Some q) (Some p) x not_p ∙ b
           ];
     }
 
-pub IsAgreed-unlinked : (e : ℕ → Option Ends) (p q : ℕ) (v w : Ends) → e p ≡ Some v → v.1 ≡ Some q → e q ≡ Some w → IsAgreed e → IsAgreed (unlinked e p q)
+pub IsAgreed-unlinked : (e : ℕ → Option Ends) (p q : ℕ) (v w : Ends) → e p ≡ Some v → v.1 ≡ Some q
+    → e q ≡ Some w → IsAgreed e → IsAgreed (unlinked e p q)
 IsAgreed-unlinked e p q v w at_p next at_q agreed =
     let out : next_at e p ≡ Some q = ap next_in at_p ∙ next in
     let into : prev_at e q ≡ Some p = agreed.forward p q out in
@@ -114,11 +125,13 @@ IsAgreed-unlinked e p q v w at_p next at_q agreed =
           elim (eqb_tells x p) [
             | inl same ↦
                 let n : next_at (unlinked e p q) p ≡ None = next_at_p e p q None None v at_p in
-                let h' : next_at (unlinked e p q) p ≡ Some y = subst (λ z. next_at (unlinked e p q) z ≡ Some y) same.1 h in
+                let h' : next_at (unlinked e p q) p ≡ Some y =
+                subst (λ z. next_at (unlinked e p q) z ≡ Some y) same.1 h in
                 absurd (let t : None ≡ Some y = sym n ∙ h' in cc)
             | inr differs ↦
                 let b = agreed.forward x y (sym (next_at_other e p q None None x differs.1) ∙ h) in
-                let not_q : y ≢ q = λ same. let s : prev_at e q ≡ Some x = subst (λ z. prev_at e z ≡ Some x) same b in let t : x ≡ p = cc in differs.1 t in
+                let not_q : y ≢ q = λ same. let s : prev_at e q ≡ Some x =
+                subst (λ z. prev_at e z ≡ Some x) same b in let t : x ≡ p = cc in differs.1 t in
                 prev_at_other e p q None None y not_q ∙ b
           ];
       backward =
@@ -126,11 +139,13 @@ IsAgreed-unlinked e p q v w at_p next at_q agreed =
           elim (eqb_tells y q) [
             | inl same ↦
                 let n : prev_at (unlinked e p q) q ≡ None = prev_at_q e p q None None w at_q in
-                let h' : prev_at (unlinked e p q) q ≡ Some x = subst (λ z. prev_at (unlinked e p q) z ≡ Some x) same.1 h in
+                let h' : prev_at (unlinked e p q) q ≡ Some x =
+                subst (λ z. prev_at (unlinked e p q) z ≡ Some x) same.1 h in
                 absurd (let t : None ≡ Some x = sym n ∙ h' in cc)
             | inr differs ↦
                 let b = agreed.backward x y (sym (prev_at_other e p q None None y differs.1) ∙ h) in
-                let not_p : x ≢ p = λ same. let s : next_at e p ≡ Some y = subst (λ z. next_at e z ≡ Some y) same b in let t : y ≡ q = cc in differs.1 t in
+                let not_p : x ≢ p = λ same. let s : next_at e p ≡ Some y =
+                subst (λ z. next_at e z ≡ Some y) same b in let t : y ≡ q = cc in differs.1 t in
                 next_at_other e p q None None x not_p ∙ b
           ];
     }

@@ -1,12 +1,17 @@
 -- A link that is brought to its place, as it is written.
-use Rattle.std.proofs.Common.{◌≡◌, ℕ, Option, Some, IsSome, is_some, option_map, sym, ap, subst, ◌∙◌}
+use Rattle.std.proofs.Common.{◌≡◌, ℕ, Option, Some, IsSome, is_some, option_map, sym, ap, subst}
+use Rattle.std.proofs.Common.{◌∙◌}
 use Rattle.triple_arena.specs.Entries.{with_values_exchanged}
 use Rattle.triple_arena.specs.Content.{Content, entry_at, with_exchange, IsWellFormed}
 use Rattle.triple_arena.specs.ExchangeLaws.{formed-with_exchange}
 use Rattle.triple_arena_chain.specs.LinkShape.{IndexLink}
 use Rattle.triple_arena_chain.specs.Chains.{with_next_if}
-use Rattle.triple_arena_chain.specs.Links.{valued, values_in, entry_ends, ends_in, with_next_of, with_prev_of, IsKept}
-use Rattle.triple_arena_chain.specs.LinkLaws.{kept_on, ends-with_next_of, ends-with_prev_of, values-with_prev_of, kept-with_next_of, kept-with_prev_of, formed-with_next_of, formed-with_prev_of}
+use Rattle.triple_arena_chain.specs.Links.{valued, values_in, entry_ends, ends_in, with_next_of}
+use Rattle.triple_arena_chain.specs.Links.{with_prev_of, IsKept}
+use Rattle.triple_arena_chain.specs.LinkLaws.{kept_on, ends-with_next_of, ends-with_prev_of}
+use Rattle.triple_arena_chain.specs.LinkLaws.{values-with_prev_of, kept-with_next_of}
+use Rattle.triple_arena_chain.specs.LinkLaws.{kept-with_prev_of, formed-with_next_of}
+use Rattle.triple_arena_chain.specs.LinkLaws.{formed-with_prev_of}
 use Rattle.triple_arena_chain.specs.CanonicalLayout.{swapped_index, IsAlike}
 use Rattle.triple_arena_chain.specs.Notes.{IsBrought}
 use Rattle.triple_arena_chain.proofs.InsertionLemmas.{with_prev_if-same}
@@ -16,14 +21,18 @@ use Rattle.triple_arena_chain.proofs.SwappedLinkLemmas.{ends-swapped, values-swa
 
 module _ {I T : Type 0} (number : I → ℕ) where
   -- what is live stays so
-  pub next_keeps : (c c1 : Content (IndexLink I T)) (last next : Option I) (i : ℕ) → c1 ≡ with_next_of number c last next → IsSome (entry_at c i)
+  pub next_keeps : (c c1 : Content (IndexLink I T)) (last next : Option I) (i : ℕ)
+      → c1 ≡ with_next_of number c last next → IsSome (entry_at c i)
       → IsSome (entry_at c1 i)
-  next_keeps c c1 last next i made live = live_as c c1 (next_unchanged number c c1 last next made) i ∙ live
+  next_keeps c c1 last next i made live = live_as c c1 (next_unchanged number c c1 last next made) i
+      ∙ live
 
-  module _ (c c1 c2 c3 : Content (IndexLink I T)) (last : Option I) (at place : I) (formed : IsWellFormed c) (alike : IsAlike c)
+  module _ (c c1 c2 c3 : Content (IndexLink I T)) (last : Option I) (at place : I)
+      (formed : IsWellFormed c) (alike : IsAlike c)
       (live_at : IsSome (entry_at c (number at))) (live_place : IsSome (entry_at c (number place)))
       (made : c1 ≡ with_next_of number c last (Some place))
-      (swapped : (k : ℕ) → entry_at c2 k ≡ with_values_exchanged (entry_at c1) (number at) (number place) k)
+      (swapped : (k : ℕ) → entry_at c2 k
+      ≡ with_values_exchanged (entry_at c1) (number at) (number place) k)
       (exact : c2 ≡ with_exchange c1 (number at) (number place)) where
     kept1 : IsKept c c1
     kept1 = subst (IsKept c) (sym made) (kept-with_next_of number c last (Some place))
@@ -40,24 +49,29 @@ module _ {I T : Type 0} (number : I → ℕ) where
     live1_place : IsSome (entry_at c1 (number place))
     live1_place = live_as c c1 values1 (number place) ∙ live_place
 
-    ends1 : (k : ℕ) → ends_in number c1 k ≡ with_next_if (ends_in number c) (option_map number last) (Some (number place)) k
+    ends1 : (k : ℕ) → ends_in number c1 k
+        ≡ with_next_if (ends_in number c) (option_map number last) (Some (number place)) k
     ends1 k = ap (λ d. ends_in number d k) made ∙ ends-with_next_of number c last (Some place) k
 
     ends2 : (k : ℕ) → ends_in number c2 k
-        ≡ with_next_if (ends_in number c) (option_map number last) (Some (number place)) (swapped_index (number at) (number place) k)
+        ≡ with_next_if (ends_in number c) (option_map number last) (Some (number place))
+        (swapped_index (number at) (number place) k)
     ends2 k =
-        ap (option_map (entry_ends number)) (swapped k) ∙ ends-swapped number c1 (number at) (number place) live1_at live1_place k
+        ap (option_map (entry_ends number)) (swapped k)
+        ∙ ends-swapped number c1 (number at) (number place) live1_at live1_place k
         ∙ ends1 (swapped_index (number at) (number place) k)
 
     values2 : (k : ℕ) → values_in c2 k ≡ values_in c (swapped_index (number at) (number place) k)
     values2 k =
-        ap (option_map valued) (swapped k) ∙ values-swapped number c1 (number at) (number place) live1_at live1_place alike1 k
+        ap (option_map valued) (swapped k)
+        ∙ values-swapped number c1 (number at) (number place) live1_at live1_place alike1 k
         ∙ values1 (swapped_index (number at) (number place) k)
 
     formed2 : IsWellFormed c2
     formed2 =
         subst IsWellFormed (sym exact)
-        (formed-with_exchange c1 (number at) (number place) (subst IsWellFormed (sym made) (formed-with_next_of number c last (Some place) formed)))
+        (formed-with_exchange c1 (number at) (number place)
+        (subst IsWellFormed (sym made) (formed-with_next_of number c last (Some place) formed)))
 
     -- the place is live after the exchange
     pub place_stays : IsSome (entry_at c2 (number place))
@@ -66,18 +80,23 @@ module _ {I T : Type 0} (number : I → ℕ) where
         ∙ ap is_some (values2 (number place) ∙ ap (values_in c) (swap_j (number at) (number place)))
         ∙ some_valued (entry_at c (number at)) ∙ live_at
 
-    pub brought : c3 ≡ with_prev_of number c2 (Some place) (Some at) → IsBrought number (option_map number last) (number at) (number place) c c3
+    pub brought : c3 ≡ with_prev_of number c2 (Some place) (Some at)
+        → IsBrought number (option_map number last) (number at) (number place) c c3
     brought noted =
         record {
           ends = λ k.
-              ap (λ d. ends_in number d k) noted ∙ ends-with_prev_of number c2 (Some place) (Some at) k
+              ap (λ d. ends_in number d k) noted
+              ∙ ends-with_prev_of number c2 (Some place) (Some at) k
               ∙ with_prev_if-same
-              (λ i. with_next_if (ends_in number c) (option_map number last) (Some (number place)) (swapped_index (number at) (number place) i))
+              (λ i. with_next_if (ends_in number c) (option_map number last) (Some (number place))
+              (swapped_index (number at) (number place) i))
               (ends_in number c2) (Some (number place)) (Some (number at)) ends2 k;
-          values = λ k. ap (λ d. values_in d k) noted ∙ values-with_prev_of number c2 (Some place) (Some at) k ∙ values2 k;
+          values = λ k. ap (λ d. values_in d k) noted
+              ∙ values-with_prev_of number c2 (Some place) (Some at) k ∙ values2 k;
           kept =
               kept_on c c1 c3 kept1
               (kept_on c1 c2 c3 (kept-swapped number c1 c2 (number at) (number place) exact)
               (subst (IsKept c2) (sym noted) (kept-with_prev_of number c2 (Some place) (Some at))));
-          formed = subst IsWellFormed (sym noted) (formed-with_prev_of number c2 (Some place) (Some at) formed2);
+          formed = subst IsWellFormed (sym noted)
+              (formed-with_prev_of number c2 (Some place) (Some at) formed2);
         }

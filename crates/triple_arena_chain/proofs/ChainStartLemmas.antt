@@ -1,9 +1,13 @@
 -- The walk back to the first index of a chain.
-use Rattle.std.proofs.Common.{◌≡◌, ◌≢◌, ℕ, suc, ◌+◌, ◌<◌, ◌≤◌, List, [], ◌∷◌, ◌++◌, length, Option, Some, None, IsSome, is_some, true≢false, refl, sym, ap, subst, ◌∙◌, arith, inl, inr}
-use Rattle.triple_arena_chain.specs.Chains.{Ends, next_in, prev_in, next_at, prev_at, IsAgreed, first_or, last_or, Stands, Off, On, Apart, IsRing}
+use Rattle.std.proofs.Common.{◌≡◌, ◌≢◌, ℕ, suc, ◌+◌, ◌<◌, ◌≤◌, List, [], ◌∷◌, ◌++◌, length, Option}
+use Rattle.std.proofs.Common.{Some, None, IsSome, is_some, true≢false, refl, sym, ap, subst, ◌∙◌}
+use Rattle.std.proofs.Common.{arith, inl, inr}
+use Rattle.triple_arena_chain.specs.Chains.{Ends, next_in, prev_in, next_at, prev_at, IsAgreed}
+use Rattle.triple_arena_chain.specs.Chains.{first_or, last_or, Stands, Off, On, Apart, IsRing}
 use Rattle.triple_arena_chain.specs.ChainLaws.{Stands-back, few, Below}
 use Rattle.triple_arena_chain.specs.UniquenessLaws.{ended, Ended, none, some_last}
-use Rattle.triple_arena_chain.specs.ListLaws.{On-first, On-back, off_or_not, on_differs, of_live, live_next_in, live_on, holds_prev, turned}
+use Rattle.triple_arena_chain.specs.ListLaws.{On-first, On-back, off_or_not, on_differs, of_live}
+use Rattle.triple_arena_chain.specs.ListLaws.{live_next_in, live_on, holds_prev, turned}
 use Rattle.triple_arena_chain.specs.ChainLaws.{last_or-append}
 use Rattle.triple_arena_chain.specs.Lists.{Chain, Cyclic, members, IsChainOf}
 use Rattle.triple_arena_chain.specs.CanonicalLayout.{IsHead, IsClosed}
@@ -34,16 +38,22 @@ module _ (e : ℕ → Option Ends) where
       }
 
   -- the links passed are few
-  all_below : (n : ℕ) (xs : List ℕ) → ((i : ℕ) → IsSome (e i) → i ≤ n) → ((i : ℕ) → On xs i → IsSome (e i)) → Below (suc n) xs
+  all_below : (n : ℕ) (xs : List ℕ) → ((i : ℕ) → IsSome (e i) → i ≤ n)
+      → ((i : ℕ) → On xs i → IsSome (e i)) → Below (suc n) xs
   all_below n [] bound live = tt
   all_below n (x ∷ xs) bound live =
-      let here = bound x (live x (On-first x xs)) in (omega (arith, here), all_below n xs bound (λ i on. live i (On-back (x ∷ []) xs i on)))
+      let here = bound x (live x (On-first x xs)) in
+      (omega (arith, here), all_below n xs bound (λ i on. live i (On-back (x ∷ []) xs i on)))
 
-  pub back_few : (n k at steps : ℕ) → IsBack k at steps → e 0 ≡ None → ((i : ℕ) → IsSome (e i) → i ≤ n) → steps + 1 ≤ n
+  pub back_few : (n k at steps : ℕ) → IsBack k at steps → e 0 ≡ None
+      → ((i : ℕ) → IsSome (e i) → i ≤ n) → steps + 1 ≤ n
   back_few n k at steps b zeroth bound =
-      let live = λ (i : ℕ) (on : On (at ∷ b.ys) i). live_on e (prev_at e at) (next_at e k) (at ∷ b.ys) i b.stands on in
-      let off : Off (at ∷ b.ys) 0 = off_or_not (at ∷ b.ys) 0 (λ on. true≢false (sym (live 0 on) ∙ ap is_some zeroth)) in
-      let all = few (suc n) (0 ∷ (at ∷ b.ys)) (off, b.apart) (omega arith, all_below n (at ∷ b.ys) bound live) in
+      let live = λ (i : ℕ) (on : On (at ∷ b.ys) i). live_on e (prev_at e at) (next_at e k)
+      (at ∷ b.ys) i b.stands on in
+      let off : Off (at ∷ b.ys) 0 =
+      off_or_not (at ∷ b.ys) 0 (λ on. true≢false (sym (live 0 on) ∙ ap is_some zeroth)) in
+      let all = few (suc n) (0 ∷ (at ∷ b.ys)) (off, b.apart)
+      (omega arith, all_below n (at ∷ b.ys) bound live) in
       let long = b.long in
       omega (arith, all, long)
 
@@ -53,23 +63,30 @@ module _ (e : ℕ → Option Ends) where
     off_back p comes other =
         off_or_not (at ∷ b.ys) p
         (λ on.
-        let t = Stands-back e (prev_at e at) (next_at e k) on.front (p ∷ on.back) (subst (λ l. Stands e (prev_at e at) l (next_at e k)) on.is b.stands) in
+        let t = Stands-back e (prev_at e at) (next_at e k) on.front (p ∷ on.back)
+        (subst (λ l. Stands e (prev_at e at) l (next_at e k)) on.is b.stands) in
         let goes = agreed.backward p at comes in
         by on.front on.back on.is (sym (ap next_in t.0) ∙ goes))
       where
         last_here : (front : List ℕ) → at ∷ b.ys ≡ front ++ p ∷ [] → p ≡ k
         last_here front is =
-            let end : Some p ≡ Some k = sym (last_or-append None front (p ∷ [])) ∙ sym (ap (last_or None) is) ∙ b.ends_with in cc
+            let end : Some p ≡ Some k = sym (last_or-append None front (p ∷ []))
+            ∙ sym (ap (last_or None) is) ∙ b.ends_with in cc
 
         twice : (front back : List ℕ) → at ∷ b.ys ≡ front ++ p ∷ at ∷ back → ⊥
         twice [] back is =
             let rest : b.ys ≡ at ∷ back = cc in
-            on_differs b.ys at at (subst (λ l. On l at) (sym rest) (On-first at back)) b.apart.0 refl
+            on_differs b.ys at at (subst (λ l. On l at) (sym rest) (On-first at back)) b.apart.0
+            refl
         twice (x ∷ front) back is =
             let rest : b.ys ≡ front ++ p ∷ at ∷ back = cc in
-            on_differs b.ys at at (subst (λ l. On l at) (sym rest) (On-back front (p ∷ at ∷ back) at (On-back (p ∷ []) (at ∷ back) at (On-first at back)))) b.apart.0 refl
+            on_differs b.ys at at
+            (subst (λ l. On l at) (sym rest)
+            (On-back front (p ∷ at ∷ back) at
+            (On-back (p ∷ []) (at ∷ back) at (On-first at back)))) b.apart.0 refl
 
-        by : (front back : List ℕ) → at ∷ b.ys ≡ front ++ p ∷ back → first_or back (next_at e k) ≡ Some at → ⊥
+        by : (front back : List ℕ) → at ∷ b.ys ≡ front ++ p ∷ back
+            → first_or back (next_at e k) ≡ Some at → ⊥
         by front [] is next = other (last_here front is)
         by front (z ∷ zs) is next =
             let same : z ≡ at = cc in
@@ -82,15 +99,21 @@ module _ (e : ℕ → Option Ends) where
         let long = b.long in
         record {
           ys = at ∷ b.ys;
-          stands = (of_live (e p) some ∙ ap (λ o. Some (prev_at e p, o)) goes, subst (λ o. Stands e o (at ∷ b.ys) (next_at e k)) comes b.stands);
+          stands = (
+            of_live (e p) some ∙ ap (λ o. Some (prev_at e p, o)) goes,
+            subst (λ o. Stands e o (at ∷ b.ys) (next_at e k)) comes b.stands,
+          );
           ends_with = b.ends_with;
           apart = (off_back p comes other, b.apart);
           long = omega (arith, long);
           past = λ low closed less.
               let up = b.past low closed less in
-              (λ (within : p ≤ low → at ≤ low). before p at low within up) (λ within. closed.on p at goes within);
+              (λ (within : p ≤ low → at ≤ low). before p at low within up)
+              (λ within. closed.on p at goes within);
           same = λ c is on. holds_prev e c at p is (b.same c is on) comes;
-          starts = λ no. absurd (let is = b.starts no in let gone : None ≡ Some p = sym no ∙ ap (prev_at e) (sym is) ∙ comes in cc);
+          starts = λ no. absurd
+              (let is = b.starts no in let gone : None ≡ Some p = sym no ∙ ap (prev_at e) (sym is)
+              ∙ comes in cc);
         }
       where
         before : (p at low : ℕ) → (p ≤ low → at ≤ low) → low < at → low < p
@@ -99,12 +122,14 @@ module _ (e : ℕ → Option Ends) where
     -- without a previous one it is the first
     pub back_none : prev_at e at ≡ None → (IsHead e k → at ≡ k)
     back_none lone (inl start) = b.starts start
-    back_none lone (inr ring) = absurd (by (b.same (Cyclic (k ∷ ring.0)) ring.1 (On-first k ring.0)))
+    back_none lone (inr ring) =
+        absurd (by (b.same (Cyclic (k ∷ ring.0)) ring.1 (On-first k ring.0)))
       where
         by : On (k ∷ ring.0) at → ⊥
         by on =
             let t = turned e on.front at on.back (subst (IsRing e) on.is ring.1) in
-            let last : prev_at e at ≡ last_or (Some at) (on.back ++ on.front) = ap prev_in t.stands.0 in
+            let last : prev_at e at ≡ last_or (Some at) (on.back ++ on.front) =
+            ap prev_in t.stands.0 in
             never (on.back ++ on.front) at (sym last ∙ lone)
           where
             never : (xs : List ℕ) (x : ℕ) → last_or (Some x) xs ≡ None → ⊥
@@ -116,30 +141,36 @@ module _ (e : ℕ → Option Ends) where
     back_ring comes =
         let goes = agreed.backward k at comes in
         let s : Stands e (Some k) (at ∷ b.ys) (Some at) =
-        subst (Stands e (Some k) (at ∷ b.ys)) goes (subst (λ o. Stands e o (at ∷ b.ys) (next_at e k)) comes b.stands) in
+        subst (Stands e (Some k) (at ∷ b.ys)) goes
+        (subst (λ o. Stands e o (at ∷ b.ys) (next_at e k)) comes b.stands) in
         let ring : IsRing e (at ∷ b.ys) =
-        record { stands = subst (λ o. Stands e o (at ∷ b.ys) (Some at)) (sym b.ends_with) s; apart = b.apart } in
+        record {
+          stands = subst (λ o. Stands e o (at ∷ b.ys) (Some at)) (sym b.ends_with) s;
+          apart = b.apart;
+        } in
         by ring (ended (at ∷ b.ys))
       where
         by : IsRing e (at ∷ b.ys) → Ended (at ∷ b.ys) → IsHead e k
         by ring (none is) = absurd (cc)
         by ring (some_last zs z is) =
-            let end : Some z ≡ Some k = sym (last_or-append None zs (z ∷ [])) ∙ sym (ap (last_or None) is) ∙ b.ends_with in
+            let end : Some z ≡ Some k = sym (last_or-append None zs (z ∷ []))
+            ∙ sym (ap (last_or None) is) ∙ b.ends_with in
             let same : z ≡ k = cc in
             let whole : at ∷ b.ys ≡ zs ++ k ∷ [] = is ∙ ap (λ y. zs ++ y ∷ []) same in
             inr (zs, turned e zs k [] (subst (IsRing e) whole ring))
 
 -- an index on the way back
-module _ (e : ℕ → Option Ends) (agreed : IsAgreed e) (k at steps : ℕ) (b : IsBack e k at steps) where
-  pub back_live : IsSome (e at)
-  back_live = live_on e (prev_at e at) (next_at e k) (at ∷ b.ys) at b.stands (On-first at b.ys)
+module _ (e : ℕ → Option Ends) (agreed : IsAgreed e) (k at steps : ℕ) (b : IsBack e k at steps)
+  where
+    pub back_live : IsSome (e at)
+    back_live = live_on e (prev_at e at) (next_at e k) (at ∷ b.ys) at b.stands (On-first at b.ys)
 
-  pub back_same : (c : Chain) → IsChainOf e c → On (members c) k → On (members c) at
-  back_same = b.same
+    pub back_same : (c : Chain) → IsChainOf e c → On (members c) k → On (members c) at
+    back_same = b.same
 
-  pub back_past : (low : ℕ) → IsClosed e low → low < k → low < at
-  back_past = b.past
+    pub back_past : (low : ℕ) → IsClosed e low → low < k → low < at
+    back_past = b.past
 
-  -- where the walk comes round, the chain is a ring
-  pub ring_head : prev_at e at ≡ Some k → IsHead e k
-  ring_head = back_ring e agreed k at steps b
+    -- where the walk comes round, the chain is a ring
+    pub ring_head : prev_at e at ≡ Some k → IsHead e k
+    ring_head = back_ring e agreed k at steps b

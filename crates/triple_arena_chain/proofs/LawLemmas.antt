@@ -1,9 +1,11 @@
 -- What the laws on chains stand on.
-use Rattle.std.proofs.Common.{◌≡◌, ℕ, suc, ◌<◌, List, length, Option, Some, None, IsSome, option_map, true, false, refl, ap, ◌∙◌, arith}
+use Rattle.std.proofs.Common.{◌≡◌, ℕ, suc, ◌<◌, List, length, Option, Some, None, IsSome}
+use Rattle.std.proofs.Common.{option_map, true, false, refl, ap, ◌∙◌, arith}
 use Rattle.triple_arena.specs.Content.{Content, entry_at}
 use Rattle.triple_arena.specs.ContentLaws.{live_entry}
 use Rattle.triple_arena_chain.specs.LinkShape.{IndexLink}
-use Rattle.triple_arena_chain.specs.Chains.{Ends, with_next, with_prev, linked, unlinked, exchanged, next_in, prev_in, next_at}
+use Rattle.triple_arena_chain.specs.Chains.{Ends, with_next, with_prev, linked, unlinked, exchanged}
+use Rattle.triple_arena_chain.specs.Chains.{next_in, prev_in, next_at}
 use Rattle.triple_arena_chain.specs.ChainLaws.{stands}
 use Rattle.triple_arena_chain.specs.AllChainsLaws.{all_chains}
 use Rattle.triple_arena_chain.specs.Lists.{Chain, AreChains}
@@ -15,7 +17,8 @@ use Rattle.triple_arena_chain.specs.LinkLaws.{kept_on}
 use Rattle.triple_arena_chain.proofs.InsertionLemmas.{with_next_if-same, with_prev_if-same}
 use Rattle.triple_arena_chain.specs.KindLaws.{found}
 use Rattle.triple_arena_chain.proofs.RestoredLemmas.{still_next, found_by_next}
-use Rattle.triple_arena_chain.proofs.ReversalLemmas.{linked_back, unlinked_back, exchanged_back, next_exchanged}
+use Rattle.triple_arena_chain.proofs.ReversalLemmas.{linked_back, unlinked_back, exchanged_back}
+use Rattle.triple_arena_chain.proofs.ReversalLemmas.{next_exchanged}
 
 -- two that have no neighbors to each other's side
 record AreOpen (o o' : Option Ends) : Type 0 where
@@ -31,27 +34,41 @@ open_by p q None o' h = absurd (let no : false ≡ true = h in cc)
 open_by p q (Some v) None h = absurd (let no : false ≡ true = h in cc)
 open_by p q (Some v) (Some w) h = by v.1 w.0 refl refl h
   where
-    by : (n m : Option ℕ) → v.1 ≡ n → w.0 ≡ m → IsSome (at_bridge p q (Some (v.0, n)) (Some (m, w.1))) → AreOpen (Some v) (Some w)
-    by None None end start h = record { first = v; second = w; first_is = refl; second_is = refl; end = end; start = start }
+    by : (n m : Option ℕ) → v.1 ≡ n → w.0 ≡ m
+        → IsSome (at_bridge p q (Some (v.0, n)) (Some (m, w.1))) → AreOpen (Some v) (Some w)
+    by None None end start h =
+        record {
+          first = v;
+          second = w;
+          first_is = refl;
+          second_is = refl;
+          end = end;
+          start = start;
+        }
     by None (Some m) end start h = absurd (let no : false ≡ true = h in cc)
     by (Some n) m end start h = absurd (let no : false ≡ true = h in cc)
 
 -- interlinks that are the same at each index are so after the same writes
 both_same : (e f : ℕ → Option Ends) (p q : ℕ) (n m : Option ℕ) → ((j : ℕ) → f j ≡ e j)
     → (k : ℕ) → with_prev (with_next f p n) q m k ≡ with_prev (with_next e p n) q m k
-both_same e f p q n m same = with_prev_if-same (with_next e p n) (with_next f p n) (Some q) m (with_next_if-same e f (Some p) n same)
+both_same e f p q n m same =
+    with_prev_if-same (with_next e p n) (with_next f p n) (Some q) m
+    (with_next_if-same e f (Some p) n same)
 
-exchanged_same : (e f : ℕ → Option Ends) (p q s t : ℕ) → ((j : ℕ) → f j ≡ e j) → (k : ℕ) → exchanged f p q s t k ≡ exchanged e p q s t k
+exchanged_same : (e f : ℕ → Option Ends) (p q s t : ℕ) → ((j : ℕ) → f j ≡ e j) → (k : ℕ)
+    → exchanged f p q s t k ≡ exchanged e p q s t k
 exchanged_same e f p q s t same =
     let e2 = with_next (with_next e p (Some t)) q (Some s) in
     let f2 = with_next (with_next f p (Some t)) q (Some s) in
     with_prev_if-same (with_prev e2 t (Some p)) (with_prev f2 t (Some p)) (Some s) (Some q)
     (with_prev_if-same e2 f2 (Some t) (Some p)
-    (with_next_if-same (with_next e p (Some t)) (with_next f p (Some t)) (Some q) (Some s) (with_next_if-same e f (Some p) (Some t) same)))
+    (with_next_if-same (with_next e p (Some t)) (with_next f p (Some t)) (Some q) (Some s)
+    (with_next_if-same e f (Some p) (Some t) same)))
 
 module _ {I T : Type 0} (number : I → ℕ) where
   -- one change after another that takes it back
-  restored : (c d f : Content (IndexLink I T)) (first second : ℕ → Option Ends) → IsRelinked number first c d → IsRelinked number second d f
+  restored : (c d f : Content (IndexLink I T)) (first second : ℕ → Option Ends)
+      → IsRelinked number first c d → IsRelinked number second d f
       → ((k : ℕ) → second k ≡ ends_in number c k) → IsRelinked number (ends_in number c) c f
   restored c d f first second one two back =
       record {
@@ -61,32 +78,41 @@ module _ {I T : Type 0} (number : I → ℕ) where
       }
 
   -- the first finds its next, which it just got
-  pub connect_answers : (c d : Content (IndexLink I T)) (p gp q gq : ℕ) → IsSome (at_bridge p q (ends_found number c p gp) (ends_found number c q gq))
-      → IsRelinked number (linked (ends_in number c) p q) c d → IsSome (next_in (ends_found number d p gp))
+  pub connect_answers : (c d : Content (IndexLink I T)) (p gp q gq : ℕ)
+      → IsSome (at_bridge p q (ends_found number c p gp) (ends_found number c q gq))
+      → IsRelinked number (linked (ends_in number c) p q) c d
+      → IsSome (next_in (ends_found number d p gp))
   connect_answers c d p gp q gq met one =
       let e = ends_in number c in
       let gap = open_by p q (ends_found number c p gp) (ends_found number c q gq) met in
       let next : next_at (ends_in number d) p ≡ Some q =
-      ap next_in (one.ends p) ∙ next_at_p e p q (Some q) (Some p) gap.first (found number c p gp gap.first gap.first_is) in
+      ap next_in (one.ends p)
+      ∙ next_at_p e p q (Some q) (Some p) gap.first (found number c p gp gap.first gap.first_is)
+      in
       let there : IsSome (ends_found number c p gp) = rw gap.first_is refl in
       still_next number c d p gp q there (one.values p) next
 
-  pub connect_back : (c d f : Content (IndexLink I T)) (p gp q gq : ℕ) → IsSome (at_bridge p q (ends_found number c p gp) (ends_found number c q gq))
+  pub connect_back : (c d f : Content (IndexLink I T)) (p gp q gq : ℕ)
+      → IsSome (at_bridge p q (ends_found number c p gp) (ends_found number c q gq))
       → IsRelinked number (linked (ends_in number c) p q) c d
-      → ((n : ℕ) → next_at (ends_in number d) p ≡ Some n → IsRelinked number (unlinked (ends_in number d) p n) d f)
+      → ((n : ℕ) → next_at (ends_in number d) p ≡ Some n
+      → IsRelinked number (unlinked (ends_in number d) p n) d f)
       → IsRelinked number (ends_in number c) c f
   connect_back c d f p gp q gq met one two =
       let e = ends_in number c in
       let gap = open_by p q (ends_found number c p gp) (ends_found number c q gq) met in
       let at_p : e p ≡ Some gap.first = found number c p gp gap.first gap.first_is in
       let at_q : e q ≡ Some gap.second = found number c q gq gap.second gap.second_is in
-      let next : next_at (ends_in number d) p ≡ Some q = ap next_in (one.ends p) ∙ next_at_p e p q (Some q) (Some p) gap.first at_p in
+      let next : next_at (ends_in number d) p ≡ Some q = ap next_in (one.ends p)
+      ∙ next_at_p e p q (Some q) (Some p) gap.first at_p in
       restored c d f (linked e p q) (unlinked (ends_in number d) p q) one (two q next)
       (λ k. both_same (linked e p q) (ends_in number d) p q None None one.ends k
       ∙ linked_back e p q (ap next_in at_p ∙ gap.end) (ap prev_in at_q ∙ gap.start) k)
 
-  pub break_next_back : (c d f : Content (IndexLink I T)) (p q : ℕ) → IsChained number c → next_at (ends_in number c) p ≡ Some q
-      → IsRelinked number (unlinked (ends_in number c) p q) c d → IsRelinked number (linked (ends_in number d) p q) d f
+  pub break_next_back : (c d f : Content (IndexLink I T)) (p q : ℕ) → IsChained number c
+      → next_at (ends_in number c) p ≡ Some q
+      → IsRelinked number (unlinked (ends_in number c) p q) c d
+      → IsRelinked number (linked (ends_in number d) p q) d f
       → IsRelinked number (ends_in number c) c f
   break_next_back c d f p q chained next one two =
       let e = ends_in number c in
@@ -94,17 +120,23 @@ module _ {I T : Type 0} (number : I → ℕ) where
       (λ k. both_same (unlinked e p q) (ends_in number d) p q (Some q) (Some p) one.ends k
       ∙ unlinked_back e p q next (chained.agreed.forward p q next) k)
 
-  pub exchange_answers : (c d : Content (IndexLink I T)) (p gp q gq s t : ℕ) → IsSome (next_in (ends_found number c p gp)) → IsSome (next_in (ends_found number c q gq))
-      → next_at (ends_in number c) p ≡ Some s → next_at (ends_in number c) q ≡ Some t → IsRelinked number (exchanged (ends_in number c) p q s t) c d
+  pub exchange_answers : (c d : Content (IndexLink I T)) (p gp q gq s t : ℕ)
+      → IsSome (next_in (ends_found number c p gp)) → IsSome (next_in (ends_found number c q gq))
+      → next_at (ends_in number c) p ≡ Some s → next_at (ends_in number c) q ≡ Some t
+      → IsRelinked number (exchanged (ends_in number c) p q s t) c d
       → IsSome (next_in (ends_found number d p gp)) × IsSome (next_in (ends_found number d q gq))
   exchange_answers c d p gp q gq s t has_p has_q out_p out_q one =
       let after = next_exchanged (ends_in number c) p q s t out_p out_q in (
-        still_next number c d p gp t (found_by_next (ends_found number c p gp) has_p) (one.values p) (ap next_in (one.ends p) ∙ after.0),
-        still_next number c d q gq s (found_by_next (ends_found number c q gq) has_q) (one.values q) (ap next_in (one.ends q) ∙ after.1),
+        still_next number c d p gp t (found_by_next (ends_found number c p gp) has_p) (one.values p)
+            (ap next_in (one.ends p) ∙ after.0),
+        still_next number c d q gq s (found_by_next (ends_found number c q gq) has_q) (one.values q)
+            (ap next_in (one.ends q) ∙ after.1),
       )
 
-  pub exchange_back : (c d f : Content (IndexLink I T)) (p q s t : ℕ) → IsChained number c → next_at (ends_in number c) p ≡ Some s
-      → next_at (ends_in number c) q ≡ Some t → IsRelinked number (exchanged (ends_in number c) p q s t) c d
+  pub exchange_back : (c d f : Content (IndexLink I T)) (p q s t : ℕ) → IsChained number c
+      → next_at (ends_in number c) p ≡ Some s
+      → next_at (ends_in number c) q ≡ Some t
+      → IsRelinked number (exchanged (ends_in number c) p q s t) c d
       → ((m n : ℕ) → next_at (ends_in number d) p ≡ Some m → next_at (ends_in number d) q ≡ Some n
       → IsRelinked number (exchanged (ends_in number d) p q m n) d f)
       → IsRelinked number (ends_in number c) c f
@@ -113,21 +145,29 @@ module _ {I T : Type 0} (number : I → ℕ) where
       let after = next_exchanged e p q s t out_p out_q in
       let next_p : next_at (ends_in number d) p ≡ Some t = ap next_in (one.ends p) ∙ after.0 in
       let next_q : next_at (ends_in number d) q ≡ Some s = ap next_in (one.ends q) ∙ after.1 in
-      restored c d f (exchanged e p q s t) (exchanged (ends_in number d) p q t s) one (two t s next_p next_q)
-      (λ k. exchanged_same (exchanged e p q s t) (ends_in number d) p q t s one.ends k ∙ exchanged_back e p q s t chained.agreed out_p out_q k)
+      restored c d f (exchanged e p q s t) (exchanged (ends_in number d) p q t s) one
+      (two t s next_p next_q)
+      (λ k. exchanged_same (exchanged e p q s t) (ends_in number d) p q t s one.ends k
+      ∙ exchanged_back e p q s t chained.agreed out_p out_q k)
 
-  live_by_ends : (o : Option (ℕ × IndexLink I T)) → IsSome (option_map (entry_ends number) o) → IsSome o
+  live_by_ends : (o : Option (ℕ × IndexLink I T)) → IsSome (option_map (entry_ends number) o)
+      → IsSome o
   live_by_ends None h = absurd (let no : false ≡ true = h in cc)
   live_by_ends (Some e) h = refl
 
-  bounded : (c : Content (IndexLink I T)) (j : ℕ) → IsSome (ends_in number c j) → j < suc (length c.slots)
-  bounded c j some = let l = live_entry c j (live_by_ends (entry_at c j) some) in let within = l.within in omega (arith, within)
+  bounded : (c : Content (IndexLink I T)) (j : ℕ) → IsSome (ends_in number c j)
+      → j < suc (length c.slots)
+  bounded c j some = let l = live_entry c j (live_by_ends (entry_at c j) some) in let within =
+      l.within in omega (arith, within)
 
-  pub in_one_chain : (c : Content (IndexLink I T)) (i : ℕ) → IsChained number c → IsSome (ends_in number c i) → IsInOneChain (ends_in number c) i
+  pub in_one_chain : (c : Content (IndexLink I T)) (i : ℕ) → IsChained number c
+      → IsSome (ends_in number c i) → IsInOneChain (ends_in number c) i
   in_one_chain c i chained live =
       let e = ends_in number c in
       let here = stands e chained.agreed (suc (length c.slots)) (bounded c) i live in
       record { stands = here; once = λ other. stands_once e i here other }
 
-  pub in_chains : (c : Content (IndexLink I T)) → IsChained number c → (cs : List Chain) × AreChains (ends_in number c) cs
-  in_chains c chained = all_chains (ends_in number c) chained.agreed (suc (length c.slots)) (bounded c)
+  pub in_chains : (c : Content (IndexLink I T)) → IsChained number c
+      → (cs : List Chain) × AreChains (ends_in number c) cs
+  in_chains c chained =
+      all_chains (ends_in number c) chained.agreed (suc (length c.slots)) (bounded c)

@@ -1,5 +1,6 @@
 -- The values of the links as one list.
-use Rattle.std.proofs.Common.{◌≡◌, ℕ, suc, ◌+◌, List, [], ◌∷◌, map, get_or, Option, Some, None, option_map, refl, ap, ◌∙◌}
+use Rattle.std.proofs.Common.{◌≡◌, ℕ, suc, ◌+◌, List, [], ◌∷◌, map, get_or, Option, Some, None}
+use Rattle.std.proofs.Common.{option_map, refl, ap, ◌∙◌}
 use Rattle.triple_arena.specs.Content.{Content}
 use Rattle.triple_arena.specs.LiveEntries.{listed_from}
 use Rattle.triple_arena_chain.specs.LinkShape.{IndexLink}
@@ -16,7 +17,8 @@ module _ {I T : Type 0} where
   listed n slots = map listed_value (listed_from n slots)
 
   -- the same at each place is listed alike, also where one of the two ends earlier
-  listed_same : (n : ℕ) (xs ys : List (Option (ℕ × IndexLink I T))) → ((k : ℕ) → shown (get_or ys k None) ≡ shown (get_or xs k None))
+  listed_same : (n : ℕ) (xs ys : List (Option (ℕ × IndexLink I T)))
+      → ((k : ℕ) → shown (get_or ys k None) ≡ shown (get_or xs k None))
       → listed n ys ≡ listed n xs
   listed_same n [] [] same = refl
   listed_same n [] (None ∷ ys) same = listed_same (n + 1) [] ys (λ k. same (suc k))
@@ -29,12 +31,15 @@ module _ {I T : Type 0} where
   listed_same n (Some e ∷ xs) (Some f ∷ ys) same =
       let here : Some (valued f) ≡ Some (valued e) = same 0 in
       let is : valued f ≡ valued e = cc in
-      ap (λ v. (n, v) ∷ listed (n + 1) ys) is ∙ ap (λ l. (n, valued e) ∷ l) (listed_same (n + 1) xs ys (λ k. same (suc k)))
+      ap (λ v. (n, v) ∷ listed (n + 1) ys) is
+      ∙ ap (λ l. (n, valued e) ∷ l) (listed_same (n + 1) xs ys (λ k. same (suc k)))
 
   -- the same values at the same indexes
-  pub values_listed : (c d : Content (IndexLink I T)) → ((j : ℕ) → values_in d j ≡ values_in c j) → listed_values d ≡ listed_values c
+  pub values_listed : (c d : Content (IndexLink I T)) → ((j : ℕ) → values_in d j ≡ values_in c j)
+      → listed_values d ≡ listed_values c
   values_listed c d same = listed_same 1 c.slots d.slots (λ k. same (suc k))
 
   -- where no index is live, no value is listed
-  pub none_listed : (c : Content (IndexLink I T)) → ((j : ℕ) → values_in c j ≡ None) → listed_values c ≡ []
+  pub none_listed : (c : Content (IndexLink I T)) → ((j : ℕ) → values_in c j ≡ None)
+      → listed_values c ≡ []
   none_listed c none = listed_same 1 [] c.slots (λ k. none (suc k))

@@ -13,15 +13,19 @@ use Rattle.triple_arena_chain.specs.Listed.{listed_value}
 module _ {P I T : Type 0} where
   -- a call of a map of links as a call of a map of their values
   abbrev valued_move : Move P (IndexLink I T) → Move P T
-  valued_move move = record { from = move.from; value = move.value.t; to = move.to; given = move.given.t }
+  valued_move move = record
+      { from = move.from; value = move.value.t; to = move.to; given = move.given.t }
 
   module _ (index generation : P → ℕ) where
-    befores : (moves : List (Move P (IndexLink I T))) → map (entry_before index generation) (map valued_move moves)
+    befores : (moves : List (Move P (IndexLink I T)))
+        → map (entry_before index generation) (map valued_move moves)
         ≡ map listed_value (map (entry_before index generation) moves)
     befores [] = refl
-    befores (x ∷ moves) = ap (λ l. listed_value (entry_before index generation x) ∷ l) (befores moves)
+    befores (x ∷ moves) =
+        ap (λ l. listed_value (entry_before index generation x) ∷ l) (befores moves)
 
-    afters : (moves : List (Move P (IndexLink I T))) → map (entry_after index generation) (map valued_move moves)
+    afters : (moves : List (Move P (IndexLink I T)))
+        → map (entry_after index generation) (map valued_move moves)
         ≡ map listed_value (map (entry_after index generation) moves)
     afters [] = refl
     afters (x ∷ moves) = ap (λ l. listed_value (entry_after index generation x) ∷ l) (afters moves)
@@ -30,8 +34,10 @@ module _ {P I T F G : Type 0} {index generation : P → ℕ} {step : F → P →
     {linked : G → P → IndexLink I T → P → IndexLink I T → G → Type 0} (state : G → F) where
   -- the values are those that a compression's map gave
   pub values_moved : {g : G} {old new : List (ℕ × (ℕ × IndexLink I T))}
-      → ((h : G) (from : P) (l : IndexLink I T) (to : P) (m : IndexLink I T) (k : G) → linked h from l to m k → step (state h) from l.t to m.t (state k))
-      → IsMapped index generation linked g old new → IsMapped index generation step (state g) (map listed_value old) (map listed_value new)
+      → ((h : G) (from : P) (l : IndexLink I T) (to : P) (m : IndexLink I T) (k : G)
+      → linked h from l to m k → step (state h) from l.t to m.t (state k))
+      → IsMapped index generation linked g old new
+      → IsMapped index generation step (state g) (map listed_value old) (map listed_value new)
   values_moved {g} one m =
       record {
         moves = map valued_move m.moves;
@@ -41,10 +47,16 @@ module _ {P I T F G : Type 0} {index generation : P → ℕ} {step : F → P →
         after = afters index generation m.moves ∙ ap (map listed_value) m.after;
       }
     where
-      by_moves : (moves : List (Move P (IndexLink I T))) (h : G) → FoldsTo (λ h move k. linked h move.from move.value move.to move.given k) h moves m.last
-          → FoldsTo (λ f move k. step f move.from move.value move.to move.given k) (state h) (map valued_move moves) (state m.last)
+      by_moves : (moves : List (Move P (IndexLink I T))) (h : G)
+          → FoldsTo (λ h move k. linked h move.from move.value move.to move.given k) h moves m.last
+          → FoldsTo (λ f move k. step f move.from move.value move.to move.given k) (state h)
+          (map valued_move moves) (state m.last)
       by_moves [] h calls = ap state calls
-      by_moves (x ∷ moves) h calls = (state calls.0, one h x.from x.value x.to x.given calls.0 calls.1, by_moves moves calls.0 calls.2)
+      by_moves (x ∷ moves) h calls = (
+        state calls.0,
+        one h x.from x.value x.to x.given calls.0 calls.1,
+        by_moves moves calls.0 calls.2,
+      )
 
 module _ {P I L T : Type 0} where
   -- a call of a copy's map of links as a call of a map to their values
@@ -59,29 +71,39 @@ module _ {P L A : Type 0} (index generation : P → ℕ) where
   made call = listed_under index generation call.pointer call.given
 
 module _ {P I L T : Type 0} (index generation : P → ℕ) where
-  seens : (calls : List (Call P L (IndexLink I T))) → map (seen index generation) (map valued_call calls) ≡ map (seen index generation) calls
+  seens : (calls : List (Call P L (IndexLink I T)))
+      → map (seen index generation) (map valued_call calls) ≡ map (seen index generation) calls
   seens [] = refl
   seens (x ∷ calls) = ap (λ l. seen index generation x ∷ l) (seens calls)
 
   mades : (calls : List (Call P L (IndexLink I T)))
-      → map (made index generation) (map valued_call calls) ≡ map listed_value (map (made index generation) calls)
+      → map (made index generation) (map valued_call calls)
+      ≡ map listed_value (map (made index generation) calls)
   mades [] = refl
   mades (x ∷ calls) = ap (λ l. listed_value (made index generation x) ∷ l) (mades calls)
 
 module _ {P I L T E F G : Type 0} (step : F → P → Bor L → Result T E → F → Type 0)
     (linked : G → P → Bor L → Result (IndexLink I T) E → G → Type 0) (state : G → F) where
-  valued_calls : ((h : G) (p : P) (u : Bor L) (l : IndexLink I T) (k : G) → linked h p u (Ok l) k → step (state h) p u (Ok l.t) (state k))
-      → (calls : List (Call P L (IndexLink I T))) (h last : G) → Calls linked h calls last → Calls step (state h) (map valued_call calls) (state last)
+  valued_calls : ((h : G) (p : P) (u : Bor L) (l : IndexLink I T) (k : G) → linked h p u (Ok l) k
+      → step (state h) p u (Ok l.t) (state k))
+      → (calls : List (Call P L (IndexLink I T))) (h last : G) → Calls linked h calls last
+      → Calls step (state h) (map valued_call calls) (state last)
   valued_calls one [] h last calls = ap state calls
-  valued_calls one (x ∷ rest) h last calls =
-      (state calls.0, one h x.pointer x.lent x.given calls.0 calls.1, valued_calls one rest calls.0 last calls.2)
+  valued_calls one (x ∷ rest) h last calls = (
+    state calls.0,
+    one h x.pointer x.lent x.given calls.0 calls.1,
+    valued_calls one rest calls.0 last calls.2,
+  )
 
-module _ {P I L T E F G : Type 0} {index generation : P → ℕ} {step : F → P → Bor L → Result T E → F → Type 0}
+module _ {P I L T E F G : Type 0} {index generation : P → ℕ}
+    {step : F → P → Bor L → Result T E → F → Type 0}
     {linked : G → P → Bor L → Result (IndexLink I T) E → G → Type 0} (state : G → F) where
   -- the values are those that a copy's map gave
   pub values_mapped : {g : G} {old : List (ℕ × (ℕ × L))} {new : List (ℕ × (ℕ × IndexLink I T))}
-      → ((h : G) (p : P) (u : Bor L) (l : IndexLink I T) (k : G) → linked h p u (Ok l) k → step (state h) p u (Ok l.t) (state k))
-      → IsMappedCopy index generation linked g old new → IsMappedCopy index generation step (state g) old (map listed_value new)
+      → ((h : G) (p : P) (u : Bor L) (l : IndexLink I T) (k : G) → linked h p u (Ok l) k
+      → step (state h) p u (Ok l.t) (state k))
+      → IsMappedCopy index generation linked g old new
+      → IsMappedCopy index generation step (state g) old (map listed_value new)
   values_mapped {g} one m =
       record {
         calls = map valued_call m.calls;
@@ -93,9 +115,12 @@ module _ {P I L T E F G : Type 0} {index generation : P → ℕ} {step : F → P
 
   -- and where it refused, the map refused
   pub values_refused : {g : G} {old : List (ℕ × (ℕ × L))}
-      → ((h : G) (p : P) (u : Bor L) (l : IndexLink I T) (k : G) → linked h p u (Ok l) k → step (state h) p u (Ok l.t) (state k))
-      → ((h : G) (p : P) (u : Bor L) (e : E) (k : G) → linked h p u (Err e) k → step (state h) p u (Err e) (state k))
-      → IsRefusedCopy index generation linked g old → IsRefusedCopy index generation step (state g) old
+      → ((h : G) (p : P) (u : Bor L) (l : IndexLink I T) (k : G) → linked h p u (Ok l) k
+      → step (state h) p u (Ok l.t) (state k))
+      → ((h : G) (p : P) (u : Bor L) (e : E) (k : G) → linked h p u (Err e) k
+      → step (state h) p u (Err e) (state k))
+      → IsRefusedCopy index generation linked g old
+      → IsRefusedCopy index generation step (state g) old
   values_refused {g} one refuses r =
       record {
         calls = map valued_call r.calls;
@@ -107,18 +132,26 @@ module _ {P I L T E F G : Type 0} {index generation : P → ℕ} {step : F → P
         rest = r.rest;
         made = valued_calls step linked state one r.calls g r.refusing r.made;
         refused = refuses r.refusing r.pointer r.lent r.error r.last r.refused;
-        before = ap (λ l. l ++ listed_under index generation r.pointer r.lent.now ∷ r.rest) (seens index generation r.calls) ∙ r.before;
+        before = ap (λ l. l ++ listed_under index generation r.pointer r.lent.now ∷ r.rest)
+            (seens index generation r.calls) ∙ r.before;
       }
 
-module _ {P I L T E G : Type 0} {index generation : P → ℕ} {linked : G → P → Bor L → Result (IndexLink I T) E → G → Type 0} where
+module _ {P I L T E G : Type 0} {index generation : P → ℕ}
+    {linked : G → P → Bor L → Result (IndexLink I T) E → G → Type 0} where
   -- the interlinks are those of the links that were lent
-  pub links_copied : (neighbors : L → Option I × Option I) {g : G} {old : List (ℕ × (ℕ × L))} {new : List (ℕ × (ℕ × IndexLink I T))}
-      → ((h : G) (p : P) (u : Bor L) (l : IndexLink I T) (k : G) → linked h p u (Ok l) k → prev_next_of l ≡ neighbors u.now)
+  pub links_copied : (neighbors : L → Option I × Option I) {g : G} {old : List (ℕ × (ℕ × L))}
+      {new : List (ℕ × (ℕ × IndexLink I T))}
+      → ((h : G) (p : P) (u : Bor L) (l : IndexLink I T) (k : G) → linked h p u (Ok l) k
+      → prev_next_of l ≡ neighbors u.now)
       → IsMappedCopy index generation linked g old new → IsLinkedCopy neighbors old new
   links_copied neighbors {g} {old} {new} one m =
-      subst (λ l. IsLinkedCopy neighbors l new) m.before (subst (IsLinkedCopy neighbors (map (seen index generation) m.calls)) m.after (by_calls m.calls g m.made))
+      subst (λ l. IsLinkedCopy neighbors l new) m.before
+      (subst (IsLinkedCopy neighbors (map (seen index generation) m.calls)) m.after
+      (by_calls m.calls g m.made))
     where
       by_calls : (calls : List (Call P L (IndexLink I T))) (h : G) → Calls linked h calls m.last
-          → IsLinkedCopy neighbors (map (seen index generation) calls) (map (made index generation) calls)
+          → IsLinkedCopy neighbors (map (seen index generation) calls)
+          (map (made index generation) calls)
       by_calls [] h calls = tt
-      by_calls (x ∷ rest) h calls = ((refl, one h x.pointer x.lent x.given calls.0 calls.1), by_calls rest calls.0 calls.2)
+      by_calls (x ∷ rest) h calls =
+          ((refl, one h x.pointer x.lent x.given calls.0 calls.1), by_calls rest calls.0 calls.2)

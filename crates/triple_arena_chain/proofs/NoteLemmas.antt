@@ -1,11 +1,14 @@
 -- Links that are brought to their places, which note where the links went that were there.
-use Rattle.std.proofs.Common.{◌≡◌, ◌≢◌, ℕ, zero, suc, ◌+◌, ◌<◌, ◌≤◌, Option, Some, None, IsSome, is_some, option_map, true≢false, refl, sym, ap, subst, ◌∙◌, arith, inl, inr, ◌⊎◌}
+use Rattle.std.proofs.Common.{◌≡◌, ◌≢◌, ℕ, zero, suc, ◌+◌, ◌<◌, ◌≤◌, Option, Some, None, IsSome}
+use Rattle.std.proofs.Common.{is_some, option_map, true≢false, refl, sym, ap, subst, ◌∙◌, arith}
+use Rattle.std.proofs.Common.{inl, inr, ◌⊎◌}
 use Rattle.std.proofs.lemmas.Bool.{eq-eqb, ne_eqb}
 use Rattle.std.proofs.lemmas.Bool.Decides.{eqb_tells, leb_tells}
 use Rattle.triple_arena.specs.Content.{Content, entry_at, IsWellFormed}
 use Rattle.triple_arena_chain.specs.LinkLaws.{kept_on}
 use Rattle.triple_arena_chain.specs.LinkShape.{IndexLink}
-use Rattle.triple_arena_chain.specs.Chains.{Ends, next_in, prev_in, next_at, prev_at, renext, reprev, with_next, with_next_if}
+use Rattle.triple_arena_chain.specs.Chains.{Ends, next_in, prev_in, next_at, prev_at, renext}
+use Rattle.triple_arena_chain.specs.Chains.{reprev, with_next, with_next_if}
 use Rattle.triple_arena_chain.specs.Links.{values_in, ends_in, IsKept}
 use Rattle.triple_arena_chain.specs.ListLaws.{live_next_in, live_prev_in}
 use Rattle.triple_arena_chain.specs.Renaming.{ends_renamed}
@@ -14,7 +17,8 @@ use Rattle.triple_arena_chain.specs.Notes.{LeadsTo, IsLed, IsBrought, AreNoted}
 use Rattle.triple_arena_chain.proofs.AgreedLemmas.{next_reprev}
 use Rattle.triple_arena_chain.proofs.PassLemmas.{live_as, live_ends, some_valued}
 use Rattle.triple_arena_chain.proofs.PlaceLemmas.{prev-with_next_if}
-use Rattle.triple_arena_chain.proofs.SwapLemmas.{some_under, swap_i, swap_j, swap_other, swap_twice, next-renamed}
+use Rattle.triple_arena_chain.proofs.SwapLemmas.{some_under, swap_i, swap_j, swap_other, swap_twice}
+use Rattle.triple_arena_chain.proofs.SwapLemmas.{next-renamed}
 
 module _ (e : ℕ → Option Ends) (placed : ℕ) where
   -- past the placed ones no note is followed
@@ -34,7 +38,8 @@ module _ (e : ℕ → Option Ends) (placed : ℕ) where
 
   leads_on : (n i k : ℕ) → LeadsTo e placed n i k → i ≤ placed → IsNote i k
   leads_on zero i k l within = absurd (let past = l.0 in omega (arith, within, past))
-  leads_on (suc n) i k l within = record { to = l.0; further = l.2; noted = l.3; rest = record { steps = n; leads = l.4 } }
+  leads_on (suc n) i k l within =
+      record { to = l.0; further = l.2; noted = l.3; rest = record { steps = n; leads = l.4 } }
 
   pub led_on : (i k : ℕ) → IsLed e placed i k → i ≤ placed → IsNote i k
   led_on i k l within = leads_on l.steps i k l.leads within
@@ -47,7 +52,8 @@ not_within i n never =
     ]
 
 -- a note is followed
-pub led_by : (e : ℕ → Option Ends) (placed i j k : ℕ) → IsLed e placed i k → i ≤ placed → prev_at e i ≡ Some j → (i < j) × IsLed e placed j k
+pub led_by : (e : ℕ → Option Ends) (placed i j k : ℕ) → IsLed e placed i k → i ≤ placed
+    → prev_at e i ≡ Some j → (i < j) × IsLed e placed j k
 led_by e placed i j k l within is =
     let n = led_on e placed i k l within in
     let both : Some n.to ≡ Some j = sym n.noted ∙ is in
@@ -55,31 +61,39 @@ led_by e placed i j k l within is =
     (subst (λ t. i < t) same n.further, subst (λ t. IsLed e placed t k) same n.rest)
 
 -- where a note leads on there is one
-pub led_some : (e : ℕ → Option Ends) (placed i k : ℕ) → IsLed e placed i k → i ≤ placed → prev_at e i ≡ None → ⊥
+pub led_some : (e : ℕ → Option Ends) (placed i k : ℕ) → IsLed e placed i k → i ≤ placed
+    → prev_at e i ≡ None → ⊥
 led_some e placed i k l within none =
     let n = led_on e placed i k l within in
     let no : None ≡ Some n.to = sym none ∙ n.noted in
     cc
 
-pub led_live : {I T : Type 0} (number : I → ℕ) (c : Content (IndexLink I T)) (placed i k : ℕ) → IsLed (ends_in number c) placed i k → i ≤ placed
+pub led_live : {I T : Type 0} (number : I → ℕ) (c : Content (IndexLink I T)) (placed i k : ℕ)
+    → IsLed (ends_in number c) placed i k → i ≤ placed
     → IsSome (entry_at c i)
 led_live number c placed i k l within =
     let n = led_on (ends_in number c) placed i k l within in
     sym (live_ends number c i) ∙ live_prev_in (ends_in number c i) n.to n.noted
 
 -- notes that stay lead where they led
-leads_same : (e e' : ℕ → Option Ends) (placed : ℕ) → ((y : ℕ) → y ≤ placed → prev_at e' y ≡ prev_at e y) → (n i k : ℕ) → LeadsTo e placed n i k
+leads_same : (e e' : ℕ → Option Ends) (placed : ℕ)
+    → ((y : ℕ) → y ≤ placed → prev_at e' y ≡ prev_at e y) → (n i k : ℕ) → LeadsTo e placed n i k
     → LeadsTo e' placed n i k
 leads_same e e' placed same zero i k l = l
-leads_same e e' placed same (suc n) i k l = (l.0, l.1, l.2, same i l.1 ∙ l.3, leads_same e e' placed same n l.0 k l.4)
+leads_same e e' placed same (suc n) i k l =
+    (l.0, l.1, l.2, same i l.1 ∙ l.3, leads_same e e' placed same n l.0 k l.4)
 
-pub led_same : (e e' : ℕ → Option Ends) (placed : ℕ) → ((y : ℕ) → y ≤ placed → prev_at e' y ≡ prev_at e y) → (i k : ℕ) → IsLed e placed i k
+pub led_same : (e e' : ℕ → Option Ends) (placed : ℕ)
+    → ((y : ℕ) → y ≤ placed → prev_at e' y ≡ prev_at e y) → (i k : ℕ) → IsLed e placed i k
     → IsLed e' placed i k
-led_same e e' placed same i k l = record { steps = l.steps; leads = leads_same e e' placed same l.steps i k l.leads }
+led_same e e' placed same i k l =
+    record { steps = l.steps; leads = leads_same e e' placed same l.steps i k l.leads }
 
 -- one place more is taken, and notes where the link went that was there
-module _ (e e' : ℕ → Option Ends) (m a : ℕ) (same : (y : ℕ) → y ≤ m → prev_at e' y ≡ prev_at e y) (note : prev_at e' (m + 1) ≡ Some a) (up : m < a) where
-  leads_more : (n i k : ℕ) → LeadsTo e m n i k → k ≢ a → IsLed e' (m + 1) i (swapped_index a (m + 1) k)
+module _ (e e' : ℕ → Option Ends) (m a : ℕ) (same : (y : ℕ) → y ≤ m → prev_at e' y ≡ prev_at e y)
+    (note : prev_at e' (m + 1) ≡ Some a) (up : m < a) where
+  leads_more : (n i k : ℕ) → LeadsTo e m n i k → k ≢ a
+      → IsLed e' (m + 1) i (swapped_index a (m + 1) k)
   leads_more zero i k l other =
       let past = l.0 in
       let is : i ≡ k = l.1 in
@@ -87,17 +101,31 @@ module _ (e e' : ℕ → Option Ends) (m a : ℕ) (same : (y : ℕ) → y ≤ m 
         | inl here ↦
             let at : k ≡ m + 1 = sym is ∙ here.1 in
             let differs : m + 1 ≢ a = λ same. other (at ∙ same) in
-            let went : a ≡ swapped_index a (m + 1) k = sym (swap_j a (m + 1)) ∙ ap (swapped_index a (m + 1)) (sym at) in
-            record { steps = 1; leads = (a, omega (arith, here.1), omega (arith, here.1, up, differs), ap (prev_at e') here.1 ∙ note, (omega (arith, up, differs), went)) }
+            let went : a ≡ swapped_index a (m + 1) k = sym (swap_j a (m + 1))
+            ∙ ap (swapped_index a (m + 1)) (sym at) in
+            record {
+              steps = 1;
+              leads = (
+                a,
+                omega (arith, here.1),
+                omega (arith, here.1, up, differs),
+                ap (prev_at e') here.1 ∙ note,
+                (omega (arith, up, differs), went),
+              );
+            }
         | inr away ↦
             let differs = away.1 in
-            let stays : swapped_index a (m + 1) k ≡ k = swap_other a (m + 1) k other (λ at. away.1 (is ∙ at)) in
+            let stays : swapped_index a (m + 1) k ≡ k =
+            swap_other a (m + 1) k other (λ at. away.1 (is ∙ at)) in
             record { steps = 0; leads = (omega (arith, past, differs), is ∙ sym stays) }
       ]
   leads_more (suc n) i k l other =
       let r = leads_more n l.0 k l.4 other in
       let within = l.1 in
-      record { steps = suc r.steps; leads = (l.0, omega (arith, within), l.2, same i l.1 ∙ l.3, r.leads) }
+      record {
+        steps = suc r.steps;
+        leads = (l.0, omega (arith, within), l.2, same i l.1 ∙ l.3, r.leads);
+      }
 
   pub led_more : (i k : ℕ) → IsLed e m i k → k ≢ a → IsLed e' (m + 1) i (swapped_index a (m + 1) k)
   led_more i k l other = leads_more l.steps i k l.leads other
@@ -107,10 +135,12 @@ swap_past : (a m k : ℕ) → m < a → m + 1 < k → m < swapped_index a (m + 1
 swap_past a m k up past =
     elim (eqb_tells k a) [
       | inl same ↦
-          let is : swapped_index a (m + 1) k ≡ m + 1 = ap (swapped_index a (m + 1)) same.1 ∙ swap_i a (m + 1) in
+          let is : swapped_index a (m + 1) k ≡ m + 1 = ap (swapped_index a (m + 1)) same.1
+          ∙ swap_i a (m + 1) in
           omega (arith, is)
       | inr other ↦
-          let is : swapped_index a (m + 1) k ≡ k = swap_other a (m + 1) k other.1 (λ same. omega (arith, same, past)) in
+          let is : swapped_index a (m + 1) k ≡ k =
+          swap_other a (m + 1) k other.1 (λ same. omega (arith, same, past)) in
           omega (arith, is, past)
     ]
 
@@ -124,7 +154,8 @@ prev_of_reprev (Some v) n some = refl
 
 module _ {I T : Type 0} (number : I → ℕ) where
   -- no link is at index 0
-  pub none_at_zero : (laid : ℕ → Option Ends) (now : Content (IndexLink I T)) → ((k : ℕ) → is_some (ends_in number now k) ≡ is_some (laid k))
+  pub none_at_zero : (laid : ℕ → Option Ends) (now : Content (IndexLink I T))
+      → ((k : ℕ) → is_some (ends_in number now k) ≡ is_some (laid k))
       → laid 0 ≡ None
   none_at_zero laid now live = by (laid 0) (live 0)
     where
@@ -133,7 +164,8 @@ module _ {I T : Type 0} (number : I → ℕ) where
       by (Some v) is = absurd (true≢false (sym is))
 
   -- before any link is placed
-  pub noted_none : (c : Content (IndexLink I T)) → IsWellFormed c → AreNoted number 0 0 (λ i. i) c (ends_in number c) c
+  pub noted_none : (c : Content (IndexLink I T)) → IsWellFormed c
+      → AreNoted number 0 0 (λ i. i) c (ends_in number c) c
   noted_none c formed =
       record {
         live = λ k. refl;
@@ -147,8 +179,11 @@ module _ {I T : Type 0} (number : I → ℕ) where
       }
 
   -- one link more is placed
-  module _ (m last : ℕ) (before : Option ℕ) (to : ℕ → ℕ) (a : ℕ) (old c c' : Content (IndexLink I T)) (laid : ℕ → Option Ends) (n : AreNoted number m last to old laid c)
-      (opens : (before ≡ Some last) ⊎ ((before ≡ None) × (last ≡ 0))) (low : last ≤ m) (up : m < a) (b : IsBrought number before a (m + 1) c c')
+  module _ (m last : ℕ) (before : Option ℕ) (to : ℕ → ℕ) (a : ℕ)
+      (old c c' : Content (IndexLink I T)) (laid : ℕ → Option Ends)
+      (n : AreNoted number m last to old laid c)
+      (opens : (before ≡ Some last) ⊎ ((before ≡ None) × (last ≡ 0))) (low : last ≤ m) (up : m < a)
+      (b : IsBrought number before a (m + 1) c c')
       (live : IsSome (ends_in number c a)) (zeroth : laid 0 ≡ None)
       (inner : (k q : ℕ) → next_at laid k ≡ Some q → k ≤ m → k ≢ last → q ≤ m)
       (goes : before ≡ Some last → next_at laid last ≡ Some a) where
@@ -166,20 +201,23 @@ module _ {I T : Type 0} (number : I → ℕ) where
     keeps k other = by opens
       where
         by : (before ≡ Some last) ⊎ ((before ≡ None) × (last ≡ 0)) → f k ≡ ends_in number c k
-        by (inl is) = ap (λ o. with_next_if (ends_in number c) o (Some (m + 1)) k) is ∙ rw (ne_eqb k last other) refl
+        by (inl is) = ap (λ o. with_next_if (ends_in number c) o (Some (m + 1)) k) is
+            ∙ rw (ne_eqb k last other) refl
         by (inr is) = ap (λ o. with_next_if (ends_in number c) o (Some (m + 1)) k) is.0
 
     away : (k : ℕ) → k ≢ m + 1 → ends_in number c' k ≡ f (s k)
     away k other = b.ends k ∙ rw (ne_eqb k (m + 1) other) refl
 
     here : ends_in number c' (m + 1) ≡ reprev (Some a) (f a)
-    here = b.ends (m + 1) ∙ rw (eq-eqb (m + 1) (m + 1) refl) refl ∙ ap (λ k. reprev (Some a) (f k)) (swap_j a (m + 1))
+    here = b.ends (m + 1) ∙ rw (eq-eqb (m + 1) (m + 1) refl) refl
+        ∙ ap (λ k. reprev (Some a) (f k)) (swap_j a (m + 1))
 
     at_a : f a ≡ ends_in number c a
     at_a = keeps a (λ is. omega (arith, is, low, up))
 
     fixed : (k : ℕ) → k ≤ m → s k ≡ k
-    fixed k within = swap_other a (m + 1) k (λ is. omega (arith, is, within, up)) (λ is. omega (arith, is, within))
+    fixed k within = swap_other a (m + 1) k (λ is. omega (arith, is, within, up))
+        (λ is. omega (arith, is, within))
 
     note : prev_at (ends_in number c') (m + 1) ≡ Some a
     note = ap prev_in here ∙ prev_of_reprev (f a) (Some a) (ap is_some at_a ∙ live)
@@ -207,28 +245,37 @@ module _ {I T : Type 0} (number : I → ℕ) where
 
     -- nothing is at index 0
     unlaid : laid' 0 ≡ None
-    unlaid = ap (option_map (ends_renamed (swapped_index a (m + 1)))) (ap laid (fixed 0 (omega arith)) ∙ zeroth)
+    unlaid = ap (option_map (ends_renamed (swapped_index a (m + 1))))
+        (ap laid (fixed 0 (omega arith)) ∙ zeroth)
 
-    done_last : (before ≡ Some last) ⊎ ((before ≡ None) × (last ≡ 0)) → next_at (ends_in number c') last ≡ next_at laid' last
-    done_last (inr is) = ap (next_at (ends_in number c')) is.1 ∙ sym (ap next_in (unlaid)) ∙ ap (next_at laid') (sym is.1)
+    done_last : (before ≡ Some last) ⊎ ((before ≡ None) × (last ≡ 0))
+        → next_at (ends_in number c') last ≡ next_at laid' last
+    done_last (inr is) = ap (next_at (ends_in number c')) is.1 ∙ sym (ap next_in (unlaid))
+        ∙ ap (next_at laid') (sym is.1)
     done_last (inl is) =
         let there : IsSome (ends_in number c last) =
         n.live last ∙ live_next_in (laid last) a (goes is) in
         let written : f last ≡ renext (Some (m + 1)) (ends_in number c last) =
-        ap (λ o. with_next_if (ends_in number c) o (Some (m + 1)) last) is ∙ rw (eq-eqb last last refl) refl in
+        ap (λ o. with_next_if (ends_in number c) o (Some (m + 1)) last) is
+        ∙ rw (eq-eqb last last refl) refl in
         ap next_in (away last (λ at. omega (arith, at, low)))
-        ∙ ap (next_at f) (fixed last low) ∙ ap next_in written ∙ next_of_renext (ends_in number c last) (Some (m + 1)) there
+        ∙ ap (next_at f) (fixed last low) ∙ ap next_in written
+        ∙ next_of_renext (ends_in number c last) (Some (m + 1)) there
         ∙ sym (next_laid last low ∙ ap (option_map s) (goes is) ∙ ap Some (swap_i a (m + 1)))
 
     live_at : (k : ℕ) → is_some (ends_in number c' k) ≡ is_some (ends_in number c (s k))
     live_at k =
-        live_ends number c' k ∙ sym (some_valued (entry_at c' k)) ∙ ap is_some (b.values k) ∙ some_valued (entry_at c (s k)) ∙ sym (live_ends number c (s k))
+        live_ends number c' k ∙ sym (some_valued (entry_at c' k)) ∙ ap is_some (b.values k)
+        ∙ some_valued (entry_at c (s k)) ∙ sym (live_ends number c (s k))
 
-    pub noted_more : AreNoted number (m + 1) (m + 1) (λ i. swapped_index a (m + 1) (to i)) old (under (swapped_index a (m + 1)) laid) c'
+    pub noted_more : AreNoted number (m + 1) (m + 1) (λ i. swapped_index a (m + 1) (to i)) old
+        (under (swapped_index a (m + 1)) laid) c'
     noted_more =
         record {
-          live = λ k. live_at k ∙ n.live (s k) ∙ sym (some_under (swapped_index a (m + 1)) (laid (s k)));
-          values = λ x some. b.values (s (to x)) ∙ ap (values_in c) (swap_twice a (m + 1) (to x)) ∙ n.values x some;
+          live = λ k. live_at k ∙ n.live (s k)
+              ∙ sym (some_under (swapped_index a (m + 1)) (laid (s k)));
+          values = λ x some. b.values (s (to x)) ∙ ap (values_in c) (swap_twice a (m + 1) (to x))
+              ∙ n.values x some;
           kept = kept_on old c c' n.kept b.kept;
           formed = b.formed;
           ahead = λ x some past.
@@ -239,31 +286,40 @@ module _ {I T : Type 0} (number : I → ℕ) where
               ∙ n.ahead x some before;
           raw = λ x some is.
               let at : to x ≡ a = sym (swap_twice a (m + 1) (to x)) ∙ ap s is ∙ swap_j a (m + 1) in
-              ap next_in here ∙ next_reprev (f a) (Some a) ∙ ap next_in at_a ∙ ap (next_at (ends_in number c)) (sym at)
+              ap next_in here ∙ next_reprev (f a) (Some a) ∙ ap next_in at_a
+              ∙ ap (next_at (ends_in number c)) (sym at)
               ∙ ap next_in (n.ahead x some (omega (arith, at, up)));
           done = λ k within other.
               let low_k : k ≤ m = omega (arith, within, other) in
               elim (eqb_tells k last) [
-                | inl same ↦ ap (next_at (ends_in number c')) same.1 ∙ done_last opens ∙ ap (next_at laid') (sym same.1)
+                | inl same ↦ ap (next_at (ends_in number c')) same.1 ∙ done_last opens
+                    ∙ ap (next_at laid') (sym same.1)
                 | inr differs ↦
-                    ap next_in (away k other) ∙ ap (next_at f) (fixed k low_k) ∙ ap next_in (keeps k differs.1)
+                    ap next_in (away k other) ∙ ap (next_at f) (fixed k low_k)
+                    ∙ ap next_in (keeps k differs.1)
                     ∙ n.done k low_k differs.1
-                    ∙ sym (next_laid k low_k ∙ keeps_next (next_at laid k) (λ q is. inner k q is low_k differs.1))
+                    ∙ sym (next_laid k low_k
+                    ∙ keeps_next (next_at laid k) (λ q is. inner k q is low_k differs.1))
               ];
           led = λ x some past.
               let before = was x past in
               let other : to x ≢ a = λ is.
               let at : s (to x) ≡ m + 1 = ap s is ∙ swap_i a (m + 1) in omega (arith, at, past) in
-              led_more (ends_in number c) (ends_in number c') m a prevs note up x (to x) (n.led x some before) other;
+              led_more (ends_in number c) (ends_in number c') m a prevs note up x (to x)
+              (n.led x some before) other;
         }
 
   -- the next of the last one is known
-  module _ (m last : ℕ) (to : ℕ → ℕ) (old c : Content (IndexLink I T)) (laid : ℕ → Option Ends) (n : AreNoted number m last to old laid c)
-      (zeroth : laid 0 ≡ None) (names : (x : ℕ) → IsSome (ends_in number old x) → IsSome (laid (to x))) where
+  module _ (m last : ℕ) (to : ℕ → ℕ) (old c : Content (IndexLink I T)) (laid : ℕ → Option Ends)
+      (n : AreNoted number m last to old laid c)
+      (zeroth : laid 0 ≡ None)
+      (names : (x : ℕ) → IsSome (ends_in number old x) → IsSome (laid (to x))) where
     no_zero : (x : ℕ) → IsSome (ends_in number old x) → to x ≢ 0
-    no_zero x some is = true≢false (sym (subst (λ k. IsSome (laid k)) is (names x some)) ∙ ap is_some zeroth)
+    no_zero x some is = true≢false
+        (sym (subst (λ k. IsSome (laid k)) is (names x some)) ∙ ap is_some zeroth)
 
-    pub noted_over : next_at (ends_in number c) last ≡ next_at laid last → AreNoted number m 0 to old laid c
+    pub noted_over : next_at (ends_in number c) last ≡ next_at laid last
+        → AreNoted number m 0 to old laid c
     noted_over same =
         record {
           live = n.live;
@@ -274,38 +330,47 @@ module _ {I T : Type 0} (number : I → ℕ) where
           raw = λ x some is. absurd (no_zero x some is);
           done = λ k within other.
               elim (eqb_tells k last) [
-                | inl at ↦ ap (next_at (ends_in number c)) at.1 ∙ same ∙ ap (next_at laid) (sym at.1)
+                | inl at ↦ ap (next_at (ends_in number c)) at.1 ∙ same
+                    ∙ ap (next_at laid) (sym at.1)
                 | inr differs ↦ n.done k within differs.1
               ];
           led = n.led;
         }
 
     -- or written
-    pub noted_closed : (next : Option ℕ) (c' : Content (IndexLink I T)) → next ≡ next_at laid last → last ≤ m → IsSome (ends_in number c last)
-        → ((k : ℕ) → ends_in number c' k ≡ with_next (ends_in number c) last next k) → ((k : ℕ) → values_in c' k ≡ values_in c k)
+    pub noted_closed : (next : Option ℕ) (c' : Content (IndexLink I T)) → next ≡ next_at laid last
+        → last ≤ m → IsSome (ends_in number c last)
+        → ((k : ℕ) → ends_in number c' k ≡ with_next (ends_in number c) last next k)
+        → ((k : ℕ) → values_in c' k ≡ values_in c k)
         → IsKept c c' → IsWellFormed c' → AreNoted number m 0 to old laid c'
     noted_closed next c' is low live ends values kept formed =
         record {
-          live = λ k. live_ends number c' k ∙ live_as c c' values k ∙ sym (live_ends number c k) ∙ n.live k;
+          live = λ k. live_ends number c' k ∙ live_as c c' values k ∙ sym (live_ends number c k)
+              ∙ n.live k;
           values = λ x some. values (to x) ∙ n.values x some;
           kept = kept_on old c c' n.kept kept;
           formed = formed;
           ahead = λ x some past.
-              ends (to x) ∙ rw (ne_eqb (to x) last (λ at. omega (arith, at, past, low))) refl ∙ n.ahead x some past;
+              ends (to x) ∙ rw (ne_eqb (to x) last (λ at. omega (arith, at, past, low))) refl
+              ∙ n.ahead x some past;
           raw = λ x some is. absurd (no_zero x some is);
           done = λ k within other.
               elim (eqb_tells k last) [
                 | inl at ↦
-                    let written : with_next (ends_in number c) last next k ≡ renext next (ends_in number c k) = rw at.0 refl in
+                    let written : with_next (ends_in number c) last next k
+                    ≡ renext next (ends_in number c k) = rw at.0 refl in
                     ap next_in (ends k ∙ written)
-                    ∙ next_of_renext (ends_in number c k) next (subst (λ i. IsSome (ends_in number c i)) (sym at.1) live)
+                    ∙ next_of_renext (ends_in number c k) next
+                    (subst (λ i. IsSome (ends_in number c i)) (sym at.1) live)
                     ∙ is ∙ ap (next_at laid) (sym at.1)
                 | inr differs ↦
-                    let stays : with_next (ends_in number c) last next k ≡ ends_in number c k = rw differs.0 refl in
+                    let stays : with_next (ends_in number c) last next k ≡ ends_in number c k =
+                    rw differs.0 refl in
                     ap next_in (ends k ∙ stays) ∙ n.done k within differs.1
               ];
           led = λ x some past.
               led_same (ends_in number c) (ends_in number c') m
-              (λ y within. ap prev_in (ends y) ∙ prev-with_next_if (ends_in number c) (Some last) next y)
+              (λ y within. ap prev_in (ends y)
+              ∙ prev-with_next_if (ends_in number c) (Some last) next y)
               x (to x) (n.led x some past);
         }

@@ -1,5 +1,7 @@
 -- A pass over the live indexes, in their order, that writes the interlinks of each.
-use Rattle.std.proofs.Common.{◌≡◌, ◌≢◌, ℕ, zero, suc, ◌+◌, ◌<◌, ◌≤◌, Option, Some, None, is_some, IsSome, true, true≢false, option_map, inl, inr, ◌⊎◌, refl, sym, ap, subst, ◌∙◌, arith}
+use Rattle.std.proofs.Common.{◌≡◌, ◌≢◌, ℕ, zero, suc, ◌+◌, ◌<◌, ◌≤◌, Option, Some, None, is_some}
+use Rattle.std.proofs.Common.{IsSome, true, true≢false, option_map, inl, inr, ◌⊎◌, refl, sym, ap}
+use Rattle.std.proofs.Common.{subst, ◌∙◌, arith}
 use Rattle.std.specs.Prelude.{false, IsNone, IfSome, ◌↔◌}
 use Rattle.std.proofs.lemmas.Bool.{eq-eqb, ne_eqb}
 use Rattle.std.proofs.lemmas.Bool.Decides.{eqb_tells, leb_tells}
@@ -7,11 +9,17 @@ use Rattle.triple_arena.specs.Content.{Content, entry_at, IsWellFormed}
 use Rattle.triple_arena.specs.Entries.{generation_at}
 use Rattle.triple_arena.specs.Walk.{Walk, IsAhead, IsFirstLive, past}
 use Rattle.triple_arena_chain.specs.LinkShape.{IndexLink}
-use Rattle.triple_arena_chain.specs.Chains.{Ends, next_in, prev_in, next_at, prev_at, renext, reprev, IsAgreed}
-use Rattle.triple_arena_chain.specs.LinkLaws.{ends-with_prev_of, ends-with_next_of, values-with_prev_of, values-with_next_of, kept-with_prev_of, kept-with_next_of, kept_on, formed-with_prev_of, formed-with_next_of}
-use Rattle.triple_arena_chain.specs.Links.{valued, values_in, entry_ends, ends_in, with_next_of, with_prev_of, IsKept, IsRelinked}
+use Rattle.triple_arena_chain.specs.Chains.{Ends, next_in, prev_in, next_at, prev_at, renext}
+use Rattle.triple_arena_chain.specs.Chains.{reprev, IsAgreed}
+use Rattle.triple_arena_chain.specs.LinkLaws.{ends-with_prev_of, ends-with_next_of}
+use Rattle.triple_arena_chain.specs.LinkLaws.{values-with_prev_of, values-with_next_of}
+use Rattle.triple_arena_chain.specs.LinkLaws.{kept-with_prev_of, kept-with_next_of, kept_on}
+use Rattle.triple_arena_chain.specs.LinkLaws.{formed-with_prev_of, formed-with_next_of}
+use Rattle.triple_arena_chain.specs.Links.{valued, values_in, entry_ends, ends_in, with_next_of}
+use Rattle.triple_arena_chain.specs.Links.{with_prev_of, IsKept, IsRelinked}
 use Rattle.triple_arena_chain.specs.Renaming.{live_below, numbered, prev_of, forwarded}
-use Rattle.triple_arena_chain.proofs.RenamingLemmas.{live_below-live, live_below-below, live_below-flat}
+use Rattle.triple_arena_chain.proofs.RenamingLemmas.{live_below-live, live_below-below}
+use Rattle.triple_arena_chain.proofs.RenamingLemmas.{live_below-flat}
 
 module _ {I T : Type 0} where
   pub some_valued : (o : Option (ℕ × IndexLink I T)) → is_some (option_map valued o) ≡ is_some o
@@ -19,37 +27,44 @@ module _ {I T : Type 0} where
   some_valued (Some e) = refl
 
   -- the same values stand at the same indexes
-  pub live_as : (c d : Content (IndexLink I T)) → ((j : ℕ) → values_in d j ≡ values_in c j) → (j : ℕ) → is_some (entry_at d j) ≡ is_some (entry_at c j)
-  live_as c d same j = sym (some_valued (entry_at d j)) ∙ ap is_some (same j) ∙ some_valued (entry_at c j)
+  pub live_as : (c d : Content (IndexLink I T)) → ((j : ℕ) → values_in d j ≡ values_in c j)
+      → (j : ℕ) → is_some (entry_at d j) ≡ is_some (entry_at c j)
+  live_as c d same j = sym (some_valued (entry_at d j)) ∙ ap is_some (same j)
+      ∙ some_valued (entry_at c j)
 
   pub none_of : (o : Option (ℕ × IndexLink I T)) → (IsSome o → ⊥) → o ≡ None
   none_of None not = refl
   none_of (Some e) not = absurd (not refl)
 
 module _ {I T : Type 0} (number : I → ℕ) where
-  some_ended : (o : Option (ℕ × IndexLink I T)) → is_some (option_map (entry_ends number) o) ≡ is_some o
+  some_ended : (o : Option (ℕ × IndexLink I T))
+      → is_some (option_map (entry_ends number) o) ≡ is_some o
   some_ended None = refl
   some_ended (Some e) = refl
 
-  pub live_ends : (c : Content (IndexLink I T)) (j : ℕ) → is_some (ends_in number c j) ≡ is_some (entry_at c j)
+  pub live_ends : (c : Content (IndexLink I T)) (j : ℕ)
+      → is_some (ends_in number c j) ≡ is_some (entry_at c j)
   live_ends c j = some_ended (entry_at c j)
 
   no_ends : (c : Content (IndexLink I T)) (j : ℕ) → entry_at c j ≡ None → ends_in number c j ≡ None
   no_ends c j none = ap (option_map (entry_ends number)) none
 
   -- below an index the interlinks are these, and from there on as they were
-  pub record IsPassed (wanted : ℕ → Option Ends) (low : ℕ) (old new : Content (IndexLink I T)) : Type 0 where
+  pub record IsPassed (wanted : ℕ → Option Ends) (low : ℕ)
+      (old new : Content (IndexLink I T)) : Type 0 where
     pub passed : (j : ℕ) → j < low → ends_in number new j ≡ wanted j
     pub ahead : (j : ℕ) → low ≤ j → ends_in number new j ≡ ends_in number old j
     pub values : (j : ℕ) → values_in new j ≡ values_in old j
     pub kept : IsKept old new
     pub formed : IsWellFormed new
 
-  module _ (wanted : ℕ → Option Ends) (old : Content (IndexLink I T)) (free : (j : ℕ) → ends_in number old j ≡ None → wanted j ≡ None) where
+  module _ (wanted : ℕ → Option Ends) (old : Content (IndexLink I T))
+      (free : (j : ℕ) → ends_in number old j ≡ None → wanted j ≡ None) where
     pub begun : (low : ℕ) → low ≡ 1 → IsWellFormed old → IsPassed wanted low old old
     begun low is formed =
         record {
-          passed = λ j below. let zeroth : j ≡ 0 = omega (arith, is, below) in rw zeroth (sym (free 0 refl));
+          passed = λ j below. let zeroth : j ≡ 0 = omega (arith, is, below) in
+              rw zeroth (sym (free 0 refl));
           ahead = λ j above. refl;
           values = λ j. refl;
           kept = record { live = refl; slots = refl; free = refl; counter = refl; room = refl };
@@ -57,14 +72,18 @@ module _ {I T : Type 0} (number : I → ℕ) where
         }
 
     -- what is passed is not live from the lowest index to the one that is found
-    none_between : (c : Content (IndexLink I T)) (w : Walk) (i g : ℕ) → w.falls ≡ false → IsFirstLive (entry_at c) w i g → (j : ℕ) → w.low ≤ j → j < i
+    none_between : (c : Content (IndexLink I T)) (w : Walk) (i g : ℕ) → w.falls ≡ false
+        → IsFirstLive (entry_at c) w i g → (j : ℕ) → w.low ≤ j → j < i
         → entry_at c j ≡ None
     none_between c w i g rises first j above below =
         first.first j (above, omega (arith, below, first.ahead.1)) (rw rises below)
 
-    pub passed_one : (c new : Content (IndexLink I T)) (w : Walk) (i g : ℕ) → IsPassed wanted w.low old c → w.falls ≡ false → IsFirstLive (entry_at c) w i g
-        → ends_in number new i ≡ wanted i → ((j : ℕ) → j ≢ i → ends_in number new j ≡ ends_in number c j)
-        → ((j : ℕ) → values_in new j ≡ values_in c j) → IsKept c new → IsWellFormed new → IsPassed wanted (i + 1) old new
+    pub passed_one : (c new : Content (IndexLink I T)) (w : Walk) (i g : ℕ)
+        → IsPassed wanted w.low old c → w.falls ≡ false → IsFirstLive (entry_at c) w i g
+        → ends_in number new i ≡ wanted i
+        → ((j : ℕ) → j ≢ i → ends_in number new j ≡ ends_in number c j)
+        → ((j : ℕ) → values_in new j ≡ values_in c j) → IsKept c new → IsWellFormed new
+        → IsPassed wanted (i + 1) old new
     passed_one c new w i g p rises first here others values kept formed =
         record {
           passed = λ j below.
@@ -74,28 +93,38 @@ module _ {I T : Type 0} (number : I → ℕ) where
                     others j other.1
                     ∙ elim (leb_tells w.low j) [
                       | inl above ↦
-                          let none = no_ends c j (none_between c w i g rises first j above.1 (between j below other.1)) in
+                          let none = no_ends c j
+                          (none_between c w i g rises first j above.1 (between j below other.1))
+                          in
                           none ∙ sym (free j (sym (p.ahead j above.1) ∙ none))
                       | inr under ↦ p.passed j under.1
                     ]
               ];
-          ahead = λ j above. others j (λ same. omega (arith, above, same)) ∙ p.ahead j (omega (arith, above, first.ahead.0));
+          ahead = λ j above. others j (λ same. omega (arith, above, same))
+              ∙ p.ahead j (omega (arith, above, first.ahead.0));
           values = λ j. values j ∙ p.values j;
           kept = kept_on old c new p.kept kept;
           formed = formed;
         }
       where
         between : (j : ℕ) → j < i + 1 → j ≢ i → j < i
-        between j below other = elim (leb_tells i j) [ inl reach ↦ absurd (other (omega (arith, below, reach.1))) | inr under ↦ under.1 ]
+        between j below other =
+            elim (leb_tells i j) [
+              | inl reach ↦
+                  absurd (other (omega (arith, below, reach.1)))
+              | inr under ↦ under.1
+            ]
 
-    pub passed_all : (c : Content (IndexLink I T)) (w : Walk) → IsPassed wanted w.low old c → ((j : ℕ) → IsSome (entry_at c j) → j ≤ w.high)
+    pub passed_all : (c : Content (IndexLink I T)) (w : Walk) → IsPassed wanted w.low old c
+        → ((j : ℕ) → IsSome (entry_at c j) → j ≤ w.high)
         → ((j : ℕ) → IsAhead w j → entry_at c j ≡ None) → IsRelinked number wanted old c
     passed_all c w p reaches over =
         record {
           ends = λ k.
               elim (leb_tells w.low k) [
                 | inl above ↦
-                    let none = no_ends c k (left k above.1) in none ∙ sym (free k (sym (p.ahead k above.1) ∙ none))
+                    let none = no_ends c k (left k above.1) in none
+                    ∙ sym (free k (sym (p.ahead k above.1) ∙ none))
                 | inr under ↦ p.passed k under.1
               ];
           values = p.values;
@@ -103,35 +132,47 @@ module _ {I T : Type 0} (number : I → ℕ) where
         }
       where
         left : (k : ℕ) → w.low ≤ k → entry_at c k ≡ None
-        left k above = none_of (entry_at c k) (λ some. true≢false (sym some ∙ ap is_some (over k (above, reaches k some))))
+        left k above = none_of (entry_at c k)
+            (λ some. true≢false (sym some ∙ ap is_some (over k (above, reaches k some))))
 
-  pub prev_written : (c new : Content (IndexLink I T)) (i : I) (o : Option I) (k : ℕ) → number i ≡ k → new ≡ with_prev_of number c (Some i) o
+  pub prev_written : (c new : Content (IndexLink I T)) (i : I) (o : Option I) (k : ℕ) → number i ≡ k
+      → new ≡ with_prev_of number c (Some i) o
       → ends_in number new k ≡ reprev (option_map number o) (ends_in number c k)
   prev_written c new i o k is made =
-      ap (λ d. ends_in number d k) made ∙ ends-with_prev_of number c (Some i) o k ∙ rw (eq-eqb k (number i) (sym is)) refl
+      ap (λ d. ends_in number d k) made ∙ ends-with_prev_of number c (Some i) o k
+      ∙ rw (eq-eqb k (number i) (sym is)) refl
 
-  pub prev_unwritten : (c new : Content (IndexLink I T)) (i : I) (o : Option I) (k : ℕ) → number i ≡ k → new ≡ with_prev_of number c (Some i) o
+  pub prev_unwritten : (c new : Content (IndexLink I T)) (i : I) (o : Option I) (k : ℕ)
+      → number i ≡ k → new ≡ with_prev_of number c (Some i) o
       → (j : ℕ) → j ≢ k → ends_in number new j ≡ ends_in number c j
   prev_unwritten c new i o k is made j other =
-      ap (λ d. ends_in number d j) made ∙ ends-with_prev_of number c (Some i) o j ∙ rw (ne_eqb j (number i) (λ same. other (same ∙ is))) refl
+      ap (λ d. ends_in number d j) made ∙ ends-with_prev_of number c (Some i) o j
+      ∙ rw (ne_eqb j (number i) (λ same. other (same ∙ is))) refl
 
-  pub next_written : (c new : Content (IndexLink I T)) (i : I) (o : Option I) (k : ℕ) → number i ≡ k → new ≡ with_next_of number c (Some i) o
+  pub next_written : (c new : Content (IndexLink I T)) (i : I) (o : Option I) (k : ℕ) → number i ≡ k
+      → new ≡ with_next_of number c (Some i) o
       → ends_in number new k ≡ renext (option_map number o) (ends_in number c k)
   next_written c new i o k is made =
-      ap (λ d. ends_in number d k) made ∙ ends-with_next_of number c (Some i) o k ∙ rw (eq-eqb k (number i) (sym is)) refl
+      ap (λ d. ends_in number d k) made ∙ ends-with_next_of number c (Some i) o k
+      ∙ rw (eq-eqb k (number i) (sym is)) refl
 
-  pub next_unwritten : (c new : Content (IndexLink I T)) (i : I) (o : Option I) (k : ℕ) → number i ≡ k → new ≡ with_next_of number c (Some i) o
+  pub next_unwritten : (c new : Content (IndexLink I T)) (i : I) (o : Option I) (k : ℕ)
+      → number i ≡ k → new ≡ with_next_of number c (Some i) o
       → (j : ℕ) → j ≢ k → ends_in number new j ≡ ends_in number c j
   next_unwritten c new i o k is made j other =
-      ap (λ d. ends_in number d j) made ∙ ends-with_next_of number c (Some i) o j ∙ rw (ne_eqb j (number i) (λ same. other (same ∙ is))) refl
+      ap (λ d. ends_in number d j) made ∙ ends-with_next_of number c (Some i) o j
+      ∙ rw (ne_eqb j (number i) (λ same. other (same ∙ is))) refl
 
 -- the number after a count, where it is an index of the type
-made_index : {I : Type 0} (number : I → ℕ) (o : Option I) (greatest n count : ℕ) → (IsNone o ↔ (greatest < n)) → IfSome o (λ x. number x ≡ n) → n ≡ count + 1
+made_index : {I : Type 0} (number : I → ℕ) (o : Option I) (greatest n count : ℕ)
+    → (IsNone o ↔ (greatest < n)) → IfSome o (λ x. number x ≡ n) → n ≡ count + 1
     → count + 1 ≤ greatest → option_map number o ≡ Some (count + 1)
-made_index number None greatest n count past same is within = absurd (let beyond = past.0 refl in omega (arith, beyond, is, within))
+made_index number None greatest n count past same is within =
+    absurd (let beyond = past.0 refl in omega (arith, beyond, is, within))
 made_index number (Some x) greatest n count past same is within = ap Some (same ∙ is)
 
-renumbered : (o : Option Ends) (n : ℕ) → reprev (Some n) o ≡ option_map (λ (v : Ends). (let w : Ends = (Some n, v.1) in w)) o
+renumbered : (o : Option Ends) (n : ℕ)
+    → reprev (Some n) o ≡ option_map (λ (v : Ends). (let w : Ends = (Some n, v.1) in w)) o
 renumbered None n = refl
 renumbered (Some v) n = refl
 
@@ -148,14 +189,16 @@ module _ {I T : Type 0} (number : I → ℕ) (old : Content (IndexLink I T)) whe
     pub rank_is : count ≡ live_below before i
     pub after : count + 1 ≡ live_below before (i + 1)
 
-  pub counted : (c : Content (IndexLink I T)) (w : Walk) (i g count : ℕ) → IsPassed number (numbered before) w.low old c → w.falls ≡ false
+  pub counted : (c : Content (IndexLink I T)) (w : Walk) (i g count : ℕ)
+      → IsPassed number (numbered before) w.low old c → w.falls ≡ false
       → IsFirstLive (entry_at c) w i g → count ≡ live_below before w.low → IsCounted c w i count
   counted c w i g count p rises first is = by_index i refl
     where
       some_live : IsSome (entry_at c i)
       some_live = by_entry (entry_at c i) first.live
         where
-          by_entry : (o : Option (ℕ × IndexLink I T)) → option_map (λ (e : ℕ × IndexLink I T). e.0) o ≡ Some g → IsSome o
+          by_entry : (o : Option (ℕ × IndexLink I T))
+              → option_map (λ (e : ℕ × IndexLink I T). e.0) o ≡ Some g → IsSome o
           by_entry None gone = absurd (cc)
           by_entry (Some e) is = refl
 
@@ -164,14 +207,19 @@ module _ {I T : Type 0} (number : I → ℕ) (old : Content (IndexLink I T)) whe
 
       flat : live_below before i ≡ live_below before w.low
       flat = live_below-flat before w.low i first.ahead.0
-          (λ j above under. sym (p.ahead j above) ∙ no_ends number c j (first.first j (above, omega (arith, under, first.ahead.1)) (rw rises under)))
+          (λ j above under. sym (p.ahead j above)
+          ∙ no_ends number c j (first.first j (above, omega (arith, under, first.ahead.1))
+          (rw rises under)))
 
       by_index : (k : ℕ) → i ≡ k → IsCounted c w i count
-      by_index zero none = absurd (let no : is_some (before 0) ≡ true = subst (λ n. IsSome (before n)) none live in true≢false (sym no))
+      by_index zero none = absurd
+          (let no : is_some (before 0) ≡ true = subst (λ n. IsSome (before n)) none live in
+          true≢false (sym no))
       by_index (suc k) here =
           let under = live_below-below before refl k in
           let up = live_below-live before i live in
-          let same : live_below before i ≡ live_below before (suc k) = ap (live_below before) here in
+          let same : live_below before i ≡ live_below before (suc k) =
+          ap (live_below before) here in
           let next : i + 1 ≡ suc i = omega arith in
           record {
             below = omega (arith, under, flat, is, same, here);
@@ -180,41 +228,41 @@ module _ {I T : Type 0} (number : I → ℕ) (old : Content (IndexLink I T)) whe
           }
 
   -- the first live index ahead has its number
-  pub numbered_one : (c new : Content (IndexLink I T)) (w : Walk) (i g count greatest n : ℕ) (x : I) (o : Option I)
-      → IsPassed number (numbered before) w.low old c → w.falls ≡ false → IsFirstLive (entry_at c) w i g → IsCounted c w i count → number x ≡ i
-      → new ≡ with_prev_of number c (Some x) o → (IsNone o ↔ (greatest < n)) → IfSome o (λ y. number y ≡ n) → n ≡ count + 1 → i ≤ greatest
+  pub numbered_one : (c new : Content (IndexLink I T)) (w : Walk) (i g count greatest n : ℕ) (x : I)
+      (o : Option I)
+      → IsPassed number (numbered before) w.low old c → w.falls ≡ false
+      → IsFirstLive (entry_at c) w i g → IsCounted c w i count → number x ≡ i
+      → new ≡ with_prev_of number c (Some x) o → (IsNone o ↔ (greatest < n))
+      → IfSome o (λ y. number y ≡ n) → n ≡ count + 1 → i ≤ greatest
       → IsPassed number (numbered before) (i + 1) old new
   numbered_one c new w i g count greatest n x o p rises first count_is at made past same is within =
       let below = count_is.below in
-      let index = made_index number o greatest n count past same is (omega (arith, below, within)) in
+      let index = made_index number o greatest n count past same is (omega (arith, below, within))
+      in
       passed_one number (numbered before) old free_numbered c new w i g p rises first
-      (prev_written number c new x o i at made ∙ ap (λ m. reprev m (ends_in number c i)) index ∙ renumbered (ends_in number c i) (count + 1)
-      ∙ ap (λ e. option_map (λ (v : Ends). (let r : Ends = (Some (count + 1), v.1) in r)) e) (p.ahead i first.ahead.0)
-      ∙ ap (λ m. option_map (λ (v : Ends). (let r : Ends = (Some (m + 1), v.1) in r)) (before i)) count_is.rank_is)
+      (prev_written number c new x o i at made ∙ ap (λ m. reprev m (ends_in number c i)) index
+      ∙ renumbered (ends_in number c i) (count + 1)
+      ∙ ap (λ e. option_map (λ (v : Ends). (let r : Ends = (Some (count + 1), v.1) in r)) e)
+      (p.ahead i first.ahead.0)
+      ∙ ap (λ m. option_map (λ (v : Ends). (let r : Ends = (Some (m + 1), v.1) in r)) (before i))
+      count_is.rank_is)
       (prev_unwritten number c new x o i at made)
       (λ j. ap (λ d. values_in d j) made ∙ values-with_prev_of number c (Some x) o j)
       (subst (IsKept c) (sym made) (kept-with_prev_of number c (Some x) o))
       (subst IsWellFormed (sym made) (formed-with_prev_of number c (Some x) o p.formed))
 
 -- what was found is live
-pub found_live : {X : Type 0} (entries : ℕ → Option (ℕ × X)) (i g : ℕ) → generation_at entries i ≡ Some g → IsSome (entries i)
+pub found_live : {X : Type 0} (entries : ℕ → Option (ℕ × X)) (i g : ℕ)
+    → generation_at entries i ≡ Some g → IsSome (entries i)
 found_live {X} entries i g live = by_entry (entries i) live
   where
     by_entry : (o : Option (ℕ × X)) → option_map (λ (e : ℕ × X). e.0) o ≡ Some g → IsSome o
     by_entry None gone = absurd (cc)
     by_entry (Some e) is = refl
 
--- a rising walk that has passed an index
-pub record HasPassed (w after : Walk) (i : ℕ) : Type 0 where
-  pub rises : after.falls ≡ false
-  pub low : after.low ≡ i + 1
-  pub high : after.high ≡ w.high
-
-pub passed_by : (w after : Walk) (i : ℕ) → w.falls ≡ false → after ≡ past w i → HasPassed w after i
-passed_by w after i rises is = record { rises = rw (is, rises) refl; low = rw (is, rises) refl; high = rw (is, rises) refl }
-
 module _ {I T : Type 0} (number : I → ℕ) where
-  pub unchanged : (c new : Content (IndexLink I T)) (at o : Option I) → new ≡ with_prev_of number c at o → (j : ℕ) → values_in new j ≡ values_in c j
+  pub unchanged : (c new : Content (IndexLink I T)) (at o : Option I)
+      → new ≡ with_prev_of number c at o → (j : ℕ) → values_in new j ≡ values_in c j
   unchanged c new at o made j = ap (λ d. values_in d j) made ∙ values-with_prev_of number c at o j
 
 module _ {I T : Type 0} (number : I → ℕ) (old : Content (IndexLink I T)) where
@@ -224,12 +272,15 @@ module _ {I T : Type 0} (number : I → ℕ) (old : Content (IndexLink I T)) whe
   pub free_forwarded : (j : ℕ) → held j ≡ None → forwarded held j ≡ None
   free_forwarded j none = rw none refl
 
-  same_prev : (o : Option Ends) → prev_in (option_map (λ (v : Ends). (let w : Ends = (v.0, prev_of held v.1) in w)) o) ≡ prev_in o
+  same_prev : (o : Option Ends)
+      → prev_in (option_map (λ (v : Ends). (let w : Ends = (v.0, prev_of held v.1) in w)) o)
+      ≡ prev_in o
   same_prev None = refl
   same_prev (Some v) = refl
 
   -- the previous indexes stay
-  prevs_stay : (c : Content (IndexLink I T)) (low : ℕ) → IsPassed number (forwarded held) low old c → (j : ℕ)
+  prevs_stay : (c : Content (IndexLink I T)) (low : ℕ) → IsPassed number (forwarded held) low old c
+      → (j : ℕ)
       → prev_at (ends_in number c) j ≡ prev_at held j
   prevs_stay c low p j =
       elim (leb_tells low j) [
@@ -237,27 +288,33 @@ module _ {I T : Type 0} (number : I → ℕ) (old : Content (IndexLink I T)) whe
         | inr under ↦ ap prev_in (p.passed j under.1) ∙ same_prev (held j)
       ]
 
-  prev_of_stays : (c : Content (IndexLink I T)) (low : ℕ) → IsPassed number (forwarded held) low old c → (o : Option ℕ)
+  prev_of_stays : (c : Content (IndexLink I T)) (low : ℕ)
+      → IsPassed number (forwarded held) low old c → (o : Option ℕ)
       → prev_of (ends_in number c) o ≡ prev_of held o
   prev_of_stays c low p None = refl
   prev_of_stays c low p (Some j) = prevs_stay c low p j
 
   -- what a link ahead names is live
-  pub passed_next : (c : Content (IndexLink I T)) (low : ℕ) → IsPassed number (forwarded held) low old c
-      → ((p q : ℕ) → next_at held p ≡ Some q → IsSome (held q)) → (i : ℕ) → low ≤ i → (q : ℕ) → next_at (ends_in number c) i ≡ Some q
+  pub passed_next : (c : Content (IndexLink I T)) (low : ℕ)
+      → IsPassed number (forwarded held) low old c
+      → ((p q : ℕ) → next_at held p ≡ Some q → IsSome (held q)) → (i : ℕ) → low ≤ i → (q : ℕ)
+      → next_at (ends_in number c) i ≡ Some q
       → IsSome (entry_at c q)
   passed_next c low p live i above q goes =
-      live_as old c p.values q ∙ sym (live_ends number old q) ∙ live i q (sym (ap next_in (p.ahead i above)) ∙ goes)
+      live_as old c p.values q ∙ sym (live_ends number old q)
+      ∙ live i q (sym (ap next_in (p.ahead i above)) ∙ goes)
 
   -- the first live index ahead has its next under the new index
   pub forwarded_one : (c new : Content (IndexLink I T)) (w : Walk) (i g : ℕ) (x : I) (o : Option I)
-      → IsPassed number (forwarded held) w.low old c → w.falls ≡ false → IsFirstLive (entry_at c) w i g → number x ≡ i
+      → IsPassed number (forwarded held) w.low old c → w.falls ≡ false
+      → IsFirstLive (entry_at c) w i g → number x ≡ i
       → option_map number o ≡ prev_of (ends_in number c) (next_at (ends_in number c) i)
       → new ≡ with_next_of number c (Some x) o → IsPassed number (forwarded held) (i + 1) old new
   forwarded_one c new w i g x o p rises first at gives made =
       passed_one number (forwarded held) old free_forwarded c new w i g p rises first
       (next_written number c new x o i at made
-      ∙ ap (λ m. renext m (ends_in number c i)) (gives ∙ prev_of_stays c w.low p (next_at (ends_in number c) i))
+      ∙ ap (λ m. renext m (ends_in number c i))
+      (gives ∙ prev_of_stays c w.low p (next_at (ends_in number c) i))
       ∙ ap (λ e. renext (prev_of held (next_in e)) e) (p.ahead i first.ahead.0)
       ∙ by_ends (held i))
       (next_unwritten number c new x o i at made)
@@ -265,24 +322,32 @@ module _ {I T : Type 0} (number : I → ℕ) (old : Content (IndexLink I T)) whe
       (subst (IsKept c) (sym made) (kept-with_next_of number c (Some x) o))
       (subst IsWellFormed (sym made) (formed-with_next_of number c (Some x) o p.formed))
     where
-      by_ends : (e : Option Ends) → renext (prev_of held (next_in e)) e ≡ option_map (λ (v : Ends). (let w : Ends = (v.0, prev_of held v.1) in w)) e
+      by_ends : (e : Option Ends)
+          → renext (prev_of held (next_in e)) e
+          ≡ option_map (λ (v : Ends). (let w : Ends = (v.0, prev_of held v.1) in w)) e
       by_ends None = refl
       by_ends (Some v) = refl
 
-  -- no previous index but of a link that is passed, of which each that has a next is its previous one
+  -- no previous index but of a link that is passed, of which each that has a next is its previous
+  -- one
   pub record IsJoined (low : ℕ) (c : Content (IndexLink I T)) : Type 0 where
     pub nexts : (j : ℕ) → next_at (ends_in number c) j ≡ next_at held j
-    pub joined : (p q : ℕ) → p < low → next_at held p ≡ Some q → prev_at (ends_in number c) q ≡ Some p
-    pub only : (p q : ℕ) → prev_at (ends_in number c) q ≡ Some p → (p < low) × (next_at held p ≡ Some q)
+    pub joined : (p q : ℕ) → p < low → next_at held p ≡ Some q
+        → prev_at (ends_in number c) q ≡ Some p
+    pub only : (p q : ℕ) → prev_at (ends_in number c) q ≡ Some p
+        → (p < low) × (next_at held p ≡ Some q)
     pub values : (j : ℕ) → values_in c j ≡ values_in old j
     pub kept : IsKept old c
     pub formed : IsWellFormed c
 
-  pub joined_none : (low : ℕ) → low ≡ 1 → ((k : ℕ) → prev_at held k ≡ None) → IsWellFormed old → IsJoined low old
+  pub joined_none : (low : ℕ) → low ≡ 1 → ((k : ℕ) → prev_at held k ≡ None) → IsWellFormed old
+      → IsJoined low old
   joined_none low is alone formed =
       record {
         nexts = λ j. refl;
-        joined = λ p q below goes. absurd (let zeroth : p ≡ 0 = omega (arith, is, below) in let gone : None ≡ Some q = ap (next_at held) (sym zeroth) ∙ goes in cc);
+        joined = λ p q below goes. absurd
+            (let zeroth : p ≡ 0 = omega (arith, is, below) in let gone : None ≡ Some q =
+            ap (next_at held) (sym zeroth) ∙ goes in cc);
         only = λ p q comes. absurd (let gone : None ≡ Some p = sym (alone q) ∙ comes in cc);
         values = λ j. refl;
         kept = record { live = refl; slots = refl; free = refl; counter = refl; room = refl };
@@ -301,19 +366,25 @@ module _ {I T : Type 0} (number : I → ℕ) (old : Content (IndexLink I T)) whe
   prev_reprev m (Some v) some = refl
 
 module _ {I T : Type 0} (number : I → ℕ) where
-  pub next_unchanged : (c new : Content (IndexLink I T)) (at o : Option I) → new ≡ with_next_of number c at o → (j : ℕ) → values_in new j ≡ values_in c j
-  next_unchanged c new at o made j = ap (λ d. values_in d j) made ∙ values-with_next_of number c at o j
+  pub next_unchanged : (c new : Content (IndexLink I T)) (at o : Option I)
+      → new ≡ with_next_of number c at o → (j : ℕ) → values_in new j ≡ values_in c j
+  next_unchanged c new at o made j = ap (λ d. values_in d j) made
+      ∙ values-with_next_of number c at o j
 
 module _ {I T : Type 0} (number : I → ℕ) (old : Content (IndexLink I T)) where
   -- a next that is there is live
-  pub next_live : (low : ℕ) (c : Content (IndexLink I T)) (o : Option I) (i : ℕ) → IsJoined number old low c
-      → ((p q : ℕ) → next_at (held number old) p ≡ Some q → IsSome (held number old q)) → option_map number o ≡ next_at (ends_in number c) i
+  pub next_live : (low : ℕ) (c : Content (IndexLink I T)) (o : Option I) (i : ℕ)
+      → IsJoined number old low c
+      → ((p q : ℕ) → next_at (held number old) p ≡ Some q → IsSome (held number old q))
+      → option_map number o ≡ next_at (ends_in number c) i
       → IfSome o (λ y. IsSome (entry_at c (number y)))
   next_live low c None i j live goes = tt
   next_live low c (Some y) i j live goes =
-      live_as old c j.values (number y) ∙ sym (live_ends number old (number y)) ∙ live i (number y) (sym (j.nexts i) ∙ sym goes)
+      live_as old c j.values (number y) ∙ sym (live_ends number old (number y))
+      ∙ live i (number y) (sym (j.nexts i) ∙ sym goes)
 
-  module _ (apart : AreNextsApart number old) (c new : Content (IndexLink I T)) (w : Walk) (i g : ℕ) (x : I) (j : IsJoined number old w.low c)
+  module _ (apart : AreNextsApart number old) (c new : Content (IndexLink I T)) (w : Walk) (i g : ℕ)
+      (x : I) (j : IsJoined number old w.low c)
       (rises : w.falls ≡ false) (first : IsFirstLive (entry_at c) w i g) (at : number x ≡ i) where
     -- a link up to this one that has a next is passed, or is this one
     up_to : (p q : ℕ) → p < i + 1 → next_at (held number old) p ≡ Some q → (p < w.low) ⊎ (p ≡ i)
@@ -324,8 +395,14 @@ module _ {I T : Type 0} (number : I → ℕ) (old : Content (IndexLink I T)) whe
                 | inl same ↦ inr same.1
                 | inr other ↦
                     absurd (
-                    let under : p < i = elim (leb_tells i p) [ inl reach ↦ absurd (other.1 (omega (arith, below, reach.1))) | inr less ↦ less.1 ] in
-                    let none = no_ends number c p (first.first p (above.1, omega (arith, under, first.ahead.1)) (rw rises under)) in
+                    let under : p < i = elim (leb_tells i p) [
+                      | inl reach ↦ absurd (other.1 (omega (arith, below, reach.1)))
+                      | inr less ↦
+                          less.1
+                    ] in
+                    let none = no_ends number c p
+                    (first.first p (above.1, omega (arith, under, first.ahead.1))
+                    (rw rises under)) in
                     let gone : None ≡ Some q = sym (ap next_in none) ∙ j.nexts p ∙ goes in
                     cc
                     )
@@ -340,7 +417,8 @@ module _ {I T : Type 0} (number : I → ℕ) (old : Content (IndexLink I T)) whe
           joined = λ p q below goes.
               elim (up_to p q below goes) [
                 | inl under ↦ j.joined p q under goes
-                | inr same ↦ absurd (let gone : None ≡ Some q = sym ends ∙ j.nexts i ∙ ap (next_at (held number old)) (sym same) ∙ goes in cc)
+                | inr same ↦ absurd (let gone : None ≡ Some q = sym ends ∙ j.nexts i
+                    ∙ ap (next_at (held number old)) (sym same) ∙ goes in cc)
               ];
           only = λ p q comes. let o = j.only p q comes in (omega (arith, o.0, first.ahead.0), o.1);
           values = j.values;
@@ -348,20 +426,24 @@ module _ {I T : Type 0} (number : I → ℕ) (old : Content (IndexLink I T)) whe
           formed = j.formed;
         }
 
-    here_some : (y : I) → next_at (ends_in number c) i ≡ Some (number y) → IsSome (entry_at c (number y)) → new ≡ with_prev_of number c (Some y) (Some x)
+    here_some : (y : I) → next_at (ends_in number c) i ≡ Some (number y)
+        → IsSome (entry_at c (number y)) → new ≡ with_prev_of number c (Some y) (Some x)
         → IsJoined number old (i + 1) new
     here_some y goes some made =
         record {
           nexts = λ k.
               elim (eqb_tells k (number y)) [
-                | inl same ↦ subst (λ n. next_at (ends_in number new) n ≡ next_at (ends_in number c) n) (sym same.1)
-                    (ap next_in written ∙ next_reprev number old (Some (number x)) (ends_in number c (number y)))
+                | inl same ↦ subst (λ n. next_at (ends_in number new) n
+                    ≡ next_at (ends_in number c) n) (sym same.1)
+                    (ap next_in written ∙ next_reprev number old (Some (number x))
+                    (ends_in number c (number y)))
                 | inr other ↦ ap next_in (unwritten k other.1)
               ] ∙ j.nexts k;
           joined = λ p q below out.
               elim (eqb_tells q (number y)) [
                 | inl same ↦
-                    let is : p ≡ i = apart p i (number y) (out ∙ ap Some same.1) (sym (j.nexts i) ∙ goes) in
+                    let is : p ≡ i = apart p i (number y) (out ∙ ap Some same.1)
+                    (sym (j.nexts i) ∙ goes) in
                     ap (prev_at (ends_in number new)) same.1 ∙ prev_here ∙ ap Some (sym is)
                 | inr other ↦
                     ap prev_in (unwritten q other.1)
@@ -369,7 +451,8 @@ module _ {I T : Type 0} (number : I → ℕ) (old : Content (IndexLink I T)) whe
                       | inl under ↦ j.joined p q under out
                       | inr is ↦
                           absurd (other.1 (
-                          let both : Some q ≡ Some (number y) = sym out ∙ ap (next_at (held number old)) is ∙ sym (j.nexts i) ∙ goes in
+                          let both : Some q ≡ Some (number y) = sym out
+                          ∙ ap (next_at (held number old)) is ∙ sym (j.nexts i) ∙ goes in
                           let same : q ≡ number y = cc in
                           same
                           ))
@@ -378,17 +461,25 @@ module _ {I T : Type 0} (number : I → ℕ) (old : Content (IndexLink I T)) whe
           only = λ p q comes.
               elim (eqb_tells q (number y)) [
                 | inl same ↦
-                    let back : Some i ≡ Some p = sym prev_here ∙ ap (prev_at (ends_in number new)) (sym same.1) ∙ comes in
-                    let is : i ≡ p = cc in
-                    (omega (arith, is), ap (next_at (held number old)) (sym is) ∙ sym (j.nexts i) ∙ goes ∙ ap Some (sym same.1))
-                | inr other ↦ let o = j.only p q (sym (ap prev_in (unwritten q other.1)) ∙ comes) in (omega (arith, o.0, first.ahead.0), o.1)
+                    let back : Some i ≡ Some p = sym prev_here
+                    ∙ ap (prev_at (ends_in number new)) (sym same.1) ∙ comes in
+                    let is : i ≡ p = cc in (
+                      omega (arith, is),
+                      ap (next_at (held number old)) (sym is) ∙ sym (j.nexts i)
+                          ∙ goes ∙ ap Some (sym same.1),
+                    )
+                | inr other ↦ let o = j.only p q (sym (ap prev_in (unwritten q other.1)) ∙ comes) in
+                    (omega (arith, o.0, first.ahead.0), o.1)
               ];
           values = λ k. unchanged number c new (Some y) (Some x) made k ∙ j.values k;
-          kept = kept_on old c new j.kept (subst (IsKept c) (sym made) (kept-with_prev_of number c (Some y) (Some x)));
-          formed = subst IsWellFormed (sym made) (formed-with_prev_of number c (Some y) (Some x) j.formed);
+          kept = kept_on old c new j.kept
+              (subst (IsKept c) (sym made) (kept-with_prev_of number c (Some y) (Some x)));
+          formed = subst IsWellFormed (sym made)
+              (formed-with_prev_of number c (Some y) (Some x) j.formed);
         }
       where
-        written : ends_in number new (number y) ≡ reprev (Some (number x)) (ends_in number c (number y))
+        written : ends_in number new (number y)
+            ≡ reprev (Some (number x)) (ends_in number c (number y))
         written = prev_written number c new y (Some x) (number y) refl made
 
         unwritten : (k : ℕ) → k ≢ number y → ends_in number new k ≡ ends_in number c k
@@ -396,25 +487,34 @@ module _ {I T : Type 0} (number : I → ℕ) (old : Content (IndexLink I T)) whe
 
         prev_here : prev_at (ends_in number new) (number y) ≡ Some i
         prev_here =
-            ap prev_in written ∙ prev_reprev number old (Some (number x)) (ends_in number c (number y)) (live_ends number c (number y) ∙ some) ∙ ap Some at
+            ap prev_in written ∙ prev_reprev number old (Some (number x))
+            (ends_in number c (number y)) (live_ends number c (number y) ∙ some) ∙ ap Some at
 
     -- the next of the first live index ahead has it as its previous one
-    pub joined_one : (next : Option I) → option_map number next ≡ next_at (ends_in number c) i → IfSome next (λ y. IsSome (entry_at c (number y)))
+    pub joined_one : (next : Option I) → option_map number next ≡ next_at (ends_in number c) i
+        → IfSome next (λ y. IsSome (entry_at c (number y)))
         → new ≡ with_prev_of number c next (Some x) → IsJoined number old (i + 1) new
-    joined_one None goes some made = subst (IsJoined number old (i + 1)) (sym made) (here_none (sym goes))
+    joined_one None goes some made =
+        subst (IsJoined number old (i + 1)) (sym made) (here_none (sym goes))
     joined_one (Some y) goes some made = here_some y (sym goes) some made
 
   -- all are joined
-  pub joined_all : (c : Content (IndexLink I T)) (w : Walk) → IsJoined number old w.low c → ((j : ℕ) → IsSome (entry_at c j) → j ≤ w.high)
+  pub joined_all : (c : Content (IndexLink I T)) (w : Walk) → IsJoined number old w.low c
+      → ((j : ℕ) → IsSome (entry_at c j) → j ≤ w.high)
       → ((j : ℕ) → IsAhead w j → entry_at c j ≡ None) → IsAgreed (ends_in number c)
-  joined_all c w j reaches over = record { forward = forward; backward = λ p q comes. j.nexts p ∙ (j.only p q comes).1 }
+  joined_all c w j reaches over =
+      record { forward = forward; backward = λ p q comes. j.nexts p ∙ (j.only p q comes).1 }
     where
-      forward : (p q : ℕ) → next_at (ends_in number c) p ≡ Some q → prev_at (ends_in number c) q ≡ Some p
+      forward : (p q : ℕ) → next_at (ends_in number c) p ≡ Some q
+          → prev_at (ends_in number c) q ≡ Some p
       forward p q goes =
           elim (leb_tells w.low p) [
             | inl above ↦
                 absurd (
-                let none = no_ends number c p (none_of (entry_at c p) (λ some. true≢false (sym some ∙ ap is_some (over p (above.1, reaches p some))))) in
+                let none = no_ends number c p
+                (none_of (entry_at c p)
+                (λ some. true≢false (sym some ∙ ap is_some (over p (above.1, reaches p some)))))
+                in
                 let gone : None ≡ Some q = sym (ap next_in none) ∙ goes in
                 cc
                 )

@@ -1,21 +1,28 @@
 -- A link that is taken out of its chain.
-use Rattle.std.proofs.Common.{◌≡◌, ◌==◌, if◌then◌else◌, ℕ, ◌-◌, ◌∷◌, length, Option, Some, None, IsSome}
-use Rattle.std.proofs.Common.{IfSome, IfNone, OnSome, is_some, option_map, refl, sym, ap, ◌∙◌, inl, inr}
+use Rattle.std.proofs.Common.{◌≡◌, ◌==◌, if◌then◌else◌, ℕ, ◌-◌, ◌∷◌, length, Option, Some, None}
+use Rattle.std.proofs.Common.{IsSome}
+use Rattle.std.proofs.Common.{IfSome, IfNone, OnSome, is_some, option_map, refl, sym, ap, ◌∙◌, inl}
+use Rattle.std.proofs.Common.{inr}
 use Rattle.std.proofs.lemmas.Bool.{eq-eqb}
 use Rattle.std.proofs.lemmas.Bool.Decides.{eqb_tells}
 use Rattle.triple_arena_ptr.specs.Generation.{next_generation}
 use Rattle.triple_arena.specs.Entries.{value_if}
 use Rattle.triple_arena.specs.Content.{Content, entry_at, removed}
 use Rattle.triple_arena.specs.ContentLaws.{entry_seen}
-use Rattle.triple_arena.specs.RemovalLaws.{entry-removed, live-removed, counter-removed, free-removed, slots-removed, room-removed, formed-removed}
+use Rattle.triple_arena.specs.RemovalLaws.{entry-removed, live-removed, counter-removed}
+use Rattle.triple_arena.specs.RemovalLaws.{free-removed, slots-removed, room-removed}
+use Rattle.triple_arena.specs.RemovalLaws.{formed-removed}
 use Rattle.triple_arena_chain.specs.LinkShape.{IndexLink}
 use Rattle.triple_arena_chain.specs.Chains.{dropped, bridged, taken_from, next_in, prev_in}
 use Rattle.triple_arena_chain.specs.declared.place.Place.TheVariants.{Between}
-use Rattle.triple_arena_chain.specs.Links.{valued, entry_ends, ends_in, with_next_of, with_prev_of, bridged_over, link_removed, link_removed_of, AreNeighborsLive, IsChained, IsTakenOut}
+use Rattle.triple_arena_chain.specs.Links.{valued, entry_ends, ends_in, with_next_of, with_prev_of}
+use Rattle.triple_arena_chain.specs.Links.{bridged_over, link_removed, link_removed_of}
+use Rattle.triple_arena_chain.specs.Links.{AreNeighborsLive, IsChained, IsTakenOut}
 use Rattle.triple_arena_chain.specs.LinkLaws.{entry-with_link}
 use Rattle.triple_arena_chain.specs.TakenLaws.{is_taken}
 use Rattle.triple_arena_chain.specs.ChainLaws.{IsAgreed-same}
-use Rattle.triple_arena_chain.proofs.ConnectionLemmas.{both_written, both_formed, live_next, live_prev}
+use Rattle.triple_arena_chain.proofs.ConnectionLemmas.{both_written, both_formed, live_next}
+use Rattle.triple_arena_chain.proofs.ConnectionLemmas.{live_prev}
 use Rattle.triple_arena_chain.proofs.TakeOutLemmas.{IsAgreed-taken}
 
 some_is : {A : Type 0} {a b : A} → Some a ≡ Some b → a ≡ b
@@ -23,20 +30,27 @@ some_is h = cc
 
 module _ {I T : Type 0} (number : I → ℕ) where
   -- what a link names is live
-  pub neighbors_live : (c : Content (IndexLink I T)) (p g : ℕ) (l : IndexLink I T) → IsChained number c → entry_at c p ≡ Some (g, l)
+  pub neighbors_live : (c : Content (IndexLink I T)) (p g : ℕ) (l : IndexLink I T)
+      → IsChained number c → entry_at c p ≡ Some (g, l)
       → AreNeighborsLive number c (Between l.prev l.next)
-  neighbors_live c p g l chained at = (by_prev l.prev (ap (λ o. prev_in (option_map (entry_ends number) o)) at), by_next l.next (ap (λ o. next_in (option_map (entry_ends number) o)) at))
+  neighbors_live c p g l chained at = (
+    by_prev l.prev (ap (λ o. prev_in (option_map (entry_ends number) o)) at),
+    by_next l.next (ap (λ o. next_in (option_map (entry_ends number) o)) at),
+  )
     where
-      by_prev : (o : Option I) → prev_in (ends_in number c p) ≡ option_map number o → IfSome o (λ i. IsSome (entry_at c (number i)))
+      by_prev : (o : Option I) → prev_in (ends_in number c p) ≡ option_map number o
+          → IfSome o (λ i. IsSome (entry_at c (number i)))
       by_prev None is = tt
       by_prev (Some i) is = live_prev number c p (number i) chained is
 
-      by_next : (o : Option I) → next_in (ends_in number c p) ≡ option_map number o → IfSome o (λ i. IsSome (entry_at c (number i)))
+      by_next : (o : Option I) → next_in (ends_in number c p) ≡ option_map number o
+          → IfSome o (λ i. IsSome (entry_at c (number i)))
       by_next None is = tt
       by_next (Some i) is = live_next number c p (number i) chained is
 
   -- a link stays as it is where its own next, or its own previous one, is written again
-  next_again : (c : Content (IndexLink I T)) (p g : ℕ) (l : IndexLink I T) (o : Option I) → entry_at c p ≡ Some (g, l)
+  next_again : (c : Content (IndexLink I T)) (p g : ℕ) (l : IndexLink I T) (o : Option I)
+      → entry_at c p ≡ Some (g, l)
       → entry_at (with_next_of number c o l.next) p ≡ Some (g, l)
   next_again c p g l None at = at
   next_again c p g l (Some i) at =
@@ -44,11 +58,13 @@ module _ {I T : Type 0} (number : I → ℕ) where
       ∙ elim (eqb_tells p (number i)) [
         | inl same ↦
             rw same.0
-            (ap (option_map (λ (e : ℕ × IndexLink I T). (let v : ℕ × IndexLink I T = (e.0, record e.1 { next = l.next }) in v))) (ap (entry_at c) (sym same.1) ∙ at))
+            (ap (option_map (λ (e : ℕ × IndexLink I T). (let v : ℕ × IndexLink I T =
+            (e.0, record e.1 { next = l.next }) in v))) (ap (entry_at c) (sym same.1) ∙ at))
         | inr differs ↦ rw differs.0 at
       ]
 
-  prev_again : (c : Content (IndexLink I T)) (p g : ℕ) (l : IndexLink I T) (o : Option I) → entry_at c p ≡ Some (g, l)
+  prev_again : (c : Content (IndexLink I T)) (p g : ℕ) (l : IndexLink I T) (o : Option I)
+      → entry_at c p ≡ Some (g, l)
       → entry_at (with_prev_of number c o l.prev) p ≡ Some (g, l)
   prev_again c p g l None at = at
   prev_again c p g l (Some i) at =
@@ -56,21 +72,26 @@ module _ {I T : Type 0} (number : I → ℕ) where
       ∙ elim (eqb_tells p (number i)) [
         | inl same ↦
             rw same.0
-            (ap (option_map (λ (e : ℕ × IndexLink I T). (let v : ℕ × IndexLink I T = (e.0, record e.1 { prev = l.prev }) in v))) (ap (entry_at c) (sym same.1) ∙ at))
+            (ap (option_map (λ (e : ℕ × IndexLink I T). (let v : ℕ × IndexLink I T =
+            (e.0, record e.1 { prev = l.prev }) in v))) (ap (entry_at c) (sym same.1) ∙ at))
         | inr differs ↦ rw differs.0 at
       ]
 
   -- a link is as it was once its neighbors are joined
-  pub entry-bridged : (c : Content (IndexLink I T)) (p g : ℕ) (l : IndexLink I T) → entry_at c p ≡ Some (g, l) → entry_at (bridged_over number c l) p ≡ Some (g, l)
-  entry-bridged c p g l at = prev_again (with_next_of number c l.prev l.next) p g l l.next (next_again c p g l l.prev at)
+  pub entry-bridged : (c : Content (IndexLink I T)) (p g : ℕ) (l : IndexLink I T)
+      → entry_at c p ≡ Some (g, l) → entry_at (bridged_over number c l) p ≡ Some (g, l)
+  entry-bridged c p g l at =
+      prev_again (with_next_of number c l.prev l.next) p g l l.next (next_again c p g l l.prev at)
 
   pub record TakenOut (last : Option ℕ) (p : ℕ) (c new : Content (IndexLink I T)) : Type 0 where
     pub taken : IsTakenOut number last p c new
     pub chained : IsChained number new
 
   -- a link is removed once its neighbors are joined
-  pub taken_out_by : (last : Option ℕ) (c joined new : Content (IndexLink I T)) (p g : ℕ) (l : IndexLink I T) → IsChained number c
-      → entry_at c p ≡ Some (g, l) → joined ≡ bridged_over number c l → new ≡ removed last joined p → TakenOut last p c new
+  pub taken_out_by : (last : Option ℕ) (c joined new : Content (IndexLink I T)) (p g : ℕ)
+      (l : IndexLink I T) → IsChained number c
+      → entry_at c p ≡ Some (g, l) → joined ≡ bridged_over number c l → new ≡ removed last joined p
+      → TakenOut last p c new
   taken_out_by last c joined new p g l chained at join remove =
       let d = bridged_over number c l in
       let e = ends_in number c in
@@ -81,13 +102,15 @@ module _ {I T : Type 0} (number : I → ℕ) where
       let joined_by = both_written number c d l.prev l.next l.next l.prev refl in
       let kept = joined_by.kept in
       let is : new ≡ removed last d p = remove ∙ ap (λ x. removed last x p) join in
-      let dropped_ends : (k : ℕ) → ends_in number (removed last d p) k ≡ dropped (bridged e b n) p k =
+      let dropped_ends : (k : ℕ)
+      → ends_in number (removed last d p) k ≡ dropped (bridged e b n) p k =
       λ k. ap (option_map (entry_ends number)) (entry-removed last d p live k)
       ∙ elim (eqb_tells k p) [
         | inl same ↦ rw same.0 refl
         | inr differs ↦ rw differs.0 (joined_by.ends k)
       ] in
-      let ends : (k : ℕ) → ends_in number (removed last d p) k ≡ taken_from e p (e p) k = λ k. dropped_ends k ∙ ap (λ o. taken_from e p o k) (sym own) in
+      let ends : (k : ℕ) → ends_in number (removed last d p) k ≡ taken_from e p (e p) k =
+      λ k. dropped_ends k ∙ ap (λ o. taken_from e p o k) (sym own) in
       rw is
       (record {
         taken = record {
@@ -106,17 +129,21 @@ module _ {I T : Type 0} (number : I → ℕ) where
               ∙ ap (λ m. if p == m then d.free else (p ∷ d.free)) kept.slots
               ∙ ap (λ f. if p == length c.slots then f else (p ∷ f)) kept.free
               ∙ sym (free-removed last c p);
-          slots = slots-removed last d p ∙ ap (λ m. if p == m then (p - 1) else m) kept.slots ∙ sym (slots-removed last c p);
+          slots = slots-removed last d p ∙ ap (λ m. if p == m then (p - 1) else m) kept.slots
+              ∙ sym (slots-removed last c p);
           room = room-removed last d p ∙ kept.room;
         };
         chained = record {
-          formed = formed-removed last d p live (both_formed number c d l.prev l.next l.next l.prev refl chained.formed);
-          agreed = IsAgreed-same (dropped (bridged e b n) p) (ends_in number (removed last d p)) dropped_ends (IsAgreed-taken e p b n own chained.agreed);
+          formed = formed-removed last d p live
+              (both_formed number c d l.prev l.next l.next l.prev refl chained.formed);
+          agreed = IsAgreed-same (dropped (bridged e b n) p) (ends_in number (removed last d p))
+              dropped_ends (IsAgreed-taken e p b n own chained.agreed);
         };
       })
 
   -- a removal, of which the answer tells what is seen of the entry
-  pub record Removed {A V : Type 0} (f : A → V) (r : Option A) (link_of : A → IndexLink I T) (seen : Option (ℕ × IndexLink I T) → Option V)
+  pub record Removed {A V : Type 0} (f : A → V) (r : Option A) (link_of : A → IndexLink I T)
+      (seen : Option (ℕ × IndexLink I T) → Option V)
       (last : Option ℕ) (p : ℕ) (c new : Content (IndexLink I T)) : Type 0 where
     pub value : option_map f r ≡ seen (entry_at c p)
     pub taken : OnSome r (IsTakenOut number last p c new)
@@ -124,16 +151,21 @@ module _ {I T : Type 0} (number : I → ℕ) where
     pub none : IfNone r (new ≡ c)
     pub chained : IsChained number new
 
-  pub removed_by : {A V : Type 0} (f : A → V) (r : Option A) (link_of : A → IndexLink I T) (seen : Option (ℕ × IndexLink I T) → Option V) (last : Option ℕ)
-      (c d new : Content (IndexLink I T)) (p g : ℕ) (l : IndexLink I T) (v : V) → IsChained number c → entry_at c p ≡ Some (g, l)
-      → seen (Some (g, l)) ≡ Some v → d ≡ bridged_over number c l → option_map f r ≡ seen (entry_at d p) → OnSome r (new ≡ removed last d p)
+  pub removed_by : {A V : Type 0} (f : A → V) (r : Option A) (link_of : A → IndexLink I T)
+      (seen : Option (ℕ × IndexLink I T) → Option V) (last : Option ℕ)
+      (c d new : Content (IndexLink I T)) (p g : ℕ) (l : IndexLink I T) (v : V) → IsChained number c
+      → entry_at c p ≡ Some (g, l)
+      → seen (Some (g, l)) ≡ Some v → d ≡ bridged_over number c l
+      → option_map f r ≡ seen (entry_at d p) → OnSome r (new ≡ removed last d p)
       → ((a : A) → f a ≡ v → link_of a ≡ l) → Removed f r link_of seen last p c new
-  removed_by f r link_of seen last c d new p g l v chained at shown join value remove told = by r value remove
+  removed_by f r link_of seen last c d new p g l v chained at shown join value remove told =
+      by r value remove
     where
       same : entry_at d p ≡ entry_at c p
       same = ap (λ x. entry_at x p) join ∙ entry-bridged c p g l at ∙ sym at
 
-      by : (o : Option _) → option_map f o ≡ seen (entry_at d p) → OnSome o (new ≡ removed last d p) → Removed f o link_of seen last p c new
+      by : (o : Option _) → option_map f o ≡ seen (entry_at d p) → OnSome o (new ≡ removed last d p)
+          → Removed f o link_of seen last p c new
       by None is gone = absurd (let no : None ≡ Some v = is ∙ ap seen (same ∙ at) ∙ shown in cc)
       by (Some a) is gone =
           let t = taken_out_by last c d new p g l chained at join gone in
@@ -142,7 +174,8 @@ module _ {I T : Type 0} (number : I → ℕ) where
           record {
             value = is ∙ ap seen same;
             taken = t.taken;
-            exact = gone ∙ ap (λ x. removed last x p) (join ∙ ap (bridged_over number c) (sym link_is));
+            exact = gone ∙ ap (λ x. removed last x p)
+                (join ∙ ap (bridged_over number c) (sym link_is));
             none = tt;
             chained = t.chained;
           }
@@ -153,6 +186,8 @@ module _ {T : Type 0} where
 
 module _ {I T : Type 0} (number : I → ℕ) where
   -- a removal of the link that a pointer finds is the removal at its index
-  pub removed_by_link : (last : Option ℕ) (c d : Content (IndexLink I T)) (i g : ℕ) (l : IndexLink I T) → d ≡ removed last (bridged_over number c l) i
+  pub removed_by_link : (last : Option ℕ) (c d : Content (IndexLink I T)) (i g : ℕ)
+      (l : IndexLink I T) → d ≡ removed last (bridged_over number c l) i
       → Some l ≡ value_if g (entry_at c i) → d ≡ link_removed number last c i
-  removed_by_link last c d i g l is found = is ∙ sym (ap (link_removed_of number last c i) (entry_seen g (entry_at c i) l (sym found)))
+  removed_by_link last c d i g l is found = is
+      ∙ sym (ap (link_removed_of number last c i) (entry_seen g (entry_at c i) l (sym found)))

@@ -1,5 +1,8 @@
--- What a removal takes back, what a walk gives, and what a pointer finds after a change of interlinks.
-use Rattle.std.proofs.Common.{◌≡◌, ◌≢◌, ℕ, Bool, true, false, List, [], ◌∷◌, ◌++◌, reverse, Option, Some, None, IsSome, IfSome, option_map, refl, sym, ap, ◌∙◌, eqb, inl, inr}
+-- What a removal takes back, what a walk gives, and what a pointer finds after a change of
+-- interlinks.
+use Rattle.std.proofs.Common.{◌≡◌, ◌≢◌, ℕ, Bool, true, false, List, [], ◌∷◌, ◌++◌, reverse, Option}
+use Rattle.std.proofs.Common.{Some, None, IsSome, IfSome, option_map, refl, sym, ap, ◌∙◌, eqb, inl}
+use Rattle.std.proofs.Common.{inr}
 use mathlib.Core.List.{reverse-cons, reverse-reverse}
 use Rattle.std.proofs.lemmas.Bool.{eqb-true, eq-eqb, ne_eqb}
 use Rattle.std.proofs.lemmas.Bool.Decides.{eqb_tells}
@@ -10,11 +13,17 @@ use Rattle.triple_arena_chain.specs.declared.place.Place.TheVariants.{Between}
 use Rattle.triple_arena_chain.specs.declared.kind.InsertKind.TheVariants.{NextTo, PrevTo}
 use Rattle.triple_arena_chain.specs.KindLaws.{found}
 use Rattle.triple_arena_chain.specs.Kinds.{after_link, before_link}
-use Rattle.triple_arena_chain.specs.Chains.{Ends, IsAgreed, next_at, prev_at, next_in, prev_in, with_next_if, with_prev_if, added, placed, bridged, taken_out, On, Apart}
+use Rattle.triple_arena_chain.specs.Chains.{Ends, IsAgreed, next_at, prev_at, next_in, prev_in}
+use Rattle.triple_arena_chain.specs.Chains.{with_next_if, with_prev_if, added, placed, bridged}
+use Rattle.triple_arena_chain.specs.Chains.{taken_out, On, Apart}
 use Rattle.triple_arena_chain.specs.ChainLaws.{Apart-both, Apart-last}
-use Rattle.triple_arena_chain.specs.Links.{valued, values_in, link_ends, entry_ends, ends_in, ends_found, place_among, IsChained, IsPlaced, IsTakenOut}
+use Rattle.triple_arena_chain.specs.Links.{valued, values_in, link_ends, entry_ends, ends_in}
+use Rattle.triple_arena_chain.specs.Links.{ends_found, place_among, IsChained, IsPlaced, IsTakenOut}
 use Rattle.triple_arena_chain.specs.Lists.{Chain, members, IsChainOf, Linear, Cyclic}
-use Rattle.triple_arena_chain.specs.ListLaws.{On-front, On-back, On-either, On-first, On-split, Apart-turned, Apart-front, Apart-back, Apart-append, off_or_not, on_differs, live_next_in, live_prev_in, shares}
+use Rattle.triple_arena_chain.specs.ListLaws.{On-front, On-back, On-either, On-first, On-split}
+use Rattle.triple_arena_chain.specs.ListLaws.{Apart-turned, Apart-front, Apart-back, Apart-append}
+use Rattle.triple_arena_chain.specs.ListLaws.{off_or_not, on_differs, live_next_in, live_prev_in}
+use Rattle.triple_arena_chain.specs.ListLaws.{shares}
 use Rattle.triple_arena_chain.specs.TakenLaws.{taken_is}
 use Rattle.triple_arena_chain.specs.UniquenessLaws.{linear_apart}
 use Rattle.triple_arena_chain.specs.Walks.{IsWalkFrom, along, around}
@@ -24,8 +33,11 @@ use Rattle.triple_arena_chain.proofs.ReversalLemmas.{two_back_at}
 
 module _ {I T : Type 0} (number : I → ℕ) where
   -- a pointer that found a link finds it with the interlinks of now, if the generations stay
-  still_found : (g : ℕ) (v : Ends) (o o' : Option (ℕ × IndexLink I T)) → IsSome (option_map (link_ends number) (value_if g o))
-      → option_map valued o' ≡ option_map valued o → option_map (λ e. link_ends number e.1) o' ≡ Some v → option_map (link_ends number) (value_if g o') ≡ Some v
+  still_found : (g : ℕ) (v : Ends) (o o' : Option (ℕ × IndexLink I T))
+      → IsSome (option_map (link_ends number) (value_if g o))
+      → option_map valued o' ≡ option_map valued o
+      → option_map (λ e. link_ends number e.1) o' ≡ Some v
+      → option_map (link_ends number) (value_if g o') ≡ Some v
   still_found g v None o' was same is = absurd (let no : false ≡ true = was in cc)
   still_found g v (Some e) None was same is = absurd (let no : None ≡ Some v = is in cc)
   still_found g v (Some e) (Some e') was same is =
@@ -37,7 +49,8 @@ module _ {I T : Type 0} (number : I → ℕ) where
       ]
 
   -- it has the next that is there now
-  pub still_next : (c d : Content (IndexLink I T)) (i g n : ℕ) → IsSome (ends_found number c i g) → values_in d i ≡ values_in c i
+  pub still_next : (c d : Content (IndexLink I T)) (i g n : ℕ) → IsSome (ends_found number c i g)
+      → values_in d i ≡ values_in c i
       → next_at (ends_in number d) i ≡ Some n → IsSome (next_in (ends_found number d i g))
   still_next c d i g n was same next =
       let v = valid_next (ends_in number d i) n next in
@@ -55,21 +68,26 @@ abbrev is_at : Option ℕ → ℕ → Bool
 is_at None k = false
 is_at (Some p) k = eqb k p
 
-next_by : (e : ℕ → Option Ends) (o n : Option ℕ) (k : ℕ) → with_next_if e o n k ≡ next_where (is_at o k) n (e k)
+next_by : (e : ℕ → Option Ends) (o n : Option ℕ) (k : ℕ)
+    → with_next_if e o n k ≡ next_where (is_at o k) n (e k)
 next_by e None n k = refl
 next_by e (Some p) n k = refl
 
-prev_by : (e : ℕ → Option Ends) (o n : Option ℕ) (k : ℕ) → with_prev_if e o n k ≡ prev_where (is_at o k) n (e k)
+prev_by : (e : ℕ → Option Ends) (o n : Option ℕ) (k : ℕ)
+    → with_prev_if e o n k ≡ prev_where (is_at o k) n (e k)
 prev_by e None n k = refl
 prev_by e (Some p) n k = refl
 
-module _ (e f : ℕ → Option Ends) (n : ℕ) (b a : Option ℕ) (new : (k : ℕ) → f k ≡ placed e n (b, a) k) where
+module _ (e f : ℕ → Option Ends) (n : ℕ) (b a : Option ℕ)
+    (new : (k : ℕ) → f k ≡ placed e n (b, a) k) where
   -- the writes at an index that stood there
-  placed_at : (k : ℕ) → k ≢ n → f k ≡ prev_where (is_at a k) (Some n) (next_where (is_at b k) (Some n) (e k))
+  placed_at : (k : ℕ) → k ≢ n
+      → f k ≡ prev_where (is_at a k) (Some n) (next_where (is_at b k) (Some n) (e k))
   placed_at k differs =
       let others : added e n (b, a) k ≡ e k = rw (ne_eqb k n differs) refl in
       new k ∙ prev_by (with_next_if (added e n (b, a)) b (Some n)) a (Some n) k
-      ∙ ap (prev_where (is_at a k) (Some n)) (next_by (added e n (b, a)) b (Some n) k ∙ ap (next_where (is_at b k) (Some n)) others)
+      ∙ ap (prev_where (is_at a k) (Some n))
+      (next_by (added e n (b, a)) b (Some n) k ∙ ap (next_where (is_at b k) (Some n)) others)
 
   not_at : (o : Option ℕ) → ((p : ℕ) → o ≡ Some p → p ≢ n) → is_at o n ≡ false
   not_at None differs = refl
@@ -80,12 +98,15 @@ module _ (e f : ℕ → Option Ends) (n : ℕ) (b a : Option ℕ) (new : (k : �
   placed_own b_differs a_differs =
       let own : added e n (b, a) n ≡ Some (b, a) = rw (eq-eqb n n refl) refl in
       new n ∙ prev_by (with_next_if (added e n (b, a)) b (Some n)) a (Some n) n
-      ∙ ap (prev_where (is_at a n) (Some n)) (next_by (added e n (b, a)) b (Some n) n ∙ ap (next_where (is_at b n) (Some n)) own)
-      ∙ ap (λ t. prev_where t (Some n) (next_where (is_at b n) (Some n) (Some (b, a)))) (not_at a a_differs)
+      ∙ ap (prev_where (is_at a n) (Some n))
+      (next_by (added e n (b, a)) b (Some n) n ∙ ap (next_where (is_at b n) (Some n)) own)
+      ∙ ap (λ t. prev_where t (Some n) (next_where (is_at b n) (Some n) (Some (b, a))))
+      (not_at a a_differs)
       ∙ ap (λ t. next_where t (Some n) (Some (b, a))) (not_at b b_differs)
 
   -- a removal joins the two again
-  pub removed_again : IsAgreed f → e n ≡ None → ((p : ℕ) → b ≡ Some p → p ≢ n) → ((q : ℕ) → a ≡ Some q → q ≢ n)
+  pub removed_again : IsAgreed f → e n ≡ None → ((p : ℕ) → b ≡ Some p → p ≢ n)
+      → ((q : ℕ) → a ≡ Some q → q ≢ n)
       → ((p : ℕ) → b ≡ Some p → next_at e p ≡ a) → ((q : ℕ) → a ≡ Some q → prev_at e q ≡ b)
       → (k : ℕ) → taken_out f n k ≡ e k
   removed_again agreed vacant b_differs a_differs b_next a_prev k =
@@ -95,23 +116,29 @@ module _ (e f : ℕ → Option Ends) (n : ℕ) (b a : Option ℕ) (new : (k : �
             let none : e k ≡ None = ap e same.1 ∙ vacant in
             rw (same.0, none) refl
         | inr differs ↦
-            let joined : bridged f b a k ≡ prev_where (is_at a k) b (next_where (is_at b k) a (f k)) =
+            let joined : bridged f b a k
+            ≡ prev_where (is_at a k) b (next_where (is_at b k) a (f k)) =
             prev_by (with_next_if f b a) a b k ∙ ap (prev_where (is_at a k) b) (next_by f b a k) in
             let whole : bridged f b a k ≡ e k =
-            joined ∙ ap (λ o. prev_where (is_at a k) b (next_where (is_at b k) a o)) (placed_at k differs.1)
-            ∙ two_back_at (is_at b k) (is_at a k) a b (Some n) (Some n) (e k) (at_b b b_next) (at_a a a_prev) in
+            joined ∙ ap (λ o. prev_where (is_at a k) b (next_where (is_at b k) a o))
+            (placed_at k differs.1)
+            ∙ two_back_at (is_at b k) (is_at a k) a b (Some n) (Some n) (e k) (at_b b b_next)
+            (at_a a a_prev) in
             rw differs.0 whole
       ]
     where
-      at_b : (o : Option ℕ) → ((p : ℕ) → o ≡ Some p → next_at e p ≡ a) → is_at o k ≡ true → next_in (e k) ≡ a
+      at_b : (o : Option ℕ) → ((p : ℕ) → o ≡ Some p → next_at e p ≡ a) → is_at o k ≡ true
+          → next_in (e k) ≡ a
       at_b None h is = absurd (let no : false ≡ true = is in cc)
       at_b (Some p) h is = ap (next_at e) (eqb-true k p is) ∙ h p refl
 
-      at_a : (o : Option ℕ) → ((q : ℕ) → o ≡ Some q → prev_at e q ≡ b) → is_at o k ≡ true → prev_in (e k) ≡ b
+      at_a : (o : Option ℕ) → ((q : ℕ) → o ≡ Some q → prev_at e q ≡ b) → is_at o k ≡ true
+          → prev_in (e k) ≡ b
       at_a None h is = absurd (let no : false ≡ true = is in cc)
       at_a (Some q) h is = ap (prev_at e) (eqb-true k q is) ∙ h q refl
 
-without_again : {T : Type 0} (es fs : ℕ → Option (ℕ × T)) (i : ℕ) (t : ℕ × T) → es i ≡ None → ((k : ℕ) → fs k ≡ with_entry es i t k)
+without_again : {T : Type 0} (es fs : ℕ → Option (ℕ × T)) (i : ℕ) (t : ℕ × T) → es i ≡ None
+    → ((k : ℕ) → fs k ≡ with_entry es i t k)
     → (k : ℕ) → without fs i k ≡ es k
 without_again es fs i t vacant new k =
     elim (eqb_tells k i) [
@@ -123,10 +150,13 @@ without_again es fs i t vacant new k =
           rw differs.0 is
     ]
 
-module _ {I T : Type 0} (number : I → ℕ) (c d f : Content (IndexLink I T)) (i g : ℕ) (t : T) (last : Option ℕ) (chained : IsChained number c) (formed : IsChained number d) where
+module _ {I T : Type 0} (number : I → ℕ) (c d f : Content (IndexLink I T)) (i g : ℕ) (t : T)
+    (last : Option ℕ) (chained : IsChained number c) (formed : IsChained number d) where
   -- an insertion between two neighbors, or beyond an end, and the removal of what it put in
-  restored_between : (b a : Option ℕ) → ((p : ℕ) → b ≡ Some p → IsSome (ends_in number c p)) → ((q : ℕ) → a ≡ Some q → IsSome (ends_in number c q))
-      → ((p : ℕ) → b ≡ Some p → next_at (ends_in number c) p ≡ a) → ((q : ℕ) → a ≡ Some q → prev_at (ends_in number c) q ≡ b)
+  restored_between : (b a : Option ℕ) → ((p : ℕ) → b ≡ Some p → IsSome (ends_in number c p))
+      → ((q : ℕ) → a ≡ Some q → IsSome (ends_in number c q))
+      → ((p : ℕ) → b ≡ Some p → next_at (ends_in number c) p ≡ a)
+      → ((q : ℕ) → a ≡ Some q → prev_at (ends_in number c) q ≡ b)
       → IsPlaced number (Between b a) i g t c d → IsTakenOut number last i d f
       → (k : ℕ) → (ends_in number f k ≡ ends_in number c k) × (values_in f k ≡ values_in c k)
   restored_between b a b_lives a_lives b_next a_prev placed taken k =
@@ -134,20 +164,26 @@ module _ {I T : Type 0} (number : I → ℕ) (c d f : Content (IndexLink I T)) (
       let differs : (p : ℕ) → IsSome (ends_in number c p) → p ≢ i = λ p lives same.
       let no : false ≡ true = rw (ap (ends_in number c) same ∙ vacant) at lives in absurd (cc) in (
         taken.ends k
-            ∙ removed_again (ends_in number c) (ends_in number d) i b a placed.ends formed.agreed vacant
+            ∙ removed_again (ends_in number c) (ends_in number d) i b a placed.ends formed.agreed
+            vacant
             (λ p is. differs p (b_lives p is)) (λ q is. differs q (a_lives q is)) b_next a_prev k,
-        taken.values k ∙ without_again (values_in c) (values_in d) i (g, t) (ap (option_map valued) placed.vacant) placed.values k,
+        taken.values k ∙ without_again (values_in c) (values_in d) i (g, t)
+            (ap (option_map valued) placed.vacant) placed.values k,
       )
 
-module _ {P I T : Type 0} (index generation : P → ℕ) (number : I → ℕ) (c d f : Content (IndexLink I T)) (p : P) (i g : ℕ) (t : T) (last : Option ℕ)
+module _ {P I T : Type 0} (index generation : P → ℕ) (number : I → ℕ)
+    (c d f : Content (IndexLink I T)) (p : P) (i g : ℕ) (t : T) (last : Option ℕ)
     (chained : IsChained number c) (formed : IsChained number d) where
   pub restored_after : IsSome (place_among index generation number c (NextTo p))
-      → IfSome (place_among index generation number c (NextTo p)) (λ place. IsPlaced number place i g t c d) → IsTakenOut number last i d f
+      → IfSome (place_among index generation number c (NextTo p))
+      (λ place. IsPlaced number place i g t c d) → IsTakenOut number last i d f
       → (k : ℕ) → (ends_in number f k ≡ ends_in number c k) × (values_in f k ≡ values_in c k)
   restored_after there placed taken k =
-      by (ends_found number c (index p) (generation p)) (λ v is. found number c (index p) (generation p) v is) there placed
+      by (ends_found number c (index p) (generation p))
+      (λ v is. found number c (index p) (generation p) v is) there placed
     where
-      by : (o : Option Ends) → ((v : Ends) → o ≡ Some v → ends_in number c (index p) ≡ Some v) → IsSome (after_link (index p) o)
+      by : (o : Option Ends) → ((v : Ends) → o ≡ Some v → ends_in number c (index p) ≡ Some v)
+          → IsSome (after_link (index p) o)
           → IfSome (after_link (index p) o) (λ place. IsPlaced number place i g t c d)
           → (ends_in number f k ≡ ends_in number c k) × (values_in f k ≡ values_in c k)
       by None at there placed = absurd (let no : false ≡ true = there in cc)
@@ -156,18 +192,22 @@ module _ {P I T : Type 0} (index generation : P → ℕ) (number : I → ℕ) (c
           let next : next_at (ends_in number c) (index p) ≡ v.1 = ap next_in own in
           restored_between number c d f i g t last chained formed (Some (index p)) v.1
           (λ x is. let same : index p ≡ x = cc in rw (sym same, own) refl)
-          (λ q is. live_prev_in (ends_in number c q) (index p) (chained.agreed.forward (index p) q (next ∙ is)))
+          (λ q is. live_prev_in (ends_in number c q) (index p)
+          (chained.agreed.forward (index p) q (next ∙ is)))
           (λ x is. let same : index p ≡ x = cc in rw (sym same) next)
           (λ q is. chained.agreed.forward (index p) q (next ∙ is))
           placed taken k
 
   pub restored_before : IsSome (place_among index generation number c (PrevTo p))
-      → IfSome (place_among index generation number c (PrevTo p)) (λ place. IsPlaced number place i g t c d) → IsTakenOut number last i d f
+      → IfSome (place_among index generation number c (PrevTo p))
+      (λ place. IsPlaced number place i g t c d) → IsTakenOut number last i d f
       → (k : ℕ) → (ends_in number f k ≡ ends_in number c k) × (values_in f k ≡ values_in c k)
   restored_before there placed taken k =
-      by (ends_found number c (index p) (generation p)) (λ v is. found number c (index p) (generation p) v is) there placed
+      by (ends_found number c (index p) (generation p))
+      (λ v is. found number c (index p) (generation p) v is) there placed
     where
-      by : (o : Option Ends) → ((v : Ends) → o ≡ Some v → ends_in number c (index p) ≡ Some v) → IsSome (before_link (index p) o)
+      by : (o : Option Ends) → ((v : Ends) → o ≡ Some v → ends_in number c (index p) ≡ Some v)
+          → IsSome (before_link (index p) o)
           → IfSome (before_link (index p) o) (λ place. IsPlaced number place i g t c d)
           → (ends_in number f k ≡ ends_in number c k) × (values_in f k ≡ values_in c k)
       by None at there placed = absurd (let no : false ≡ true = there in cc)
@@ -175,7 +215,8 @@ module _ {P I T : Type 0} (index generation : P → ℕ) (number : I → ℕ) (c
           let own = at v refl in
           let prev : prev_at (ends_in number c) (index p) ≡ v.0 = ap prev_in own in
           restored_between number c d f i g t last chained formed v.0 (Some (index p))
-          (λ q is. live_next_in (ends_in number c q) (index p) (chained.agreed.backward q (index p) (prev ∙ is)))
+          (λ q is. live_next_in (ends_in number c q) (index p)
+          (chained.agreed.backward q (index p) (prev ∙ is)))
           (λ x is. let same : index p ≡ x = cc in rw (sym same, own) refl)
           (λ q is. chained.agreed.backward q (index p) (prev ∙ is))
           (λ x is. let same : index p ≡ x = cc in rw (sym same) prev)
@@ -196,7 +237,8 @@ Apart_reverse : (xs : List ℕ) → Apart xs → Apart (reverse xs)
 Apart_reverse [] apart = tt
 Apart_reverse (x ∷ xs) apart =
     rw (reverse-cons x xs)
-    (Apart-last (reverse xs) x (Apart_reverse xs apart.1) (off_or_not (reverse xs) x (λ on. on_differs xs x x (On_reverse xs x on) apart.0 refl)))
+    (Apart-last (reverse xs) x (Apart_reverse xs apart.1)
+    (off_or_not (reverse xs) x (λ on. on_differs xs x x (On_reverse xs x on) apart.0 refl)))
 
 -- a walk gives each link once
 pub walked_once : (e : ℕ → Option Ends) (i : ℕ) (walk : List ℕ) → IsWalkFrom e i walk → Apart walk
@@ -205,11 +247,14 @@ walked_once e i walk (along before after linear is) =
     let whole = linear_apart e None (before ++ i ∷ after) linear in
     let turned = Apart-turned before (i ∷ after) whole in
     rw is
-    (Apart-append (i ∷ after) (reverse before) (Apart-front (i ∷ after) before turned) (Apart_reverse before (Apart-back (i ∷ after) before turned))
-    (λ k on. off_or_not (reverse before) k (λ back. Apart-both (i ∷ after) before k turned on (On_reverse before k back))))
+    (Apart-append (i ∷ after) (reverse before) (Apart-front (i ∷ after) before turned)
+    (Apart_reverse before (Apart-back (i ∷ after) before turned))
+    (λ k on. off_or_not (reverse before) k
+    (λ back. Apart-both (i ∷ after) before k turned on (On_reverse before k back))))
 
 -- it gives the links of the chain
-pub walked_all : (e : ℕ → Option Ends) (i : ℕ) (walk : List ℕ) (c : Chain) → IsWalkFrom e i walk → IsChainOf e c → On (members c) i
+pub walked_all : (e : ℕ → Option Ends) (i : ℕ) (walk : List ℕ) (c : Chain) → IsWalkFrom e i walk
+    → IsChainOf e c → On (members c) i
     → (k : ℕ) → (On walk k → On (members c) k) × (On (members c) k → On walk k)
 walked_all e i walk c (around after ring is) chain on k = (
   λ there. shares e c (Cyclic (i ∷ after)) i k chain ring on (On-first i after) (rw is at there),
@@ -217,14 +262,20 @@ walked_all e i walk c (around after ring is) chain on k = (
 )
 walked_all e i walk c (along before after linear is) chain on k =
     let here = On-split before after i in
-    let ahead_or_back : On walk k → On (before ++ i ∷ after) k = λ there. elim (On-either (i ∷ after) (reverse before) k (rw is at there)) [
+    let ahead_or_back : On walk k
+    → On (before ++ i ∷ after) k =
+    λ there. elim (On-either (i ∷ after) (reverse before) k (rw is at there)) [
       | inl ahead ↦ On-back before (i ∷ after) k ahead
       | inr back ↦ On-front before (i ∷ after) k (On_reverse before k back)
     ] in
-    let given : On (before ++ i ∷ after) k → On (i ∷ after ++ reverse before) k = λ there. elim (On-either before (i ∷ after) k there) [
+    let given : On (before ++ i ∷ after) k
+    → On (i ∷ after ++ reverse before) k =
+    λ there. elim (On-either before (i ∷ after) k there) [
       | inl back ↦ On-back (i ∷ after) (reverse before) k (On_reversed before k back)
       | inr ahead ↦ On-front (i ∷ after) (reverse before) k ahead
     ] in (
-      λ there. shares e c (Linear (before ++ i ∷ after)) i k chain linear on here (ahead_or_back there),
-      λ there. rw is (given (shares e (Linear (before ++ i ∷ after)) c i k linear chain here on there)),
+      λ there. shares e c (Linear (before ++ i ∷ after)) i k chain linear on here
+          (ahead_or_back there),
+      λ there. rw is (given
+          (shares e (Linear (before ++ i ∷ after)) c i k linear chain here on there)),
     )

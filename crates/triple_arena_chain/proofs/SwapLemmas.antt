@@ -1,19 +1,23 @@
 -- Two links that change places.
-use Rattle.std.proofs.Common.{◌≡◌, ◌≢◌, ℕ, Option, Some, None, is_some, option_map, refl, sym, ap, ◌∙◌, inl, inr}
+use Rattle.std.proofs.Common.{◌≡◌, ◌≢◌, ℕ, Option, Some, None, is_some, option_map, refl, sym, ap}
+use Rattle.std.proofs.Common.{◌∙◌, inl, inr}
 use Rattle.std.proofs.lemmas.Bool.{eq-eqb, ne_eqb}
 use Rattle.std.proofs.lemmas.Bool.Decides.{eqb_tells}
 use Rattle.triple_arena_chain.specs.Chains.{Ends, IsAgreed, next_at, prev_at, next_in, prev_in}
 use Rattle.triple_arena_chain.specs.Renaming.{ends_renamed}
 use Rattle.triple_arena_chain.specs.CanonicalLayout.{swapped_index, under}
 
-pub ends_by_parts : (o r : Option Ends) → is_some o ≡ is_some r → next_in o ≡ next_in r → prev_in o ≡ prev_in r → o ≡ r
+pub ends_by_parts : (o r : Option Ends) → is_some o ≡ is_some r → next_in o ≡ next_in r
+    → prev_in o ≡ prev_in r → o ≡ r
 ends_by_parts None None v n p = refl
 ends_by_parts None (Some w) v n p = absurd (cc)
 ends_by_parts (Some u) None v n p = absurd (cc)
-ends_by_parts (Some u) (Some w) v n p = ap (λ a. let x : Ends = (a, u.1) in Some x) p ∙ ap (λ b. let x : Ends = (w.0, b) in Some x) n
+ends_by_parts (Some u) (Some w) v n p = ap (λ a. let x : Ends = (a, u.1) in Some x) p
+    ∙ ap (λ b. let x : Ends = (w.0, b) in Some x) n
 
 -- what is live stays so under other names
-pub some_under : (name : ℕ → ℕ) (o : Option Ends) → is_some (option_map (ends_renamed name) o) ≡ is_some o
+pub some_under : (name : ℕ → ℕ) (o : Option Ends)
+    → is_some (option_map (ends_renamed name) o) ≡ is_some o
 some_under name None = refl
 some_under name (Some v) = refl
 
@@ -21,14 +25,16 @@ module _ (name : ℕ → ℕ) (twice : (k : ℕ) → name (name k) ≡ k) (e : �
   pub next-renamed : (k : ℕ) → next_at (under name e) k ≡ option_map name (next_at e (name k))
   next-renamed k = by (e (name k))
     where
-      by : (o : Option Ends) → next_in (option_map (ends_renamed name) o) ≡ option_map name (next_in o)
+      by : (o : Option Ends)
+          → next_in (option_map (ends_renamed name) o) ≡ option_map name (next_in o)
       by None = refl
       by (Some v) = refl
 
   pub prev-renamed : (k : ℕ) → prev_at (under name e) k ≡ option_map name (prev_at e (name k))
   prev-renamed k = by (e (name k))
     where
-      by : (o : Option Ends) → prev_in (option_map (ends_renamed name) o) ≡ option_map name (prev_in o)
+      by : (o : Option Ends)
+          → prev_in (option_map (ends_renamed name) o) ≡ option_map name (prev_in o)
       by None = refl
       by (Some v) = refl
 
@@ -40,8 +46,14 @@ module _ (name : ℕ → ℕ) (twice : (k : ℕ) → name (name k) ≡ k) (e : �
   pub IsAgreed-renamed : IsAgreed e → IsAgreed (under name e)
   IsAgreed-renamed agreed =
       record {
-        forward = λ x y h. prev-renamed y ∙ ap (option_map name) (agreed.forward (name x) (name y) (named (next_at e (name x)) y (sym (next-renamed x) ∙ h))) ∙ ap Some (twice x);
-        backward = λ x y h. next-renamed x ∙ ap (option_map name) (agreed.backward (name x) (name y) (named (prev_at e (name y)) x (sym (prev-renamed y) ∙ h))) ∙ ap Some (twice y);
+        forward = λ x y h. prev-renamed y
+            ∙ ap (option_map name)
+            (agreed.forward (name x) (name y)
+            (named (next_at e (name x)) y (sym (next-renamed x) ∙ h))) ∙ ap Some (twice x);
+        backward = λ x y h. next-renamed x
+            ∙ ap (option_map name)
+            (agreed.backward (name x) (name y)
+            (named (prev_at e (name y)) x (sym (prev-renamed y) ∙ h))) ∙ ap Some (twice y);
       }
 
 module _ (i j : ℕ) where

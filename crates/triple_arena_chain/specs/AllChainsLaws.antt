@@ -1,11 +1,15 @@
 -- Interlinks that agree make chains of which each live index is in one.
-use Rattle.std.proofs.Common.{◌≡◌, ◌≢◌, ℕ, zero, suc, ◌<◌, ◌≤◌, List, [], ◌∷◌, ◌++◌, Option, Some, None, IsSome, is_some, true≢false, refl, sym, ap, subst, ◌∙◌, inl, inr, arith}
+use Rattle.std.proofs.Common.{◌≡◌, ◌≢◌, ℕ, zero, suc, ◌<◌, ◌≤◌, List, [], ◌∷◌, ◌++◌, Option, Some}
+use Rattle.std.proofs.Common.{None, IsSome, is_some, true≢false, refl, sym, ap, subst, ◌∙◌, inl}
+use Rattle.std.proofs.Common.{inr, arith}
 use Rattle.std.proofs.lemmas.Bool.Decides.{eqb_tells, leb_tells}
 use Rattle.triple_arena_chain.specs.Chains.{Ends, IsAgreed, Off, On, Apart, Standing, linear, ring}
 use Rattle.triple_arena_chain.specs.ChainLaws.{off_or_on, stands}
 use Rattle.triple_arena_chain.specs.UniquenessLaws.{linear_apart}
-use Rattle.triple_arena_chain.specs.Lists.{Chain, Linear, Cyclic, members, IsChainOf, IsWritten, all_members, AreAllChainsOf, AreChains}
-use Rattle.triple_arena_chain.specs.ListLaws.{On-first, On-front, On-back, On-split, On-either, on_differs, off_or_not, Apart-append, live_in, shares}
+use Rattle.triple_arena_chain.specs.Lists.{Chain, Linear, Cyclic, members, IsChainOf, IsWritten}
+use Rattle.triple_arena_chain.specs.Lists.{all_members, AreAllChainsOf, AreChains}
+use Rattle.triple_arena_chain.specs.ListLaws.{On-first, On-front, On-back, On-split, On-either}
+use Rattle.triple_arena_chain.specs.ListLaws.{on_differs, off_or_not, Apart-append, live_in, shares}
 
 module _ (e : ℕ → Option Ends) where
   -- the chain of an index of these
@@ -131,8 +135,7 @@ module _ (e : ℕ → Option Ends) where
                 chains = (
                   (
                     is.is_chain,
-                    is.written
-                        (λ k on. least k (others k on) (live_in e c.0 k is.is_chain on)),
+                    is.written (λ k on. least k (others k on) (live_in e c.0 k is.is_chain on)),
                   ),
                   known.chains,
                 );

@@ -1,6 +1,7 @@
 -- The order of the chains in a canonical transfer is one alone, and a linear chain of all links is
 -- moved as it is.
-use Rattle.std.proofs.Common.{◌≡◌, ℕ, List, [], ◌∷◌, ◌++◌, map, Option, Some, None, IsSome, refl, sym, ap, subst, ◌∙◌, arith, inl, inr, append-nil}
+use Rattle.std.proofs.Common.{◌≡◌, ℕ, List, [], ◌∷◌, ◌++◌, map, Option, Some, None, IsSome, refl}
+use Rattle.std.proofs.Common.{sym, ap, subst, ◌∙◌, arith, inl, inr, append-nil}
 use Rattle.std.specs.List.{range_with_len}
 use Rattle.triple_arena.specs.Content.{Content, live_count}
 use Rattle.triple_arena_chain.specs.LinkShape.{IndexLink}
@@ -8,8 +9,11 @@ use Rattle.triple_arena_chain.specs.Chains.{Ends, last_or, On, Apart, IsLinear, 
 use Rattle.triple_arena_chain.specs.ChainLaws.{Apart-both}
 use Rattle.triple_arena_chain.specs.AllChainsLaws.{all_live}
 use Rattle.triple_arena_chain.specs.UniquenessLaws.{same_around}
-use Rattle.triple_arena_chain.specs.ListLaws.{On-first, On-front, On-back, On-either, Apart-back, on_differs, linear_same, ring_or_linear, ring_same, live_in}
-use Rattle.triple_arena_chain.specs.Lists.{Chain, Linear, Cyclic, members, all_members, IsChainOf, IsWritten, AreAllChainsOf, AreChains}
+use Rattle.triple_arena_chain.specs.ListLaws.{On-first, On-front, On-back, On-either, Apart-back}
+use Rattle.triple_arena_chain.specs.ListLaws.{on_differs, linear_same, ring_or_linear, ring_same}
+use Rattle.triple_arena_chain.specs.ListLaws.{live_in}
+use Rattle.triple_arena_chain.specs.Lists.{Chain, Linear, Cyclic, members, all_members, IsChainOf}
+use Rattle.triple_arena_chain.specs.Lists.{IsWritten, AreAllChainsOf, AreChains}
 use Rattle.triple_arena_chain.specs.Links.{ends_in}
 use Rattle.triple_arena_chain.specs.CanonicalTransfer.{AreRising, AreInOrder, IsMovedAlong}
 

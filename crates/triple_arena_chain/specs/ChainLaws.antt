@@ -1,7 +1,11 @@
 -- Each live index stands in a chain.
-use Rattle.std.proofs.Common.{◌≡◌, ◌≢◌, ℕ, zero, suc, ◌+◌, ◌-◌, ◌<◌, ◌≤◌, List, [], ◌∷◌, ◌++◌, length, Option, Some, None, IsSome, is_some, refl, sym, ap, subst, ◌∙◌, arith, true, false, inl, inr, ◌⊎◌, append_assoc, length-append}
+use Rattle.std.proofs.Common.{◌≡◌, ◌≢◌, ℕ, zero, suc, ◌+◌, ◌-◌, ◌<◌, ◌≤◌, List, [], ◌∷◌, ◌++◌}
+use Rattle.std.proofs.Common.{length, Option, Some, None, IsSome, is_some, refl, sym, ap, subst}
+use Rattle.std.proofs.Common.{◌∙◌, arith, true, false, inl, inr, ◌⊎◌, append_assoc, length-append}
 use Rattle.std.proofs.lemmas.Bool.Decides.{eqb_tells}
-use Rattle.triple_arena_chain.specs.Chains.{Ends, next_in, prev_in, next_at, prev_at, IsAgreed, first_or, last_or, Stands, Off, Apart, On, Standing, linear, ring}
+use Rattle.triple_arena_chain.specs.Chains.{Ends, next_in, prev_in, next_at, prev_at, IsAgreed}
+use Rattle.triple_arena_chain.specs.Chains.{first_or, last_or, Stands, Off, Apart, On, Standing}
+use Rattle.triple_arena_chain.specs.Chains.{linear, ring}
 
 -- interlinks that are the same at each index
 pub IsAgreed-same : (e f : ℕ → Option Ends) → ((i : ℕ) → f i ≡ e i) → IsAgreed e → IsAgreed f
@@ -53,10 +57,6 @@ off_or_on (x ∷ xs) i =
           ]
     ]
 
-Off-insert : (xs ys : List ℕ) (x i : ℕ) → Off (xs ++ ys) i → x ≢ i → Off (xs ++ x ∷ ys) i
-Off-insert [] ys x i off differs = (differs, off)
-Off-insert (y ∷ xs) ys x i off differs = (off.0, Off-insert xs ys x i off.1 differs)
-
 Off-taken : (xs ys : List ℕ) (x i : ℕ) → Off (xs ++ x ∷ ys) i → Off (xs ++ ys) i
 Off-taken [] ys x i off = off.1
 Off-taken (y ∷ xs) ys x i off = (off.0, Off-taken xs ys x i off.1)
@@ -76,8 +76,7 @@ Apart-last [] y apart off = (tt, tt)
 Apart-last (x ∷ xs) y apart off
     = (
       Off-append xs (y ∷ []) x apart.0 ((λ same. off.0 (sym same)), tt),
-      Apart-last xs y
-          apart.1 off.1,
+      Apart-last xs y apart.1 off.1,
     )
 
 -- each index of a list is less than this number
@@ -278,8 +277,7 @@ module _ (e : ℕ → Option Ends) where
         let into : prev_at e i ≡ Some z.0 =
         agreed.forward z.0 i (next_of_last b (Some i) i ys z.0 z.1 s) in
         ring ys (record {
-          stands = subst (λ o. Stands e o (i ∷ ys) (Some i))
-              (is ∙ into ∙ sym z.1) s;
+          stands = subst (λ o. Stands e o (i ∷ ys) (Some i)) (is ∙ into ∙ sym z.1) s;
           apart = apart;
         })
 

@@ -1,6 +1,7 @@
 -- The chains that interlinks make, over a plain function from an index to its two neighbors, which
 -- has a value where the index is live.
-use Rattle.std.specs.Prelude.{◌≡◌, ◌≢◌, ℕ, ◌==◌, List, [], ◌∷◌, ◌++◌, Option, Some, None, if◌then◌else◌, IsSome, ◌⊎◌}
+use Rattle.std.specs.Prelude.{◌≡◌, ◌≢◌, ℕ, ◌==◌, List, [], ◌∷◌, ◌++◌, Option, Some, None}
+use Rattle.std.specs.Prelude.{if◌then◌else◌, IsSome, ◌⊎◌}
 use Rattle.triple_arena_chain.specs.declared.place.Place.{Place}
 use Rattle.triple_arena_chain.specs.declared.place.Place.TheVariants.{Between, OwnRing}
 

@@ -1,5 +1,6 @@
 -- A link begins one walk, and the walks of a ring are rotations of one another.
-use Rattle.std.proofs.Common.{◌≡◌, ℕ, List, [], ◌∷◌, ◌++◌, reverse, Option, Some, refl, sym, ap, ◌∙◌}
+use Rattle.std.proofs.Common.{◌≡◌, ℕ, List, [], ◌∷◌, ◌++◌, reverse, Option, Some, refl, sym, ap}
+use Rattle.std.proofs.Common.{◌∙◌}
 use Rattle.triple_arena_chain.specs.Chains.{Ends, IsRing, Standing, linear, ring}
 use Rattle.triple_arena_chain.specs.ChainLaws.{Apart-last, Stands-append, last_or-append}
 use Rattle.triple_arena_chain.specs.UniquenessLaws.{stands_once}

@@ -25,6 +25,5 @@ module _ (I T : Type 0) (last : Option ℕ) where
   unfolding LeavesGivenUp
   drained-leaves = (
     drained-gives_up last,
-    λ old new i removed. drained-same last old new
-        removed.live removed.counter removed.room,
+    λ old new i removed. drained-same last old new removed.live removed.counter removed.room,
   )

@@ -1,8 +1,12 @@
 -- What an insertion answers where it makes room, and what a contract sees of an insertion's entry.
-use Rattle.std.specs.Prelude.{◌≡◌, ◌<◌, ◌≤◌, ◌↔◌, ℕ, Bool, IsTrue, Option, Some, None, IsSome, Result, IsOk, IsErrOf}
+use Rattle.std.specs.Prelude.{◌≡◌, ◌<◌, ◌≤◌, ◌↔◌, ℕ, Bool, IsTrue, Option, Some, None, IsSome}
+use Rattle.std.specs.Prelude.{Result, IsOk, IsErrOf}
 use Rattle.std.specs.Borrow.{GName}
 use Rattle.triple_arena_ptr.specs.declared.errors.ChainInsertionError.{ChainInsertionError}
-use Rattle.triple_arena_ptr.specs.declared.errors.ChainInsertionError.TheVariants.{FailedLinkRequirement, NotWithinCapacity, BeyondMaxCapacity, AllocError}
+use Rattle.triple_arena_ptr.specs.declared.errors.ChainInsertionError.TheVariants.{FailedLinkRequirement}
+use Rattle.triple_arena_ptr.specs.declared.errors.ChainInsertionError.TheVariants.{NotWithinCapacity}
+use Rattle.triple_arena_ptr.specs.declared.errors.ChainInsertionError.TheVariants.{BeyondMaxCapacity}
+use Rattle.triple_arena_ptr.specs.declared.errors.ChainInsertionError.TheVariants.{AllocError}
 use Rattle.triple_arena_stack.specs.Room.{Room, capacity}
 use Rattle.triple_arena.specs.Content.{Content, live_count, arena_capacity, next_index}
 use Rattle.triple_arena_chain.specs.declared.chain_arena.entry.ChainArenaInsertEntry.{ChainArenaInsertEntry}

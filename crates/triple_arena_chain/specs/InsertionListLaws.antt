@@ -1,9 +1,13 @@
 -- What an insertion, and a removal before one, make of a chain that a caller knows as a list.
-use Rattle.std.proofs.Common.{◌≡◌, ◌≢◌, ℕ, List, [], ◌∷◌, ◌++◌, Option, Some, None, refl, sym, ap, subst, ◌∙◌, append_assoc}
-use Rattle.triple_arena_chain.specs.Chains.{Ends, next_in, next_at, prev_at, first_or, IsAgreed, Off, Apart, IsLinear, IsRing}
+use Rattle.std.proofs.Common.{◌≡◌, ◌≢◌, ℕ, List, [], ◌∷◌, ◌++◌, Option, Some, None, refl, sym, ap}
+use Rattle.std.proofs.Common.{subst, ◌∙◌, append_assoc}
+use Rattle.triple_arena_chain.specs.Chains.{Ends, next_in, next_at, prev_at, first_or, IsAgreed}
+use Rattle.triple_arena_chain.specs.Chains.{Off, Apart, IsLinear, IsRing}
 use Rattle.triple_arena_chain.specs.ChainLaws.{last_or-append, Off-append, Apart-taken, Stands-back}
-use Rattle.triple_arena_chain.specs.Lists.{Chain, Linear, members, IsChainOf, IsOffIf, IsAppended, IsSplit, IsPutIn, IsTaken, IsExchanged}
-use Rattle.triple_arena_chain.specs.ListLaws.{turned, off_or_not, on_differs, holds_prev, Apart-split}
+use Rattle.triple_arena_chain.specs.Lists.{Chain, Linear, members, IsChainOf, IsOffIf, IsAppended}
+use Rattle.triple_arena_chain.specs.Lists.{IsSplit, IsPutIn, IsTaken, IsExchanged}
+use Rattle.triple_arena_chain.specs.ListLaws.{turned, off_or_not, on_differs, holds_prev}
+use Rattle.triple_arena_chain.specs.ListLaws.{Apart-split}
 use Rattle.triple_arena_chain.specs.UniquenessLaws.{linear_apart}
 
 module _ (old new : ℕ → Option Ends) (p n : ℕ)

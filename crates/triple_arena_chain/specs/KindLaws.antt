@@ -1,12 +1,18 @@
 -- What a kind of insertion asks for, in the words of lists.
-use Rattle.std.proofs.Common.{◌≡◌, ℕ, false, true, Option, Some, None, IsSome, IfSome, option_map, true≢false, refl, sym, ap, subst, inl, inr}
+use Rattle.std.proofs.Common.{◌≡◌, ℕ, false, true, Option, Some, None, IsSome, IfSome, option_map}
+use Rattle.std.proofs.Common.{true≢false, refl, sym, ap, subst, inl, inr}
 use Rattle.std.proofs.lemmas.Bool.Decides.{eqb_tells}
 use Rattle.triple_arena.specs.Entries.{value_if}
 use Rattle.triple_arena.specs.Content.{Content, entry_at}
-use Rattle.triple_arena_chain.specs.declared.kind.InsertKind.TheVariants.{Disconnected, SingleLinkCyclic, ChainEnd, ChainStart, NextTo, PrevTo, AtInterlink, Bridge}
+use Rattle.triple_arena_chain.specs.declared.kind.InsertKind.TheVariants.{Disconnected}
+use Rattle.triple_arena_chain.specs.declared.kind.InsertKind.TheVariants.{SingleLinkCyclic}
+use Rattle.triple_arena_chain.specs.declared.kind.InsertKind.TheVariants.{ChainEnd, ChainStart}
+use Rattle.triple_arena_chain.specs.declared.kind.InsertKind.TheVariants.{NextTo, PrevTo}
+use Rattle.triple_arena_chain.specs.declared.kind.InsertKind.TheVariants.{AtInterlink, Bridge}
 use Rattle.triple_arena_chain.specs.LinkShape.{IndexLink}
 use Rattle.triple_arena_chain.specs.Chains.{Ends, next_in, prev_in, next_at, prev_at}
-use Rattle.triple_arena_chain.specs.Kinds.{at_end, at_start, after_link, before_link, at_interlink, at_bridge}
+use Rattle.triple_arena_chain.specs.Kinds.{at_end, at_start, after_link, before_link, at_interlink}
+use Rattle.triple_arena_chain.specs.Kinds.{at_bridge}
 use Rattle.triple_arena_chain.specs.Links.{link_ends, ends_in, ends_found, place_among, IsPlaced}
 use Rattle.triple_arena_chain.specs.Lists.{IsPutIn, IsOwnRing}
 use Rattle.triple_arena_chain.specs.declared.place.Place.{Place}

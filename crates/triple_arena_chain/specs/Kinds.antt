@@ -2,7 +2,14 @@
 use Rattle.std.specs.Prelude.{ℕ, ◌==◌, Option, Some, None, if◌then◌else◌}
 use Rattle.std.specs.Option.{option_map}
 use Rattle.triple_arena_chain.specs.declared.kind.InsertKind.{InsertKind}
-use Rattle.triple_arena_chain.specs.declared.kind.InsertKind.TheVariants.{Disconnected, SingleLinkCyclic, ChainEnd, ChainEndInx, ChainStart, ChainStartInx, NextTo, NextToInx, PrevTo, PrevToInx, AtInterlink, AtInterlinkInx, Bridge, BridgeInx}
+use Rattle.triple_arena_chain.specs.declared.kind.InsertKind.TheVariants.{Disconnected}
+use Rattle.triple_arena_chain.specs.declared.kind.InsertKind.TheVariants.{SingleLinkCyclic}
+use Rattle.triple_arena_chain.specs.declared.kind.InsertKind.TheVariants.{ChainEnd, ChainEndInx}
+use Rattle.triple_arena_chain.specs.declared.kind.InsertKind.TheVariants.{ChainStart, ChainStartInx}
+use Rattle.triple_arena_chain.specs.declared.kind.InsertKind.TheVariants.{NextTo, NextToInx, PrevTo}
+use Rattle.triple_arena_chain.specs.declared.kind.InsertKind.TheVariants.{PrevToInx, AtInterlink}
+use Rattle.triple_arena_chain.specs.declared.kind.InsertKind.TheVariants.{AtInterlinkInx, Bridge}
+use Rattle.triple_arena_chain.specs.declared.kind.InsertKind.TheVariants.{BridgeInx}
 use Rattle.triple_arena_chain.specs.declared.place.Place.{Place}
 use Rattle.triple_arena_chain.specs.declared.place.Place.TheVariants.{Between, OwnRing}
 use Rattle.triple_arena_chain.specs.Chains.{Ends}

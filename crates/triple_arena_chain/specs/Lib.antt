@@ -20,6 +20,7 @@ pub mod DrainLaws
 pub mod Listed
 pub mod ListedLaws
 pub mod Renaming
+pub mod RenamingLaws
 pub mod CanonicalLayout
 pub mod Notes
 pub mod Runs

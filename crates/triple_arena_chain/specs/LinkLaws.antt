@@ -1,14 +1,19 @@
 -- What a write of an interlink, and of a value in a link, changes and keeps.
-use Rattle.std.proofs.Common.{◌≡◌, ◌==◌, if◌then◌else◌, ℕ, true, Option, Some, None, IsSome, IfSome, is_some, refl, sym, ap, subst, ◌∙◌, inl, inr}
+use Rattle.std.proofs.Common.{◌≡◌, ◌==◌, if◌then◌else◌, ℕ, true, Option, Some, None, IsSome, IfSome}
+use Rattle.std.proofs.Common.{is_some, refl, sym, ap, subst, ◌∙◌, inl, inr}
 use Rattle.std.specs.Option.{option_map}
 use Rattle.std.proofs.lemmas.Bool.Decides.{eqb_tells}
 use Rattle.triple_arena.specs.Entries.{with_value_at}
 use Rattle.triple_arena.specs.Content.{Content, entry_at, live_count, some_counter, IsWellFormed}
-use Rattle.triple_arena.specs.ContentLaws.{formed-with_value, entry-with_value, live-with_value, slots-with_value, counter-with_value, free-with_value, room-with_value}
+use Rattle.triple_arena.specs.ContentLaws.{formed-with_value, entry-with_value, live-with_value}
+use Rattle.triple_arena.specs.ContentLaws.{slots-with_value, counter-with_value, free-with_value}
+use Rattle.triple_arena.specs.ContentLaws.{room-with_value}
 use Rattle.triple_arena_chain.specs.LinkShape.{IndexLink}
 use Rattle.triple_arena_chain.specs.Chains.{Ends, with_next_if, with_prev_if, renext, reprev}
 use Rattle.triple_arena_chain.specs.ChainLaws.{IsAgreed-same}
-use Rattle.triple_arena_chain.specs.Links.{valued, values_in, with_link, with_link_of, with_value_in, IsKept, IsChained, link_ends, entry_ends, ends_in, with_next_of, with_prev_of}
+use Rattle.triple_arena_chain.specs.Links.{valued, values_in, with_link, with_link_of}
+use Rattle.triple_arena_chain.specs.Links.{with_value_in, IsKept, IsChained, link_ends, entry_ends}
+use Rattle.triple_arena_chain.specs.Links.{ends_in, with_next_of, with_prev_of}
 
 module _ {I T : Type 0} where
   -- what two changes in turn keep

@@ -2,7 +2,8 @@
 -- either leaves.
 use Rattle.std.specs.Prelude.{◌≡◌, ℕ, ◌+◌, max, length, drop, Option, Some, None, IsSome, IfSome}
 use Rattle.std.specs.Option.{option_map}
-use Rattle.triple_arena.specs.Content.{Content, entry_at, get, live_count, next_index, with_value, removed, IsWellFormed}
+use Rattle.triple_arena.specs.Content.{Content, entry_at, get, live_count, next_index, with_value}
+use Rattle.triple_arena.specs.Content.{removed, IsWellFormed}
 use Rattle.triple_arena_ptr.specs.Generation.{next_generation}
 use Rattle.triple_arena.specs.Entries.{with_entry, without}
 use Rattle.triple_arena_chain.specs.LinkShape.{IndexLink}

@@ -1,9 +1,17 @@
 -- Laws of chains as lists: a chain is known from the nexts of its indexes, an index stands in one
 -- chain, and a chain goes on.
-use Rattle.std.proofs.Common.{◌≡◌, ◌≢◌, ℕ, List, [], ◌∷◌, ◌++◌, Option, Some, None, IsSome, is_some, true, false, refl, sym, ap, subst, ◌∙◌, inl, inr, ◌⊎◌, arith, length, append_assoc, length-append}
-use Rattle.triple_arena_chain.specs.Chains.{Ends, next_in, prev_in, next_at, prev_at, IsAgreed, first_or, last_or, Stands, Off, On, Apart, IsLinear, IsRing, linear, ring}
-use Rattle.triple_arena_chain.specs.ChainLaws.{first_or-append, last_or-append, Off-front, Off-back, Off-append, Off-not_on, off_or_on, Apart-taken, Apart-both, On-cons, last_is, next_of_last, Stands-append, Stands-front, Stands-back}
-use Rattle.triple_arena_chain.specs.UniquenessLaws.{Ended, none, some_last, ended, same_around, stands_once}
+use Rattle.std.proofs.Common.{◌≡◌, ◌≢◌, ℕ, List, [], ◌∷◌, ◌++◌, Option, Some, None, IsSome, is_some}
+use Rattle.std.proofs.Common.{true, false, refl, sym, ap, subst, ◌∙◌, inl, inr, ◌⊎◌, arith, length}
+use Rattle.std.proofs.Common.{append_assoc, length-append}
+use Rattle.triple_arena_chain.specs.Chains.{Ends, next_in, prev_in, next_at, prev_at, IsAgreed}
+use Rattle.triple_arena_chain.specs.Chains.{first_or, last_or, Stands, Off, On, Apart, IsLinear}
+use Rattle.triple_arena_chain.specs.Chains.{IsRing, linear, ring}
+use Rattle.triple_arena_chain.specs.ChainLaws.{first_or-append, last_or-append, Off-front, Off-back}
+use Rattle.triple_arena_chain.specs.ChainLaws.{Off-append, Off-not_on, off_or_on, Apart-taken}
+use Rattle.triple_arena_chain.specs.ChainLaws.{Apart-both, On-cons, last_is, next_of_last}
+use Rattle.triple_arena_chain.specs.ChainLaws.{Stands-append, Stands-front, Stands-back}
+use Rattle.triple_arena_chain.specs.UniquenessLaws.{Ended, none, some_last, ended, same_around}
+use Rattle.triple_arena_chain.specs.UniquenessLaws.{stands_once}
 use Rattle.triple_arena_chain.specs.Lists.{Chain, Linear, Cyclic, members, IsChainOf}
 
 pub On-first : (x : ℕ) (xs : List ℕ) → On (x ∷ xs) x
@@ -54,8 +62,7 @@ pub Apart-append : (xs ys : List ℕ) → Apart xs → Apart ys → ((k : ℕ) �
 Apart-append [] ys first second off = second
 Apart-append (x ∷ xs) ys first second off = (
   Off-append xs ys x first.0 (off x (On-first x xs)),
-  Apart-append xs ys first.1 second
-      (λ k on. off k (On-cons x k xs on)),
+  Apart-append xs ys first.1 second (λ k on. off k (On-cons x k xs on)),
 )
 
 pub Apart-turned : (xs ys : List ℕ) → Apart (xs ++ ys) → Apart (ys ++ xs)
@@ -341,8 +348,7 @@ module _ (e e' : ℕ → Option Ends) where
   Stands-where b a (x ∷ xs) same s
       = (
         same x (On-first x xs) ∙ s.0,
-        Stands-where (Some x) a xs
-            (λ k on. same k (On-cons x k xs on)) s.1,
+        Stands-where (Some x) a xs (λ k on. same k (On-cons x k xs on)) s.1,
       )
 
   pub chain_where : (c : Chain) → ((k : ℕ) → On (members c) k → e' k ≡ e k) → IsChainOf e c

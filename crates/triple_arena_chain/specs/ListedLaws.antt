@@ -1,12 +1,14 @@
 -- The values of the links as one list, and what stands at each index.
-use Rattle.std.proofs.Common.{◌≡◌, ℕ, List, [], ◌∷◌, length, map, option_map, refl, sym, ap, subst, ◌∙◌, inl, inr}
+use Rattle.std.proofs.Common.{◌≡◌, ℕ, List, [], ◌∷◌, length, map, option_map, refl, sym, ap, subst}
+use Rattle.std.proofs.Common.{◌∙◌, inl, inr}
 use Rattle.std.proofs.lemmas.Bool.Decides.{eqb_tells}
 use Rattle.std.proofs.lemmas.List.{length-map}
 use Rattle.std.specs.List.Sorted.{IsStrictlyIncreasing}
 use Rattle.triple_arena.specs.Compression.{index_of}
 use Rattle.triple_arena.specs.Content.{Content, live_count}
 use Rattle.triple_arena.specs.Entries.{look_up}
-use Rattle.triple_arena.specs.LiveEntries.{live_entries, entry-listed, live_entries-length, live_entries-increase}
+use Rattle.triple_arena.specs.LiveEntries.{live_entries, entry-listed, live_entries-length}
+use Rattle.triple_arena.specs.LiveEntries.{live_entries-increase}
 use Rattle.triple_arena_chain.specs.LinkShape.{IndexLink}
 use Rattle.triple_arena_chain.specs.Links.{valued, values_in}
 use Rattle.triple_arena_chain.specs.Listed.{listed_value, listed_values}

@@ -2,7 +2,8 @@
 use Rattle.std.specs.Prelude.{◌≡◌, ◌≢◌, ℕ, ◌≤◌, List, [], ◌∷◌, ◌++◌, Option, Some, None, IsSome}
 use Rattle.triple_arena_chain.specs.declared.place.Place.{Place}
 use Rattle.triple_arena_chain.specs.declared.place.Place.TheVariants.{Between, OwnRing}
-use Rattle.triple_arena_chain.specs.Chains.{Ends, first_or, last_or, Off, On, Apart, IsLinear, IsRing}
+use Rattle.triple_arena_chain.specs.Chains.{Ends, first_or, last_or, Off, On, Apart, IsLinear}
+use Rattle.triple_arena_chain.specs.Chains.{IsRing}
 
 -- a chain as a list of indexes: a linear one from its start to its end, or a ring from one of its
 -- indexes once round

@@ -1,7 +1,8 @@
 -- Links that are brought to their places, one after another. The next index of a link that is
 -- placed is a new one, and its previous index is a note: it says where the link went that was
 -- there. All others have the interlinks that they had.
-use Rattle.std.specs.Prelude.{◌≡◌, ◌≢◌, ℕ, zero, suc, ◌+◌, ◌<◌, ◌≤◌, ◌⊎◌, [], Option, Some, None, is_some, IsSome, nat_le, if◌then◌else◌}
+use Rattle.std.specs.Prelude.{◌≡◌, ◌≢◌, ℕ, zero, suc, ◌+◌, ◌<◌, ◌≤◌, ◌⊎◌, [], Option, Some, None}
+use Rattle.std.specs.Prelude.{is_some, IsSome, nat_le, if◌then◌else◌}
 use Rattle.triple_arena.specs.Content.{Content, IsWellFormed}
 use Rattle.triple_arena_chain.specs.LinkShape.{IndexLink}
 use Rattle.triple_arena_chain.specs.Chains.{Ends, next_at, prev_at, with_prev, with_next_if}

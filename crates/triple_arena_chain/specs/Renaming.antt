@@ -1,6 +1,7 @@
 -- Indexes that are renamed, with the interlinks and the chains, and the renaming of the live
 -- indexes to the first ones, in the order that they have.
-use Rattle.std.specs.Prelude.{◌≡◌, ℕ, zero, suc, ◌+◌, List, map, slice_get, Bool, Option, Some, None, length, is_some, IsSome, if◌then◌else◌, []}
+use Rattle.std.specs.Prelude.{◌≡◌, ℕ, zero, suc, ◌+◌, List, map, slice_get, Bool, Option, Some}
+use Rattle.std.specs.Prelude.{None, length, is_some, IsSome, if◌then◌else◌, []}
 use Rattle.std.specs.Option.{option_map}
 use Rattle.triple_arena.specs.Compression.{renewed}
 use Rattle.triple_arena.specs.Content.{Content, live_count}

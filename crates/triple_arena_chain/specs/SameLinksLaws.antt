@@ -1,6 +1,7 @@
 -- What leaves the interlinks, and with them every chain: another counter or room, another
 -- generation at an index, another limit, and a recast of the values.
-use Rattle.std.proofs.Common.{◌≡◌, ℕ, zero, suc, List, [], ◌∷◌, get_or, Option, Some, None, Result, Ok, Err, option_map, inl, inr, refl, sym, ap, ◌∙◌}
+use Rattle.std.proofs.Common.{◌≡◌, ℕ, zero, suc, List, [], ◌∷◌, get_or, Option, Some, None, Result}
+use Rattle.std.proofs.Common.{Ok, Err, option_map, inl, inr, refl, sym, ap, ◌∙◌}
 use Rattle.std.proofs.lemmas.Bool.Decides.{eqb_tells}
 use Rattle.triple_arena_ptr.specs.Recast.{recast_answer, where_ok}
 use Rattle.triple_arena_ptr.specs.Generation.{next_generation}

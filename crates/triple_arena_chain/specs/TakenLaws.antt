@@ -1,12 +1,17 @@
 -- What the chains are once an index was taken out of its own.
-use Rattle.std.proofs.Common.{◌≡◌, ◌≢◌, ℕ, ◌==◌, if◌then◌else◌, List, [], ◌∷◌, ◌++◌, Option, Some, None, refl, sym, ap, subst, ◌∙◌, inl, inr}
+use Rattle.std.proofs.Common.{◌≡◌, ◌≢◌, ℕ, ◌==◌, if◌then◌else◌, List, [], ◌∷◌, ◌++◌, Option, Some}
+use Rattle.std.proofs.Common.{None, refl, sym, ap, subst, ◌∙◌, inl, inr}
 use Rattle.std.proofs.lemmas.Bool.{eq-eqb, ne_eqb}
 use Rattle.std.proofs.lemmas.Bool.Decides.{eqb_tells}
-use Rattle.triple_arena_chain.specs.Chains.{Ends, next_in, prev_in, next_at, prev_at, IsAgreed, first_or, last_or, Stands, Off, IsLinear, IsRing, with_next_if, with_prev_if, bridged, taken_from, taken_out, dropped}
+use Rattle.triple_arena_chain.specs.Chains.{Ends, next_in, prev_in, next_at, prev_at, IsAgreed}
+use Rattle.triple_arena_chain.specs.Chains.{first_or, last_or, Stands, Off, IsLinear, IsRing}
+use Rattle.triple_arena_chain.specs.Chains.{with_next_if, with_prev_if, bridged, taken_from}
+use Rattle.triple_arena_chain.specs.Chains.{taken_out, dropped}
 use Rattle.triple_arena_chain.specs.ChainLaws.{Stands-append, Stands-front, Stands-back}
 use Rattle.triple_arena_chain.specs.UniquenessLaws.{linear_apart}
 use Rattle.triple_arena_chain.specs.Lists.{members, IsTaken}
-use Rattle.triple_arena_chain.specs.ListLaws.{Apart-split, on_differs, holds_next, holds_prev, chain_where, Stands-where}
+use Rattle.triple_arena_chain.specs.ListLaws.{Apart-split, on_differs, holds_next, holds_prev}
+use Rattle.triple_arena_chain.specs.ListLaws.{chain_where, Stands-where}
 
 -- this, or another in its place where it is this index
 abbrev over : ℕ → Option ℕ → Option ℕ → Option ℕ
@@ -18,13 +23,6 @@ over_self i other = rw (eq-eqb i i refl) refl
 
 over_other : (i k : ℕ) (other : Option ℕ) → k ≢ i → over i other (Some k) ≡ Some k
 over_other i k other differs = rw (ne_eqb k i differs) refl
-
-over_same : (i : ℕ) (o : Option ℕ) → over i o o ≡ o
-over_same i None = refl
-over_same i (Some k) = elim (eqb_tells k i) [
-  | inl same ↦ rw same.0 refl
-  | inr differs ↦ rw differs.0 refl
-]
 
 over_first : (i : ℕ) (other a : Option ℕ) (xs : List ℕ) → Off xs i
     → over i other (first_or xs a) ≡ first_or xs (over i other a)

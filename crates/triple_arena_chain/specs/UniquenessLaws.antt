@@ -1,6 +1,9 @@
 -- A live index stands in one chain alone, and there once.
-use Rattle.std.proofs.Common.{◌≡◌, ℕ, zero, suc, ◌<◌, List, [], ◌∷◌, ◌++◌, length, Option, Some, None, refl, sym, ap, subst, ◌∙◌, arith, inl, inr, append_assoc, length-append}
-use Rattle.triple_arena_chain.specs.Chains.{Ends, next_in, prev_in, next_at, prev_at, last_or, Stands, Off, Apart, On, Standing, linear, ring}
+use Rattle.std.proofs.Common.{◌≡◌, ℕ, zero, suc, ◌<◌, List, [], ◌∷◌, ◌++◌, length, Option, Some}
+use Rattle.std.proofs.Common.{None, refl, sym, ap, subst, ◌∙◌, arith, inl, inr, append_assoc}
+use Rattle.std.proofs.Common.{length-append}
+use Rattle.triple_arena_chain.specs.Chains.{Ends, next_in, prev_in, next_at, prev_at, last_or}
+use Rattle.triple_arena_chain.specs.Chains.{Stands, Off, Apart, On, Standing, linear, ring}
 use Rattle.triple_arena_chain.specs.ChainLaws.{last_or-append, Stands-back, Stands-front, off_or_on}
 
 -- a list is empty, or another one and its last index

@@ -1,7 +1,10 @@
 -- A walk that ends is known by the steps that it takes.
-use Rattle.std.proofs.Common.{◌≡◌, ℕ, zero, suc, ◌≤◌, List, [], ◌∷◌, length, Option, Some, None, IsSome, true≢false, IfSome, option_map, ◌+◌, refl, sym, ap, subst, ◌∙◌, arith}
+use Rattle.std.proofs.Common.{◌≡◌, ℕ, zero, suc, ◌≤◌, List, [], ◌∷◌, length, Option, Some, None}
+use Rattle.std.proofs.Common.{IsSome, true≢false, IfSome, option_map, ◌+◌, refl, sym, ap, subst}
+use Rattle.std.proofs.Common.{◌∙◌, arith}
 use Rattle.triple_arena_chain.specs.Chains.{Ends}
-use Rattle.triple_arena_chain.specs.Walks.{ChainWalk, past_index, Leaves, from_index, from_where, steps_of, IsWalkAlong, ChainSteps, left_over, IsEnding}
+use Rattle.triple_arena_chain.specs.Walks.{ChainWalk, past_index, Leaves, from_index, from_where}
+use Rattle.triple_arena_chain.specs.Walks.{steps_of, IsWalkAlong, ChainSteps, left_over, IsEnding}
 use Rattle.triple_arena.specs.Content.{Content, entry_at}
 use Rattle.triple_arena_chain.specs.LinkShape.{IndexLink}
 use Rattle.triple_arena_chain.specs.Links.{valued, values_in, entry_ends, ends_in}
@@ -63,8 +66,7 @@ module _ (e : ℕ → Option Ends) where
           subst (λ z. Leaves e (past_index e w z) ys) same more.1.1 in
           let others = steps-left n (past_index e w x) ys rest (omega (arith, less, long)) in (
             is ∙ ap (λ z. z ∷ ys) same ∙ ap (λ l. x ∷ l) (sym others),
-            subst
-                (Leaves e (past_index e w x)) (sym others) rest,
+            subst (Leaves e (past_index e w x)) (sym others) rest,
           )
 
 module _ {I T : Type 0} (number : I → ℕ) where

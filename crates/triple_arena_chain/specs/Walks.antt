@@ -1,5 +1,6 @@
 -- Walks along a chain.
-use Rattle.std.specs.Prelude.{◌≡◌, ℕ, zero, suc, ◌+◌, ◌==◌, Bool, true, false, List, [], ◌∷◌, ◌++◌, length, reverse, Option, Some, None, if◌then◌else◌, IsSome, IfSome}
+use Rattle.std.specs.Prelude.{◌≡◌, ℕ, zero, suc, ◌+◌, ◌==◌, Bool, true, false, List, [], ◌∷◌, ◌++◌}
+use Rattle.std.specs.Prelude.{length, reverse, Option, Some, None, if◌then◌else◌, IsSome, IfSome}
 use Rattle.triple_arena.specs.Content.{Content}
 use Rattle.triple_arena.specs.Entries.{generation_at}
 use Rattle.triple_arena_chain.specs.Chains.{Ends, next_at, prev_at, IsLinear, IsRing}

@@ -1,17 +1,24 @@
 //! What every chain arena does with its links.
-ghost use Rattle.std.specs.Prelude.{◌≡◌, ◌+◌, ◌<◌, ◌↔◌, ℕ, Bool, List, length, None, Some, Option, IsSome, IsTrue, IfOk, IfSome, IfNone, OnOk, OnErr, OnSome, option_copied};
+ghost use Rattle.std.specs.Prelude.{◌≡◌, ◌+◌, ◌<◌, ◌↔◌, ℕ, Bool, List, length, None, Some, Option};
+ghost use Rattle.std.specs.Prelude.{IsSome, IsTrue, IfOk, IfSome, IfNone, OnOk, OnErr, OnSome};
+ghost use Rattle.std.specs.Prelude.{option_copied};
 ghost use Rattle.std.specs.Option.{option_map};
 ghost use Rattle.triple_arena_ptr.specs.Generation.{next_wraps, second_generation};
 ghost use Rattle.triple_arena_ptr.specs.InvalidationOption.{value_of, overflowed};
 ghost use Rattle.triple_arena_ptr.specs.InvalidationResult.{answer_of};
 ghost use Rattle.triple_arena_stack.specs.Room.{Room, room_after};
-ghost use Rattle.triple_arena.specs.Content.{Content, get, entry_at, live_count, arena_capacity, some_counter, removed, empty, reallocated, invalidated, cleared};
+ghost use Rattle.triple_arena.specs.Content.{Content, get, entry_at, live_count, arena_capacity};
+ghost use Rattle.triple_arena.specs.Content.{some_counter, removed, empty, reallocated};
+ghost use Rattle.triple_arena.specs.Content.{invalidated, cleared};
 ghost use Rattle.triple_arena.specs.Entries.{value_if};
 ghost use Rattle.triple_arena_chain.specs.declared.kind.InsertKind.TheVariants.{Bridge};
 ghost use Rattle.triple_arena_chain.specs.LinkShape.{IndexLink};
-ghost use Rattle.triple_arena_chain.specs.Chains.{next_in, prev_in, next_at, prev_at, linked, unlinked, exchanged};
+ghost use Rattle.triple_arena_chain.specs.Chains.{next_in, prev_in, next_at, prev_at, linked};
+ghost use Rattle.triple_arena_chain.specs.Chains.{unlinked, exchanged};
 ghost use Rattle.triple_arena_chain.specs.InsertEntry.{IsLinkAnswer, IsLinkRefusal};
-ghost use Rattle.triple_arena_chain.specs.Links.{ends_in, ends_found, values_in, with_value_in, link_removed, place_among, bridged_over, IsChained, IsPlaced, IsRelinked, IsTakenOut};
+ghost use Rattle.triple_arena_chain.specs.Links.{ends_in, ends_found, values_in, with_value_in};
+ghost use Rattle.triple_arena_chain.specs.Links.{link_removed, place_among, bridged_over};
+ghost use Rattle.triple_arena_chain.specs.Links.{IsChained, IsPlaced, IsRelinked, IsTakenOut};
 ghost use Rattle.triple_arena_chain.specs.Lists.{IsAppended, IsSplit, IsExchanged};
 ghost use Rattle.triple_arena_chain.specs.Renaming.{IsCompacted};
 ghost use Rattle.triple_arena_chain.specs.Values.{IsLivePtr};
@@ -233,7 +240,8 @@ pub trait ChainArenaTrait<P: PtrCore, T: Drop>: ArenaTrait<P, T> {
     ghost links_chained: { (s : Self) → Self.is_formed s → IsChained P.Inx.number (links s) };
 
     // What a step of an advancer gives and leaves.
-    ghost advances_along: { (before : Self.ChainAdvancer) (s : Self) (given : Option P) (after : Self.ChainAdvancer)
+    ghost advances_along: { (before : Self.ChainAdvancer) (s : Self) (given : Option P)
+        (after : Self.ChainAdvancer)
         → Self.ChainAdvancer.advance_gives before s given after
         → ChainSteps (ends_in P.Inx.number (links s)) (values_in (links s)) (chain_walk before)
         (option_map (λ p. (P.index p, P.generation p)) given) (chain_walk after) };

@@ -1,15 +1,19 @@
 //! What follows from the calls of a chain arena.
-ghost use Rattle.std.specs.Prelude.{◌≡◌, ◌↔◌, ℕ, Bool, List, [], ◌∷◌, ◌++◌, Option, Some, IsSome, IfSome};
+ghost use Rattle.std.specs.Prelude.{◌≡◌, ◌↔◌, ℕ, Bool, List, [], ◌∷◌, ◌++◌, Option, Some, IsSome};
+ghost use Rattle.std.specs.Prelude.{IfSome};
 ghost use Rattle.triple_arena.specs.Content.{Content};
 ghost use Rattle.triple_arena_chain.specs.CanonicalLayout.{IsCanonical};
 ghost use Rattle.triple_arena_chain.specs.CanonicalTransfer.{AreInOrder};
-ghost use Rattle.triple_arena_chain.specs.declared.kind.InsertKind.TheVariants.{Bridge, NextTo, PrevTo};
+ghost use Rattle.triple_arena_chain.specs.declared.kind.InsertKind.TheVariants.{Bridge, NextTo};
+ghost use Rattle.triple_arena_chain.specs.declared.kind.InsertKind.TheVariants.{PrevTo};
 ghost use Rattle.triple_arena_chain.specs.LinkShape.{IndexLink};
-ghost use Rattle.triple_arena_chain.specs.Chains.{Ends, next_in, next_at, linked, unlinked, exchanged, IsLinear, IsRing, On, Apart};
+ghost use Rattle.triple_arena_chain.specs.Chains.{Ends, next_in, next_at, linked, unlinked};
+ghost use Rattle.triple_arena_chain.specs.Chains.{exchanged, IsLinear, IsRing, On, Apart};
 ghost use Rattle.triple_arena_chain.specs.Lists.{Chain, members, IsChainOf, AreChains};
 ghost use Rattle.triple_arena_chain.specs.Runs.{IsRunFrom};
 ghost use Rattle.triple_arena_chain.specs.Walks.{IsWalkFrom};
-ghost use Rattle.triple_arena_chain.specs.Links.{ends_in, ends_found, values_in, place_among, IsChained, IsPlaced, IsTakenOut, IsRelinked};
+ghost use Rattle.triple_arena_chain.specs.Links.{ends_in, ends_found, values_in, place_among};
+ghost use Rattle.triple_arena_chain.specs.Links.{IsChained, IsPlaced, IsTakenOut, IsRelinked};
 ghost use Rattle.triple_arena_chain.specs.UniquenessLaws.{IsInOneChain};
 
 use triple_arena::PtrCore;

@@ -1,7 +1,8 @@
 //! The place that an insertion's kind asks for.
 ghost use Rattle.std.specs.Prelude.{◌≡◌, ⊤};
 ghost use Rattle.std.specs.Option.{option_map};
-ghost use Rattle.triple_arena_chain.specs.Kinds.{at_end, at_start, after_link, before_link, at_interlink, at_bridge, ends_by, place_by};
+ghost use Rattle.triple_arena_chain.specs.Kinds.{at_end, at_start, after_link, before_link};
+ghost use Rattle.triple_arena_chain.specs.Kinds.{at_interlink, at_bridge, ends_by, place_by};
 
 use triple_arena::{AllocError, PtrInxCore};
 

@@ -1,6 +1,9 @@
--- A list whose keys ascend still does after an insertion where the key belongs, and after a removal.
-use Rattle.std.proofs.Common.{◌≡◌, ◌≢◌, ℕ, zero, suc, ◌+◌, List, [], ◌∷◌, ◌++◌, get_or, filter_map, Option, Some}
-use Rattle.std.proofs.Common.{None, Result, Ok, Err, arith, refl, sym, ap, ◌∙◌, subst, false, true, inl, inr}
+-- A list whose keys ascend still does after an insertion where the key belongs, and after a
+-- removal.
+use Rattle.std.proofs.Common.{◌≡◌, ◌≢◌, ℕ, zero, suc, ◌+◌, List, [], ◌∷◌, ◌++◌, get_or, filter_map}
+use Rattle.std.proofs.Common.{Option, Some}
+use Rattle.std.proofs.Common.{None, Result, Ok, Err, arith, refl, sym, ap, ◌∙◌, subst, false, true}
+use Rattle.std.proofs.Common.{inl, inr}
 use Rattle.std.specs.Option.{option_map}
 use Rattle.std.proofs.lemmas.Bool.{eq-eqb, ne_eqb}
 use Rattle.std.proofs.lemmas.Bool.Decides.{eqb_tells}
@@ -19,7 +22,8 @@ use Rattle.triple_arena_chain.specs.ChainLaws.{Apart-taken, Off-front, Off-back}
 use Rattle.triple_arena_chain.specs.Links.{ends_in}
 use Rattle.triple_arena_chain.specs.UniquenessLaws.{linear_apart}
 use Rattle.rank_tree.specs.Search.{AllIn}
-use Rattle.triple_arena_ord.specs.Ordered.{Ordered, IsOrdered, IsAscending, order_in, entry_in, asked_of}
+use Rattle.triple_arena_ord.specs.Ordered.{Ordered, IsOrdered, IsAscending, order_in, entry_in}
+use Rattle.triple_arena_ord.specs.Ordered.{asked_of}
 use Rattle.triple_arena_ord.specs.Inserted.{StandsAt, IsReplaced, IsAdded, IsInsertedAt}
 use Rattle.triple_arena_ord.specs.Removal.{IsEntryRemoved}
 use Rattle.triple_arena_ord.proofs.SortedLemmas.{parts}
@@ -35,24 +39,30 @@ module _ {X : Type 0} (R : X → X → Ordering) where
   pub tail : (x : X) (xs : List X) → IsSorted R (x ∷ xs) → IsSorted R xs
   tail x xs s k d low high =
       let up : suc k + 1 ≡ suc (k + 1) = omega arith in
-      subst (λ z. is_lt (R (get_or (x ∷ xs) z d) (get_or xs k d)) ≡ false) up (s (suc k) d (omega arith) (omega arith))
+      subst (λ z. is_lt (R (get_or (x ∷ xs) z d) (get_or xs k d)) ≡ false) up
+      (s (suc k) d (omega arith) (omega arith))
 
   pub single : (x : X) → IsSorted R (x ∷ [])
   single x k d low high = absurd (omega arith)
 
-  pub cons : (x y : X) (xs : List X) → is_lt (R y x) ≡ false → IsSorted R (y ∷ xs) → IsSorted R (x ∷ y ∷ xs)
+  pub cons : (x y : X) (xs : List X) → is_lt (R y x) ≡ false → IsSorted R (y ∷ xs)
+      → IsSorted R (x ∷ y ∷ xs)
   cons x y xs h s zero d low high = h
   cons x y xs h s (suc k) d low high =
       let down : suc (k + 1) ≡ suc k + 1 = omega arith in
-      subst (λ z. is_lt (R (get_or (x ∷ y ∷ xs) z d) (get_or (y ∷ xs) k d)) ≡ false) down (s k d (omega arith) (omega arith))
+      subst (λ z. is_lt (R (get_or (x ∷ y ∷ xs) z d) (get_or (y ∷ xs) k d)) ≡ false) down
+      (s k d (omega arith) (omega arith))
 
   -- one more element between those that are not greater and those that are not less
   put : (xs : List X) (x : X) (ys : List X) → IsSorted R (xs ++ ys)
-      → AllOf (λ z. is_lt (R x z) ≡ false) xs → AllOf (λ z. is_lt (R z x) ≡ false) ys → IsSorted R (xs ++ x ∷ ys)
+      → AllOf (λ z. is_lt (R x z) ≡ false) xs → AllOf (λ z. is_lt (R z x) ≡ false) ys
+      → IsSorted R (xs ++ x ∷ ys)
   put [] x [] s low high = single x
   put [] x (y ∷ ys) s low high = cons x y ys high.0 s
   put (a ∷ []) x ys s low high = cons a x ys low.0 (put [] x ys (tail a ys s) tt high)
-  put (a ∷ b ∷ xs) x ys s low high = cons a b (xs ++ x ∷ ys) (first a b (xs ++ ys) s) (put (b ∷ xs) x ys (tail a (b ∷ xs ++ ys) s) low.1 high)
+  put (a ∷ b ∷ xs) x ys s low high =
+      cons a b (xs ++ x ∷ ys) (first a b (xs ++ ys) s)
+      (put (b ∷ xs) x ys (tail a (b ∷ xs ++ ys) s) low.1 high)
 
   AllOf-map : (P Q : X → Type 0) → ((z : X) → P z → Q z) → (xs : List X) → AllOf P xs → AllOf Q xs
   AllOf-map P Q f [] all = tt
@@ -68,15 +78,23 @@ module _ {X : Type 0} (R : X → X → Ordering) where
   rising-sorted (x ∷ []) p = single x
   rising-sorted (x ∷ y ∷ xs) p = cons x y xs p.0.0 (rising-sorted (y ∷ xs) p.1)
 
-  sorted-rising : ((x y z : X) → is_lt (R y x) ≡ false → is_lt (R z y) ≡ false → is_lt (R z x) ≡ false) → (xs : List X) → IsSorted R xs → Rising xs
+  sorted-rising : ((x y z : X) → is_lt (R y x) ≡ false → is_lt (R z y) ≡ false
+      → is_lt (R z x) ≡ false) → (xs : List X) → IsSorted R xs → Rising xs
   sorted-rising trans [] s = tt
   sorted-rising trans (x ∷ []) s = (tt, tt)
   sorted-rising trans (x ∷ y ∷ xs) s =
       let rest = sorted-rising trans (y ∷ xs) (tail x (y ∷ xs) s) in
-      let h = first x y xs s in
-      ((h, AllOf-map (λ z. is_lt (R z y) ≡ false) (λ z. is_lt (R z x) ≡ false) (λ z low. trans x y z h low) xs rest.0), rest)
+      let h = first x y xs s in (
+        (
+          h,
+          AllOf-map (λ z. is_lt (R z y) ≡ false) (λ z. is_lt (R z x) ≡ false)
+              (λ z low. trans x y z h low) xs rest.0,
+        ),
+        rest,
+      )
 
-  all-later : (Q : X → Type 0) (o : Option X) (xs : List X) → AllOf Q (cons_option o xs) → AllOf Q xs
+  all-later : (Q : X → Type 0) (o : Option X) (xs : List X) → AllOf Q (cons_option o xs)
+      → AllOf Q xs
   all-later Q None xs all = all
   all-later Q (Some x) xs all = all.1
 
@@ -104,10 +122,13 @@ module _ {X : Type 0} (R : X → X → Ordering) where
   carried (x ∷ a ∷ xs) (y ∷ []) p s = absurd p.1
   carried (x ∷ a ∷ xs) (y ∷ b ∷ ys) p s =
       let h : R a x ≡ R b y = p.1.0.left x ∙ p.0.right b in
-      cons y b ys (ap is_lt (sym h) ∙ first x a xs s) (carried (a ∷ xs) (b ∷ ys) p.1 (tail x (a ∷ xs) s))
+      cons y b ys (ap is_lt (sym h) ∙ first x a xs s)
+      (carried (a ∷ xs) (b ∷ ys) p.1 (tail x (a ∷ xs) s))
 
--- one more index in the list, between entries whose keys are not greater and entries whose keys are not less
-pub record IsBetween {K T : Type 0} (R : K → K → Ordering) (key : T → K) (k : K) (entry : ℕ → Option (ℕ × T)) (i : ℕ) (old new : List ℕ) : Type 0 where
+-- one more index in the list, between entries whose keys are not greater and entries whose keys are
+-- not less
+pub record IsBetween {K T : Type 0} (R : K → K → Ordering) (key : T → K) (k : K)
+    (entry : ℕ → Option (ℕ × T)) (i : ℕ) (old new : List ℕ) : Type 0 where
   pub before : List ℕ
   pub after : List ℕ
   pub was : old ≡ before ++ after
@@ -122,29 +143,35 @@ module _ {K T : Type 0} (R : K → K → Ordering) (key : T → K) (total : IsTo
   abbrev listed_of : (ℕ → Option (ℕ × T)) → List ℕ → List (ℕ × (ℕ × T))
   listed_of entry w = filter_map (λ i. option_map (λ e. (i, e)) (entry i)) w
 
-  listed-same : (a b : ℕ → Option (ℕ × T)) → ((k : ℕ) → a k ≡ b k) → (xs : List ℕ) → listed_of a xs ≡ listed_of b xs
+  listed-same : (a b : ℕ → Option (ℕ × T)) → ((k : ℕ) → a k ≡ b k) → (xs : List ℕ)
+      → listed_of a xs ≡ listed_of b xs
   listed-same a b h [] = refl
   listed-same a b h (x ∷ xs) = rw (h x, listed-same a b h xs) refl
 
-  listed-other : (entry : ℕ → Option (ℕ × T)) (n : ℕ) (e : ℕ × T) (xs : List ℕ) → Off xs n → listed_of (with_entry entry n e) xs ≡ listed_of entry xs
+  listed-other : (entry : ℕ → Option (ℕ × T)) (n : ℕ) (e : ℕ × T) (xs : List ℕ) → Off xs n
+      → listed_of (with_entry entry n e) xs ≡ listed_of entry xs
   listed-other entry n e [] off = refl
   listed-other entry n e (x ∷ xs) off = by (entry x) refl (listed-other entry n e xs off.1)
     where
       other : with_entry entry n e x ≡ entry x
       other = rw (ne_eqb x n (off.0)) refl
 
-      by : (o : Option (ℕ × T)) → entry x ≡ o → listed_of (with_entry entry n e) xs ≡ listed_of entry xs
+      by : (o : Option (ℕ × T)) → entry x ≡ o
+          → listed_of (with_entry entry n e) xs ≡ listed_of entry xs
           → listed_of (with_entry entry n e) (x ∷ xs) ≡ listed_of entry (x ∷ xs)
       by None at rest = rw (other, at) rest
       by (Some o) at rest = rw (other, at) (ap (λ l. (x, o) ∷ l) rest)
 
   -- what is asked of each index holds of each that is listed
-  listed-all : (entry : ℕ → Option (ℕ × T)) (k : K) (A : Ordering → Type 0) (Q : ℕ × (ℕ × T) → Type 0) → ((z : ℕ × (ℕ × T)) → A (R k (key z.1.1)) → Q z)
-      → (xs : List ℕ) → AllIn (λ j. A (asked_of R key k (entry j))) xs → AllOf below Q (listed_of entry xs)
+  listed-all : (entry : ℕ → Option (ℕ × T)) (k : K) (A : Ordering → Type 0)
+      (Q : ℕ × (ℕ × T) → Type 0) → ((z : ℕ × (ℕ × T)) → A (R k (key z.1.1)) → Q z)
+      → (xs : List ℕ) → AllIn (λ j. A (asked_of R key k (entry j))) xs
+      → AllOf below Q (listed_of entry xs)
   listed-all entry k A Q f [] all = tt
   listed-all entry k A Q f (x ∷ xs) all = by (entry x) refl (listed-all entry k A Q f xs all.1)
     where
-      by : (o : Option (ℕ × T)) → entry x ≡ o → AllOf below Q (listed_of entry xs) → AllOf below Q (listed_of entry (x ∷ xs))
+      by : (o : Option (ℕ × T)) → entry x ≡ o → AllOf below Q (listed_of entry xs)
+          → AllOf below Q (listed_of entry (x ∷ xs))
       by None at rest = rw at rest
       by (Some o) at rest =
           let here : A (R k (key o.1)) = subst (λ e. A (asked_of R key k e)) at all.0 in
@@ -167,9 +194,11 @@ module _ {K T : Type 0} (R : K → K → Ordering) (key : T → K) (total : IsTo
       by Greater e = ap is_lt e
 
   -- one more entry between those that are not greater and those that are not less
-  added : (entry new : ℕ → Option (ℕ × T)) (n g : ℕ) (t : T) (xs ys : List ℕ) → ((k : ℕ) → new k ≡ with_entry entry n (g, t) k) → Apart (xs ++ n ∷ ys)
+  added : (entry new : ℕ → Option (ℕ × T)) (n g : ℕ) (t : T) (xs ys : List ℕ)
+      → ((k : ℕ) → new k ≡ with_entry entry n (g, t) k) → Apart (xs ++ n ∷ ys)
       → IsSorted below (listed_of entry (xs ++ ys))
-      → AllIn (λ j. asked_of R key (key t) (entry j) ≢ Less) xs → AllIn (λ j. asked_of R key (key t) (entry j) ≢ Greater) ys
+      → AllIn (λ j. asked_of R key (key t) (entry j) ≢ Less) xs
+      → AllIn (λ j. asked_of R key (key t) (entry j) ≢ Greater) ys
       → IsSorted below (listed_of new (xs ++ n ∷ ys))
   added entry new n g t xs ys is apart s low high =
       let off = (Apart-taken xs ys n apart).1 in
@@ -179,56 +208,73 @@ module _ {K T : Type 0} (R : K → K → Ordering) (key : T → K) (total : IsTo
       let w : ℕ → Option (ℕ × (ℕ × T)) = λ i. option_map (λ e. (i, e)) (with_entry entry n e i) in
       let here : listed_of (with_entry entry n e) (n ∷ ys) ≡ x ∷ listed_of entry ys =
       rw (eq-eqb n n refl) (ap (λ l. x ∷ l) (listed-other entry n e ys (Off-back xs ys n off))) in
-      let front : listed_of (with_entry entry n e) xs ≡ listed_of entry xs = listed-other entry n e xs (Off-front xs ys n off) in
-      let split : listed_of new (xs ++ n ∷ ys) ≡ listed_of (with_entry entry n e) xs ++ listed_of (with_entry entry n e) (n ∷ ys) =
+      let front : listed_of (with_entry entry n e) xs ≡ listed_of entry xs =
+      listed-other entry n e xs (Off-front xs ys n off) in
+      let split : listed_of new (xs ++ n ∷ ys)
+      ≡ listed_of (with_entry entry n e) xs ++ listed_of (with_entry entry n e) (n ∷ ys) =
       listed-same new (with_entry entry n e) is (xs ++ n ∷ ys) ∙ filter_map-append w xs (n ∷ ys) in
       let whole : listed_of new (xs ++ n ∷ ys) ≡ listed_of entry xs ++ x ∷ listed_of entry ys =
-      split ∙ ap (λ l. l ++ listed_of (with_entry entry n e) (n ∷ ys)) front ∙ ap (λ l. listed_of entry xs ++ l) here in
-      let sorted = put below (listed_of entry xs) x (listed_of entry ys) (subst (IsSorted below) (filter_map-append h xs ys) s)
-      (listed-all entry (key t) (λ d. d ≢ Less) (λ z. is_lt (below x z) ≡ false) (λ z h. not_above (key t) (key z.1.1) h) xs low)
-      (listed-all entry (key t) (λ d. d ≢ Greater) (λ z. is_lt (below z x) ≡ false) (λ z h. not_below (key t) (key z.1.1) h) ys high) in
+      split ∙ ap (λ l. l ++ listed_of (with_entry entry n e) (n ∷ ys)) front
+      ∙ ap (λ l. listed_of entry xs ++ l) here in
+      let sorted = put below (listed_of entry xs) x (listed_of entry ys)
+      (subst (IsSorted below) (filter_map-append h xs ys) s)
+      (listed-all entry (key t) (λ d. d ≢ Less) (λ z. is_lt (below x z) ≡ false)
+      (λ z h. not_above (key t) (key z.1.1) h) xs low)
+      (listed-all entry (key t) (λ d. d ≢ Greater) (λ z. is_lt (below z x) ≡ false)
+      (λ z h. not_below (key t) (key z.1.1) h) ys high) in
       subst (IsSorted below) (sym whole) sorted
 
   alike : (x g : ℕ) (t u : T) → R (key t) (key u) ≡ Equal → Alike below (x, (g, u)) (x, (g, t))
   alike x g t u e =
-      let right : (k : K) → R k (key u) ≡ R k (key t) = λ k. sym (alike_right total (key t) (key u) k e) in
+      let right : (k : K) → R k (key u) ≡ R k (key t) =
+      λ k. sym (alike_right total (key t) (key u) k e) in
       record {
-        left = λ z. total.antisymm (key u) (key z.1.1) ∙ ap ordering_reverse (right (key z.1.1)) ∙ sym (total.antisymm (key t) (key z.1.1));
+        left = λ z. total.antisymm (key u) (key z.1.1) ∙ ap ordering_reverse (right (key z.1.1))
+            ∙ sym (total.antisymm (key t) (key z.1.1));
         right = λ z. right (key z.1.1);
       }
 
   -- an item with an equal key in the place of another
-  paired : (entry : ℕ → Option (ℕ × T)) (i g : ℕ) (t u : T) → entry i ≡ Some (g, u) → R (key t) (key u) ≡ Equal
+  paired : (entry : ℕ → Option (ℕ × T)) (i g : ℕ) (t u : T) → entry i ≡ Some (g, u)
+      → R (key t) (key u) ≡ Equal
       → (w : List ℕ) → Pairs below (listed_of entry w) (listed_of (with_entry entry i (g, t)) w)
   paired entry i g t u was e [] = tt
   paired entry i g t u was e (x ∷ xs) =
       let rest = paired entry i g t u was e xs in
       elim (eqb_tells x i) [
-        | inl same ↦ let at : entry x ≡ Some (g, u) = ap entry same.1 ∙ was in rw (same.0, at) (alike x g t u e, rest)
+        | inl same ↦ let at : entry x ≡ Some (g, u) = ap entry same.1
+            ∙ was in rw (same.0, at) (alike x g t u e, rest)
         | inr other ↦ rw other.0 (by (entry x) refl rest)
       ]
     where
-      by : (o : Option (ℕ × T)) → entry x ≡ o → Pairs below (listed_of entry xs) (listed_of (with_entry entry i (g, t)) xs)
+      by : (o : Option (ℕ × T)) → entry x ≡ o
+          → Pairs below (listed_of entry xs) (listed_of (with_entry entry i (g, t)) xs)
           → Pairs below (filter_map (λ i. option_map (λ e. (i, e)) (entry i)) (x ∷ xs))
-          (cons_option (option_map (λ e. (x, e)) (entry x)) (listed_of (with_entry entry i (g, t)) xs))
+          (cons_option (option_map (λ e. (x, e)) (entry x))
+          (listed_of (with_entry entry i (g, t)) xs))
       by None at rest = rw at rest
       by (Some o) at rest = rw at (record { left = λ z. refl; right = λ z. refl }, rest)
 
   -- entries whose keys are the same
-  keyed : (a b : ℕ → Option (ℕ × T)) → ((k : ℕ) → option_map (λ e. key e.1) (b k) ≡ option_map (λ e. key e.1) (a k))
+  keyed : (a b : ℕ → Option (ℕ × T))
+      → ((k : ℕ) → option_map (λ e. key e.1) (b k) ≡ option_map (λ e. key e.1) (a k))
       → (w : List ℕ) → Pairs below (listed_of a w) (listed_of b w)
   keyed a b same [] = tt
   keyed a b same (x ∷ xs) = by (a x) refl (b x) refl (keyed a b same xs)
     where
-      by : (o : Option (ℕ × T)) → a x ≡ o → (q : Option (ℕ × T)) → b x ≡ q → Pairs below (listed_of a xs) (listed_of b xs)
+      by : (o : Option (ℕ × T)) → a x ≡ o → (q : Option (ℕ × T)) → b x ≡ q
+          → Pairs below (listed_of a xs) (listed_of b xs)
           → Pairs below (listed_of a (x ∷ xs)) (listed_of b (x ∷ xs))
       by None at None to rest = rw (at, to) rest
       by None at (Some q) to rest =
-          absurd (let z : Some (key q.1) ≡ None = sym (ap (option_map (λ e. key e.1)) to) ∙ same x ∙ ap (option_map (λ e. key e.1)) at in cc)
+          absurd (let z : Some (key q.1) ≡ None = sym (ap (option_map (λ e. key e.1)) to) ∙ same x
+          ∙ ap (option_map (λ e. key e.1)) at in cc)
       by (Some o) at None to rest =
-          absurd (let z : None ≡ Some (key o.1) = sym (ap (option_map (λ e. key e.1)) to) ∙ same x ∙ ap (option_map (λ e. key e.1)) at in cc)
+          absurd (let z : None ≡ Some (key o.1) = sym (ap (option_map (λ e. key e.1)) to) ∙ same x
+          ∙ ap (option_map (λ e. key e.1)) at in cc)
       by (Some o) at (Some q) to rest =
-          let found : Some (key q.1) ≡ Some (key o.1) = sym (ap (option_map (λ e. key e.1)) to) ∙ same x ∙ ap (option_map (λ e. key e.1)) at in
+          let found : Some (key q.1) ≡ Some (key o.1) = sym (ap (option_map (λ e. key e.1)) to)
+          ∙ same x ∙ ap (option_map (λ e. key e.1)) at in
           let e : key q.1 ≡ key o.1 = cc found in
           rw (at, to) (record { left = λ z. rw e refl; right = λ z. rw e refl }, rest)
 
@@ -238,86 +284,122 @@ module _ {K T : Type 0} (R : K → K → Ordering) (key : T → K) (total : IsTo
   kept-all entry h Q [] all = tt
   kept-all entry h Q (x ∷ xs) all =
       elim (eqb_tells x h) [
-        | inl same ↦ rw same.0 (kept-all entry h Q xs (all-later below Q (option_map (λ e. (x, e)) (entry x)) (listed_of entry xs) all))
-        | inr other ↦ rw other.0 (by (kept-all entry h Q xs) (option_map (λ e. (x, e)) (entry x)) all)
+        | inl same ↦ rw same.0
+            (kept-all entry h Q xs
+            (all-later below Q (option_map (λ e. (x, e)) (entry x)) (listed_of entry xs) all))
+        | inr other ↦ rw other.0
+            (by (kept-all entry h Q xs) (option_map (λ e. (x, e)) (entry x)) all)
       ]
     where
-      by : (AllOf below Q (listed_of entry xs) → AllOf below Q (listed_of (without entry h) xs)) → (o : Option (ℕ × (ℕ × T)))
-          → AllOf below Q (cons_option o (listed_of entry xs)) → AllOf below Q (cons_option o (listed_of (without entry h) xs))
+      by : (AllOf below Q (listed_of entry xs) → AllOf below Q (listed_of (without entry h) xs))
+          → (o : Option (ℕ × (ℕ × T)))
+          → AllOf below Q (cons_option o (listed_of entry xs))
+          → AllOf below Q (cons_option o (listed_of (without entry h) xs))
       by rest None all = rest all
       by rest (Some a) all = (all.0, rest all.1)
 
-  kept-rising : (entry : ℕ → Option (ℕ × T)) (h : ℕ) (w : List ℕ) → Rising below (listed_of entry w) → Rising below (listed_of (without entry h) w)
+  kept-rising : (entry : ℕ → Option (ℕ × T)) (h : ℕ) (w : List ℕ) → Rising below (listed_of entry w)
+      → Rising below (listed_of (without entry h) w)
   kept-rising entry h [] p = tt
   kept-rising entry h (x ∷ xs) p =
       elim (eqb_tells x h) [
-        | inl same ↦ rw same.0 (kept-rising entry h xs (rising-later below (option_map (λ e. (x, e)) (entry x)) (listed_of entry xs) p))
-        | inr other ↦ rw other.0 (by (kept-rising entry h xs) (option_map (λ e. (x, e)) (entry x)) p)
+        | inl same ↦ rw same.0
+            (kept-rising entry h xs
+            (rising-later below (option_map (λ e. (x, e)) (entry x)) (listed_of entry xs) p))
+        | inr other ↦ rw other.0
+            (by (kept-rising entry h xs) (option_map (λ e. (x, e)) (entry x)) p)
       ]
     where
-      by : (Rising below (listed_of entry xs) → Rising below (listed_of (without entry h) xs)) → (o : Option (ℕ × (ℕ × T)))
-          → Rising below (cons_option o (listed_of entry xs)) → Rising below (cons_option o (listed_of (without entry h) xs))
+      by : (Rising below (listed_of entry xs) → Rising below (listed_of (without entry h) xs))
+          → (o : Option (ℕ × (ℕ × T)))
+          → Rising below (cons_option o (listed_of entry xs))
+          → Rising below (cons_option o (listed_of (without entry h) xs))
       by rest None p = rest p
       by rest (Some a) p = (kept-all entry h (λ z. is_lt (below z a) ≡ false) xs p.0, rest p.1)
 
-  not_less : (x y z : ℕ × (ℕ × T)) → is_lt (below y x) ≡ false → is_lt (below z y) ≡ false → is_lt (below z x) ≡ false
+  not_less : (x y z : ℕ × (ℕ × T)) → is_lt (below y x) ≡ false → is_lt (below z y) ≡ false
+      → is_lt (below z x) ≡ false
   not_less x y z low high = by (below z x) refl
     where
       by : (a : Ordering) → below z x ≡ a → is_lt (below z x) ≡ false
       by Less e =
-          let less : below z y ≡ Less = (parts total (key z.1.1) (key x.1.1) (key y.1.1) low).less e in
+          let less : below z y ≡ Less =
+          (parts total (key z.1.1) (key x.1.1) (key y.1.1) low).less e in
           let no : true ≡ false = sym (ap is_lt less) ∙ high in
           absurd (cc)
       by Equal e = ap is_lt e
       by Greater e = ap is_lt e
 
   module _ {I : Type 0} (number : I → ℕ) where
-    pub removed_ascending : (last : Option ℕ) (h : ℕ) (o p : Ordered I T) → IsEntryRemoved number last h o p → IsAscending number R key o → IsAscending number R key p
+    pub removed_ascending : (last : Option ℕ) (h : ℕ) (o p : Ordered I T)
+        → IsEntryRemoved number last h o p → IsAscending number R key o → IsAscending number R key p
     removed_ascending last h o p s ascending =
         let w = order_in number o in
         let f : ℕ → Option (ℕ × (ℕ × T)) = λ i. option_map (λ e. (i, e)) (entry_in p i) in
         let kept : IsSorted below (listed_of (without (entry_in o) h) w) =
-        rising-sorted below (listed_of (without (entry_in o) h) w) (kept-rising (entry_in o) h w (sorted-rising below not_less (listed_of (entry_in o) w) ascending)) in
-        let left : IsSorted below (listed_of (entry_in p) w) = subst (IsSorted below) (sym (listed-same (entry_in p) (without (entry_in o) h) s.entries w)) kept in
+        rising-sorted below (listed_of (without (entry_in o) h) w)
+        (kept-rising (entry_in o) h w
+        (sorted-rising below not_less (listed_of (entry_in o) w) ascending)) in
+        let left : IsSorted below (listed_of (entry_in p) w) =
+        subst (IsSorted below)
+        (sym (listed-same (entry_in p) (without (entry_in o) h) s.entries w)) kept in
         let none : entry_in p h ≡ None = s.entries h ∙ rw (eq-eqb h h refl) refl in
-        let here : listed_of (entry_in p) (h ∷ s.order.after) ≡ listed_of (entry_in p) s.order.after = rw none refl in
-        let same : listed_of (entry_in p) (s.order.before ++ h ∷ s.order.after) ≡ listed_of (entry_in p) (s.order.before ++ s.order.after) =
-        filter_map-append f s.order.before (h ∷ s.order.after) ∙ ap (λ l. listed_of (entry_in p) s.order.before ++ l) here
+        let here : listed_of (entry_in p) (h ∷ s.order.after)
+        ≡ listed_of (entry_in p) s.order.after = rw none refl in
+        let same : listed_of (entry_in p) (s.order.before ++ h ∷ s.order.after)
+        ≡ listed_of (entry_in p) (s.order.before ++ s.order.after) =
+        filter_map-append f s.order.before (h ∷ s.order.after)
+        ∙ ap (λ l. listed_of (entry_in p) s.order.before ++ l) here
         ∙ sym (filter_map-append f s.order.before s.order.after) in
         subst (λ v. IsSorted below (listed_of (entry_in p) v)) (sym s.order.is)
         (subst (IsSorted below) (ap (listed_of (entry_in p)) s.order.was ∙ same) left)
 
-  pub keyed_ascending : {I : Type 0} (number : I → ℕ) (o p : Ordered I T) → order_in number p ≡ order_in number o
-      → ((k : ℕ) → option_map (λ e. key e.1) (entry_in p k) ≡ option_map (λ e. key e.1) (entry_in o k))
+  pub keyed_ascending : {I : Type 0} (number : I → ℕ) (o p : Ordered I T)
+      → order_in number p ≡ order_in number o
+      → ((k : ℕ) → option_map (λ e. key e.1) (entry_in p k)
+      ≡ option_map (λ e. key e.1) (entry_in o k))
       → IsAscending number R key o → IsAscending number R key p
   keyed_ascending number o p order keys ascending =
       subst (λ w. IsSorted below (listed_of (entry_in p) w)) (sym order)
-      (carried below (listed_of (entry_in o) (order_in number o)) (listed_of (entry_in p) (order_in number o))
+      (carried below (listed_of (entry_in o) (order_in number o))
+      (listed_of (entry_in p) (order_in number o))
       (keyed (entry_in o) (entry_in p) keys (order_in number o)) ascending)
 
   module _ {I : Type 0} (number : I → ℕ) (o p : Ordered I T) (i g : ℕ) (t : T) where
-    pub replaced_ascending : (u : T) → R (key t) (key u) ≡ Equal → IsReplaced number i g t u o p → IsAscending number R key o → IsAscending number R key p
+    pub replaced_ascending : (u : T) → R (key t) (key u) ≡ Equal → IsReplaced number i g t u o p
+        → IsAscending number R key o → IsAscending number R key p
     replaced_ascending u equal r ascending =
-        let entries = listed-same (entry_in p) (with_entry (entry_in o) i (g, t)) r.entries (order_in number o) in
+        let entries = listed-same (entry_in p) (with_entry (entry_in o) i (g, t)) r.entries
+        (order_in number o) in
         let sorted = carried below (listed_of (entry_in o) (order_in number o))
         (listed_of (with_entry (entry_in o) i (g, t)) (order_in number o))
         (paired (entry_in o) i g t u r.was equal (order_in number o)) ascending in
-        subst (λ w. IsSorted below (listed_of (entry_in p) w)) (sym r.order) (subst (IsSorted below) (sym entries) sorted)
+        subst (λ w. IsSorted below (listed_of (entry_in p) w)) (sym r.order)
+        (subst (IsSorted below) (sym entries) sorted)
 
-    pub added_ascending : IsOrdered number p → IsBetween R key (key t) (entry_in o) i (order_in number o) (order_in number p) → IsAdded number i g t o p
+    pub added_ascending : IsOrdered number p
+        → IsBetween R key (key t) (entry_in o) i (order_in number o) (order_in number p)
+        → IsAdded number i g t o p
         → IsAscending number R key o → IsAscending number R key p
     added_ascending new_is s r ascending =
-        let apart : Apart (order_in number p) = linear_apart (ends_in number p.chains) None (order_in number p) new_is.linear in
-        let sorted = added (entry_in o) (entry_in p) i g t s.before s.after r.entries (subst Apart s.is apart)
+        let apart : Apart (order_in number p) =
+        linear_apart (ends_in number p.chains) None (order_in number p) new_is.linear in
+        let sorted = added (entry_in o) (entry_in p) i g t s.before s.after r.entries
+        (subst Apart s.is apart)
         (subst (λ w. IsSorted below (listed_of (entry_in o) w)) s.was ascending) s.low s.high in
         subst (λ w. IsSorted below (listed_of (entry_in p) w)) (sym s.is) sorted
 
-  module _ {I P : Type 0} (number : I → ℕ) (index generation : P → ℕ) (allows : Option OrdInsertionError → Type 0) where
+  module _ {I P : Type 0} (number : I → ℕ) (index generation : P → ℕ)
+      (allows : Option OrdInsertionError → Type 0) where
     -- an insertion in an entry with an equal key, or between the lesser and the greater ones
-    pub inserted_ascending : (o p : Ordered I T) (t : T) (place : Option (ℕ × Ordering)) (result : Result (P × Option T) OrdInsertionError) → IsOrdered number p
-        → ((i g : ℕ) (u : T) → place ≡ Some (i, Equal) → entry_in o i ≡ Some (g, u) → R (key t) (key u) ≡ Equal)
-        → ((n : ℕ) → StandsAt place (order_in number o) (order_in number p) n → IsBetween R key (key t) (entry_in o) n (order_in number o) (order_in number p))
-        → IsInsertedAt number index generation allows place t result o p → IsAscending number R key o → IsAscending number R key p
+    pub inserted_ascending : (o p : Ordered I T) (t : T) (place : Option (ℕ × Ordering))
+        (result : Result (P × Option T) OrdInsertionError) → IsOrdered number p
+        → ((i g : ℕ) (u : T) → place ≡ Some (i, Equal) → entry_in o i ≡ Some (g, u)
+        → R (key t) (key u) ≡ Equal)
+        → ((n : ℕ) → StandsAt place (order_in number o) (order_in number p) n
+        → IsBetween R key (key t) (entry_in o) n (order_in number o) (order_in number p))
+        → IsInsertedAt number index generation allows place t result o p
+        → IsAscending number R key o → IsAscending number R key p
     inserted_ascending o p t place result new_is equal between put ascending = by result refl
       where
         by : (r : Result (P × Option T) OrdInsertionError) → result ≡ r → IsAscending number R key p
@@ -327,7 +409,9 @@ module _ {K T : Type 0} (R : K → K → Ordering) (key : T → K) (total : IsTo
             answered : (u : Option T) → a.1 ≡ u → IsAscending number R key p
             answered (Some u) e =
                 let r = put.replaced a.0 u (at ∙ ap (λ z. Ok (a.0, z)) e) in
-                replaced_ascending number o p (index a.0) (generation a.0) t u (equal (index a.0) (generation a.0) u r.0 r.1.was) r.1 ascending
+                replaced_ascending number o p (index a.0) (generation a.0) t u
+                (equal (index a.0) (generation a.0) u r.0 r.1.was) r.1 ascending
             answered None e =
                 let r = put.added a.0 (at ∙ ap (λ z. Ok (a.0, z)) e) in
-                added_ascending number o p (index a.0) (generation a.0) t new_is (between (index a.0) r.0) r.1 ascending
+                added_ascending number o p (index a.0) (generation a.0) t new_is
+                (between (index a.0) r.0) r.1 ascending

@@ -1,5 +1,7 @@
 -- The canonical layout of an ordered arena.
-use Rattle.std.proofs.Common.{◌≡◌, ◌≢◌, ℕ, zero, suc, ◌+◌, ◌<◌, ◌≤◌, Bool, List, [], ◌∷◌, ◌++◌, length, map, Option, Some, None, IsSome, refl, sym, ap, subst, ◌∙◌, arith}
+use Rattle.std.proofs.Common.{◌≡◌, ◌≢◌, ℕ, zero, suc, ◌+◌, ◌<◌, ◌≤◌, Bool, List, [], ◌∷◌, ◌++◌}
+use Rattle.std.proofs.Common.{length, map, Option, Some, None, IsSome, refl, sym, ap, subst, ◌∙◌}
+use Rattle.std.proofs.Common.{arith}
 use Rattle.std.specs.Option.{option_map}
 use Rattle.std.specs.List.{range_with_len}
 use Rattle.std.proofs.lemmas.List.FromFn.{length-range_with_len}
@@ -20,7 +22,8 @@ use Rattle.triple_arena_ord.specs.CanonicalLayout.{IsLaidInOrder}
 use Rattle.triple_arena_ord.proofs.RenamedListLemmas.{list_linear, list_long, on_list, rewritten}
 
 -- the beginning of a run is a run
-run-front : (xs ys : List ℕ) (u n : ℕ) → xs ++ ys ≡ range_with_len u n → xs ≡ range_with_len u (length xs)
+run-front : (xs ys : List ℕ) (u n : ℕ) → xs ++ ys ≡ range_with_len u n
+    → xs ≡ range_with_len u (length xs)
 run-front [] ys u n is = refl
 run-front (x ∷ xs) ys u zero is = absurd (cc)
 run-front (x ∷ xs) ys u (suc n) is =
@@ -32,11 +35,14 @@ pub run_last : (b : Option ℕ) (u m : ℕ) → last_or b (range_with_len u (suc
 run_last b u zero = ap Some (omega arith)
 run_last b u (suc m) = run_last (Some u) (u + 1) m ∙ ap Some (omega arith)
 
--- where all live indexes are in one linear chain, and the layout is canonical, that chain is the run
-one_run : (e : ℕ → Option Ends) (n : ℕ) (ys : List ℕ) → IsLaidOut e n → IsLinear e ys → ((i : ℕ) → IsSome (e i) → On ys i) → length ys ≡ n → ys ≡ range_with_len 1 n
+-- where all live indexes are in one linear chain, and the layout is canonical, that chain is the
+-- run
+one_run : (e : ℕ → Option Ends) (n : ℕ) (ys : List ℕ) → IsLaidOut e n → IsLinear e ys
+    → ((i : ℕ) → IsSome (e i) → On ys i) → length ys ≡ n → ys ≡ range_with_len 1 n
 one_run e n ys laid linear all long = by laid.chains laid.are.chains laid.runs
   where
-    by_list : (xs zs : List ℕ) → IsLinear e xs → xs ≢ [] → xs ++ zs ≡ range_with_len 1 n → ys ≡ range_with_len 1 n
+    by_list : (xs zs : List ℕ) → IsLinear e xs → xs ≢ [] → xs ++ zs ≡ range_with_len 1 n
+        → ys ≡ range_with_len 1 n
     by_list [] zs s filled runs = absurd (filled refl)
     by_list (x ∷ xs) zs s filled runs =
         let on = all x (live_on e None None (x ∷ xs) x s (On-first x xs)) in
@@ -47,46 +53,56 @@ one_run e n ys laid linear all long = by laid.chains laid.are.chains laid.runs
     by_ring : (xs : List ℕ) → IsRing e xs → (first : ℕ) → first_or xs None ≡ Some first → ⊥
     by_ring [] r first is = let no : None ≡ Some first = is in cc
     by_ring (x ∷ xs) r first is =
-        let on = all x (live_on e (last_or None (x ∷ xs)) (Some x) (x ∷ xs) x r.stands (On-first x xs)) in
+        let on = all x (live_on e (last_or None (x ∷ xs)) (Some x) (x ∷ xs) x r.stands
+        (On-first x xs)) in
         ring_or_linear e (x ∷ xs) ys x r linear (On-first x xs) on
 
     empty : (xs : List ℕ) → length xs ≡ 0 → xs ≡ []
     empty [] none = refl
     empty (x ∷ xs) none = absurd (omega (arith, none))
 
-    by : (cs : List Chain) → AreAllChainsOf e cs → all_members cs ≡ range_with_len 1 n → ys ≡ range_with_len 1 n
+    by : (cs : List Chain) → AreAllChainsOf e cs → all_members cs ≡ range_with_len 1 n
+        → ys ≡ range_with_len 1 n
     by [] are runs =
         let none : 0 ≡ n = ap length runs ∙ length-range_with_len 1 n in
         empty ys (long ∙ sym none) ∙ runs
     by (Linear xs ∷ cs) are runs = by_list xs (all_members cs) are.0.0 are.0.1 runs
     by (Cyclic xs ∷ cs) are runs = absurd (by_ring xs are.0.0 are.0.1.0 are.0.1.1)
 
-module _ {I T : Type 0} (number : I → ℕ) (last : Option ℕ) (reset : Bool) (o : Ordered I T) (mid : Content (IndexLink I (IndexNode I T))) (is : IsOrdered number o)
+module _ {I T : Type 0} (number : I → ℕ) (last : Option ℕ) (reset : Bool) (o : Ordered I T)
+    (mid : Content (IndexLink I (IndexNode I T))) (is : IsOrdered number o)
     (c : IsCanonical number last reset o.chains mid) where
   -- the list is the run of all indexes
   list_run : map c.to (order_in number o) ≡ range_with_len 1 (size_in o)
   list_run =
-      one_run (ends_in number mid) (size_in o) (map c.to (order_in number o)) c.laid_out (list_linear number o mid c.to is c.renamed c.live)
-      (on_list number o mid c.to is c.renamed c.live) (list_long number o mid c.to is c.renamed c.live ∙ c.live)
+      one_run (ends_in number mid) (size_in o) (map c.to (order_in number o)) c.laid_out
+      (list_linear number o mid c.to is c.renamed c.live)
+      (on_list number o mid c.to is c.renamed c.live)
+      (list_long number o mid c.to is c.renamed c.live ∙ c.live)
 
   -- so it is the run of the live indexes
   pub run_linear : IsLinear (ends_in number mid) (range_with_len 1 (live_count mid))
-  run_linear = subst (IsLinear (ends_in number mid)) (list_run ∙ ap (range_with_len 1) (sym c.live)) (list_linear number o mid c.to is c.renamed c.live)
+  run_linear = subst (IsLinear (ends_in number mid)) (list_run ∙ ap (range_with_len 1) (sym c.live))
+      (list_linear number o mid c.to is c.renamed c.live)
 
   pub record Laid (new : Ordered I T) : Type 0 where
     pub ordered : IsOrdered number new
     pub laid : IsLaidInOrder number last reset o new
 
   renewed_item : (g : ℕ) (x : Option (ℕ × IndexNode I T))
-      → option_map itemed (option_map (λ (e : ℕ × IndexNode I T). (let y : ℕ × IndexNode I T = (g, e.1) in y)) x)
+      → option_map itemed (option_map
+      (λ (e : ℕ × IndexNode I T). (let y : ℕ × IndexNode I T = (g, e.1) in y)) x)
       ≡ option_map (λ (e : ℕ × T). (let y : ℕ × T = (g, e.1) in y)) (option_map itemed x)
   renewed_item g None = refl
   renewed_item g (Some e) = refl
 
   -- what the rebuild leaves
-  pub laid_by : (new : Ordered I T) → rest new.chains ≡ rest mid → IsRebuilt (range_with_len 1 (live_count mid)) new.root (knots_in number new.chains) → Laid new
+  pub laid_by : (new : Ordered I T) → rest new.chains ≡ rest mid
+      → IsRebuilt (range_with_len 1 (live_count mid)) new.root (knots_in number new.chains)
+      → Laid new
   laid_by new keeps b =
-      let named = subst (λ l. IsRebuilt l new.root (knots_in number new.chains)) (ap (range_with_len 1) c.live ∙ sym list_run) b in
+      let named = subst (λ l. IsRebuilt l new.root (knots_in number new.chains))
+      (ap (range_with_len 1) c.live ∙ sym list_run) b in
       let w = rewritten number o mid c.to is c.renamed c.live new keeps named in
       let r = w.stays in
       record {
@@ -97,7 +113,9 @@ module _ {I T : Type 0} (number : I → ℕ) (last : Option ℕ) (reset : Bool) 
           runs = w.order ∙ list_run;
           entries = λ i on.
               r.items (c.to i)
-              ∙ ap (option_map itemed) (c.values i (live_on (ends_in number o.chains) None None (order_in number o) i is.linear on))
+              ∙ ap (option_map itemed)
+              (c.values i (live_on (ends_in number o.chains) None None (order_in number o) i
+              is.linear on))
               ∙ renewed_item (renewed last reset o.chains.counter) (values_in o.chains i);
           tree = subst (λ l. IsHalvingOf l (tree_in number new)) (w.order ∙ list_run) w.tree;
           size = r.kept.live ∙ c.live;
@@ -113,6 +131,25 @@ last_of_run zero some = absurd (omega (arith, some))
 last_of_run (suc m) some = run_last None 1 m ∙ ap Some (omega arith)
 
 -- an index that is made, within what is possible
-pub made : {I : Type 0} (number : I → ℕ) (o : Option I) (m n : ℕ) → ((o ≡ None) → m < n) → ((x : I) → o ≡ Some x → number x ≡ n) → n ≤ m → option_map number o ≡ Some n
+pub made : {I : Type 0} (number : I → ℕ) (o : Option I) (m n : ℕ) → ((o ≡ None) → m < n)
+    → ((x : I) → o ≡ Some x → number x ≡ n) → n ≤ m → option_map number o ≡ Some n
 made number None m n none same within = absurd (let past = none refl in omega (arith, past, within))
 made number (Some x) m n none same within = ap Some (same x refl)
+
+-- what leaves a list leaves each index of it
+left_alone : (to : ℕ → ℕ) (front back : List ℕ) (i : ℕ)
+    → map to (front ++ i ∷ back) ≡ front ++ i ∷ back → to i ≡ i
+left_alone to [] back i same = let here : to i ≡ i = cc in here
+left_alone to (x ∷ front) back i same =
+    let behind : map to (front ++ i ∷ back) ≡ front ++ i ∷ back = cc in
+    left_alone to front back i behind
+
+-- a second layout leaves each index
+pub laid_twice : {I T : Type 0} (number : I → ℕ) (last : Option ℕ) (reset again : Bool)
+    (before between after : Ordered I T) → IsLaidInOrder number last reset before between
+    → (second : IsLaidInOrder number last again between after) → (i : ℕ)
+    → On (order_in number between) i → second.to i ≡ i
+laid_twice number last reset again before between after first second i on =
+    let same : map second.to (order_in number between) ≡ order_in number between =
+    sym second.order ∙ second.runs ∙ ap (range_with_len 1) first.size ∙ sym first.runs in
+    left_alone second.to on.front on.back i (subst (λ l. map second.to l ≡ l) on.is same)

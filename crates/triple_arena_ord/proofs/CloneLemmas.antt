@@ -1,9 +1,12 @@
--- What a clone leaves: the source's list and tree where it was made, and where it was refused the list as it was, or none.
+-- What a clone leaves: the source's list and tree where it was made, and where it was refused the
+-- list as it was, or none.
 use Rattle.std.specs.Prelude.{slice_get, Err, IsErrOf}
-use Rattle.std.proofs.Common.{◌≡◌, ℕ, ◌∷◌, List, length, map, Bool, Option, Some, None, option_map, refl, sym, ap, ◌∙◌, subst, arith, inl, inr}
+use Rattle.std.proofs.Common.{◌≡◌, ℕ, ◌∷◌, List, length, map, Bool, Option, Some, None, option_map}
+use Rattle.std.proofs.Common.{refl, sym, ap, ◌∙◌, subst, arith, inl, inr}
 use Rattle.std.proofs.lemmas.List.{length-append}
 use Rattle.std.proofs.lemmas.Option.{slice_get-map}
-use Rattle.triple_arena.specs.Content.{Content, entry_at, live_count, some_counter, cleared, reallocated}
+use Rattle.triple_arena.specs.Content.{Content, entry_at, live_count, some_counter, cleared}
+use Rattle.triple_arena.specs.Content.{reallocated}
 use Rattle.triple_arena.specs.Copy.{copied, IsUnmadeCopy}
 use Rattle.triple_arena.specs.CopyLaws.{entry-copied, live-copied, live_entries-rise}
 use Rattle.triple_arena.specs.LiveEntries.{live_entries, entry-listed, live_entries-length}
@@ -16,7 +19,8 @@ use Rattle.triple_arena_ord.specs.NodeShape.{IndexNode}
 use Rattle.triple_arena_ord.specs.Copies.{copied_into, emptied_to, IsClone}
 use Rattle.triple_arena_ord.specs.Indexed.{listed_item}
 use Rattle.triple_arena_ord.specs.Node.{knots_in, knot_of, itemed}
-use Rattle.triple_arena_ord.specs.Ordered.{Ordered, IsOrdered, entry_in, size_in, counter_in, room_in, tree_in}
+use Rattle.triple_arena_ord.specs.Ordered.{Ordered, IsOrdered, entry_in, size_in, counter_in}
+use Rattle.triple_arena_ord.specs.Ordered.{room_in, tree_in}
 use Rattle.triple_arena_ord.proofs.SameListLemmas.{same_list}
 
 -- the same error of another result
@@ -25,20 +29,24 @@ error_kept e x failed = let same : e ≡ x = cc failed in ap Err same
 
 module _ {I T : Type 0} where
   -- the item of a node is listed where the node is
-  pub listed_as_item : (nodes : List (ℕ × (ℕ × IndexNode I T))) (k : ℕ) (e : ℕ × (ℕ × IndexNode I T)) → slice_get nodes k ≡ Some e
+  pub listed_as_item : (nodes : List (ℕ × (ℕ × IndexNode I T))) (k : ℕ)
+      (e : ℕ × (ℕ × IndexNode I T)) → slice_get nodes k ≡ Some e
       → slice_get (map listed_item nodes) k ≡ Some (listed_item e)
   listed_as_item nodes k e at = slice_get-map listed_item nodes k ∙ ap (option_map listed_item) at
 
 module _ {I T : Type 0} (number : I → ℕ) where
   -- a clone that was made
-  pub record Cloned (c : Content (IndexLink I (IndexNode I T))) (source new : Ordered I T) : Type 0 where
-    pub ordered : IsOrdered number new
-    pub clone : IsClone number c source new
+  pub record Cloned (c : Content (IndexLink I (IndexNode I T))) (source new : Ordered I T) : Type 0
+    where
+      pub ordered : IsOrdered number new
+      pub clone : IsClone number c source new
 
-  pub cloned : (c d : Content (IndexLink I (IndexNode I T))) (source : Ordered I T) → d ≡ copied c (counter_in source) (live_entries source.chains)
+  pub cloned : (c d : Content (IndexLink I (IndexNode I T))) (source : Ordered I T)
+      → d ≡ copied c (counter_in source) (live_entries source.chains)
       → IsOrdered number source → Cloned c source (record { chains = d; root = source.root })
   cloned c d source exact is =
-      let same = same_list number source (copied_into c source) refl knots (λ k. ap (option_map (entry_ends number)) (at k)) live is in
+      let same = same_list number source (copied_into c source) refl knots
+      (λ k. ap (option_map (entry_ends number)) (at k)) live is in
       subst (λ z. Cloned c source (record { chains = z; root = source.root })) (sym exact) (record {
         ordered = same.ordered;
         clone = record {
@@ -53,13 +61,15 @@ module _ {I T : Type 0} (number : I → ℕ) where
       made = copied c (counter_in source) (live_entries source.chains)
 
       at : (k : ℕ) → entry_at made k ≡ entry_at source.chains k
-      at k = entry-copied c (counter_in source) (live_entries source.chains) (live_entries-rise source.chains) k ∙ sym (entry-listed source.chains k)
+      at k = entry-copied c (counter_in source) (live_entries source.chains)
+          (live_entries-rise source.chains) k ∙ sym (entry-listed source.chains k)
 
       knots : (k : ℕ) → knots_in number made k ≡ knots_in number source.chains k
       knots k = ap (λ e. option_map (λ v. knot_of number v.1) (option_map valued e)) (at k)
 
       live : live_count made ≡ live_count source.chains
-      live = live-copied c (counter_in source) (live_entries source.chains) (live_entries-rise source.chains) ∙ live_entries-length source.chains
+      live = live-copied c (counter_in source) (live_entries source.chains)
+          (live_entries-rise source.chains) ∙ live_entries-length source.chains
 
   -- an arena without an entry has no root
   pub no_root : (o : Ordered I T) → IsOrdered number o → size_in o ≡ 0 → o.root ≡ None
@@ -67,38 +77,57 @@ module _ {I T : Type 0} (number : I → ℕ) where
     where
       by : (t : Tree) → o.root ≡ root_of t → length (walk t) ≡ 0 → o.root ≡ None
       by leaf root long = root
-      by (node l i k r) root long = absurd (let all = length-append (walk l) (i ∷ walk r) in omega (arith, all, long))
+      by (node l i k r) root long =
+          absurd (let all = length-append (walk l) (i ∷ walk r) in omega (arith, all, long))
 
   -- and where there is no node either, it is ordered
-  pub none_ordered : (d : Content (IndexLink I (IndexNode I T))) → ((k : ℕ) → values_in d k ≡ None) → live_count d ≡ 0 → IsOrdered number (record { chains = d; root = None })
+  pub none_ordered : (d : Content (IndexLink I (IndexNode I T))) → ((k : ℕ) → values_in d k ≡ None)
+      → live_count d ≡ 0 → IsOrdered number (record { chains = d; root = None })
   none_ordered d none empty = record {
-    whole = record { stands = (refl, tt); distinct = record { once = λ j. omega arith }; ranked = tt };
+    whole = record {
+      stands = (refl, tt);
+      distinct = record { once = λ j. omega arith };
+      ranked = tt;
+    };
     linear = tt;
-    all = λ i lives. absurd (let no : knots_in number d i ≡ None = ap (option_map (λ e. knot_of number e.1)) (none i) in cc);
+    all = λ i lives. absurd
+        (let no : knots_in number d i ≡ None = ap (option_map (λ e. knot_of number e.1)) (none i) in
+        cc);
     counted = sym empty;
   }
 
-  module _ (o : Ordered I T) (d : Content (IndexLink I (IndexNode I T))) (is : IsOrdered number o) where
-    -- the links stayed, and so did the root; where none is left there was none
-    pub same_links : d ≡ o.chains → live_count d ≡ 0 → record { chains = d; root = None } ≡ o
-    same_links same none =
-        ap (λ z. record { chains = z; root = None }) same
-        ∙ ap (λ r. record { chains = o.chains; root = r }) (sym (no_root o is (sym (ap live_count same) ∙ none)))
+  module _ (o : Ordered I T) (d : Content (IndexLink I (IndexNode I T))) (is : IsOrdered number o)
+    where
+      -- the links stayed, and so did the root; where none is left there was none
+      pub same_links : d ≡ o.chains → live_count d ≡ 0 → record { chains = d; root = None } ≡ o
+      same_links same none =
+          ap (λ z. record { chains = z; root = None }) same
+          ∙ ap (λ r. record { chains = o.chains; root = r })
+          (sym (no_root o is (sym (ap live_count same) ∙ none)))
 
-    module _ (takes_memory : Bool) (last_generation : Option ℕ) (last : ℕ) (refused refused' : Type 0) (gives : refused → refused') where
-      -- why no copy of the links was made, and what that left of them
-      abbrev LinksUnmade : Type 0
-      LinksUnmade = IsUnmadeCopy values_in live_count some_counter chain_room takes_memory last_generation last
-          (λ c. cleared last_generation (reallocated c last)) refused o.chains d
+      module _ (takes_memory : Bool) (last_generation : Option ℕ) (last : ℕ)
+          (refused refused' : Type 0) (gives : refused → refused') where
+        -- why no copy of the links was made, and what that left of them
+        abbrev LinksUnmade : Type 0
+        LinksUnmade = IsUnmadeCopy values_in live_count some_counter chain_room takes_memory
+            last_generation last
+            (λ c. cleared last_generation (reallocated c last)) refused o.chains d
 
-      abbrev Unmade : Ordered I T → Type 0
-      Unmade new = IsUnmadeCopy entry_in size_in counter_in room_in takes_memory last_generation last (emptied_to last_generation last) refused' o new
+        abbrev Unmade : Ordered I T → Type 0
+        Unmade new = IsUnmadeCopy entry_in size_in counter_in room_in takes_memory last_generation
+            last (emptied_to last_generation last) refused' o new
 
-      -- no link is left
-      pub unmade_none : LinksUnmade → live_count d ≡ 0 → Unmade (record { chains = d; root = None })
-      unmade_none (inl memory) none = inl (memory.0, memory.1, same_links memory.2 none)
-      unmade_none (inr left) none = inr (
-        gives left.0,
-        record { entries = λ k. ap (option_map itemed) (left.1.entries k); live = left.1.live; counter = left.1.counter; room = left.1.room },
-        ap (λ z. record { chains = z; root = None }) left.2,
-      )
+        -- no link is left
+        pub unmade_none : LinksUnmade → live_count d ≡ 0
+            → Unmade (record { chains = d; root = None })
+        unmade_none (inl memory) none = inl (memory.0, memory.1, same_links memory.2 none)
+        unmade_none (inr left) none = inr (
+          gives left.0,
+          record {
+            entries = λ k. ap (option_map itemed) (left.1.entries k);
+            live = left.1.live;
+            counter = left.1.counter;
+            room = left.1.room;
+          },
+          ap (λ z. record { chains = z; root = None }) left.2,
+        )

@@ -1,5 +1,6 @@
 -- Where the list has the indexes from 1 on, in their order, it has the entries as they go by index.
-use Rattle.std.proofs.Common.{◌≡◌, ℕ, suc, ◌+◌, List, [], ◌∷◌, length, Option, Some, refl, sym, ap, ◌∙◌, arith}
+use Rattle.std.proofs.Common.{◌≡◌, ℕ, suc, ◌+◌, List, [], ◌∷◌, length, Option, Some, refl, sym, ap}
+use Rattle.std.proofs.Common.{◌∙◌, arith}
 use Rattle.std.specs.Prelude.{slice_get}
 use Rattle.std.specs.List.{range_with_len}
 use Rattle.std.specs.Option.{option_map}
@@ -9,7 +10,8 @@ use Rattle.triple_arena_stack.specs.Room.{Room}
 use Rattle.triple_arena_ord.specs.Ascending.{entries_along}
 use Rattle.triple_arena_ord.specs.Indexed.{indexed}
 use Rattle.triple_arena_ord.specs.IndexedLaws.{indexed-length}
-use Rattle.triple_arena_ord.specs.Ordered.{Ordered, order_in, ordered_entries, entry_in, size_in, counter_in, room_in}
+use Rattle.triple_arena_ord.specs.Ordered.{Ordered, order_in, ordered_entries, entry_in, size_in}
+use Rattle.triple_arena_ord.specs.Ordered.{counter_in, room_in}
 
 module _ {T : Type 0} where
   run_along : (entry : ℕ → Option (ℕ × T)) (s : ℕ) (l : List (ℕ × (ℕ × T)))
@@ -21,14 +23,17 @@ module _ {T : Type 0} where
       let here : entry (s + 0) ≡ Some (entry_of_listed e) = at 0 in
       let same : s + 0 ≡ s = omega arith in
       let first : index_of e ≡ s = compact 0 e refl ∙ same in
-      let rest : entries_along entry (range_with_len (s + 1) (length l)) ≡ l = run_along entry (s + 1) l
+      let rest : entries_along entry (range_with_len (s + 1) (length l)) ≡ l =
+      run_along entry (s + 1) l
       (λ k. let next : (s + 1) + k ≡ s + suc k = omega arith in ap entry next ∙ at (suc k))
       (λ k x is. let next : s + suc k ≡ (s + 1) + k = omega arith in compact (suc k) x is ∙ next) in
       let at_first : entry s ≡ Some e.1 = sym (ap entry same) ∙ here in
-      rw at_first (ap (λ i. (i, e.1) ∷ entries_along entry (range_with_len (s + 1) (length l))) (sym first) ∙ ap (λ r. e ∷ r) rest)
+      rw at_first (ap (λ i. (i, e.1) ∷ entries_along entry (range_with_len (s + 1) (length l)))
+      (sym first) ∙ ap (λ r. e ∷ r) rest)
 
 module _ {I T : Type 0} (number : I → ℕ) where
-  pub compact_list : (n g : ℕ) (own : Room) (old new : Ordered I T) → IsFilled entry_in size_in counter_in room_in indexed n g own old new
+  pub compact_list : (n g : ℕ) (own : Room) (old new : Ordered I T)
+      → IsFilled entry_in size_in counter_in room_in indexed n g own old new
       → order_in number new ≡ range_with_len 1 n → ordered_entries number new ≡ indexed new
   compact_list n g own old new filled order =
       let many : n ≡ length (indexed new) = sym filled.live ∙ sym (indexed-length new) in

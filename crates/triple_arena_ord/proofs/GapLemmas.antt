@@ -1,6 +1,8 @@
 -- Where a linear chain is cut, and the neighbors of one of its indexes.
-use Rattle.std.proofs.Common.{◌≡◌, ℕ, List, [], ◌∷◌, ◌++◌, Option, Some, None, IsSome, refl, sym, ap, subst, inr, ◌⊎◌}
-use Rattle.triple_arena_chain.specs.Chains.{Ends, Stands, IsLinear, first_or, last_or, IsGap, next_in, prev_in, prev_at}
+use Rattle.std.proofs.Common.{◌≡◌, ℕ, List, [], ◌∷◌, ◌++◌, Option, Some, None, IsSome, refl, sym}
+use Rattle.std.proofs.Common.{ap, subst, inr, ◌⊎◌}
+use Rattle.triple_arena_chain.specs.Chains.{Ends, Stands, IsLinear, first_or, last_or, IsGap}
+use Rattle.triple_arena_chain.specs.Chains.{next_in, prev_in, prev_at}
 use Rattle.triple_arena_chain.specs.ChainLaws.{Stands-front, Stands-back, last_or-append}
 
 -- the last of a list
@@ -17,12 +19,15 @@ last_in (x ∷ xs) p e = go x xs e
     go x (y ∷ ys) e = let h = go y ys e in record { front = x ∷ h.front; is = ap (λ l. x ∷ l) h.is }
 
 -- where a linear chain is cut, one more index may stand
-pub linear_gap : (e : ℕ → Option Ends) (xs ys : List ℕ) → IsLinear e (xs ++ ys) → IsGap e (last_or None xs, first_or ys None)
+pub linear_gap : (e : ℕ → Option Ends) (xs ys : List ℕ) → IsLinear e (xs ++ ys)
+    → IsGap e (last_or None xs, first_or ys None)
 linear_gap e xs ys s = record {
   before = λ p is.
       let l = last_in xs p is in
-      let front = subst (λ z. Stands e None z (first_or ys None)) l.is (Stands-front e None None xs ys s) in
-      let at : e p ≡ Some (last_or None l.front, first_or ys None) = (Stands-back e None (first_or ys None) l.front (p ∷ []) front).0 in
+      let front = subst (λ z. Stands e None z (first_or ys None)) l.is
+      (Stands-front e None None xs ys s) in
+      let at : e p ≡ Some (last_or None l.front, first_or ys None) =
+      (Stands-back e None (first_or ys None) l.front (p ∷ []) front).0 in
       (some_at at, inr (ap next_in at));
   after = λ q is. at_first ys (Stands-back e None None xs ys s) q is;
 }
@@ -30,16 +35,19 @@ linear_gap e xs ys s = record {
     some_at : {o : Option Ends} {v : Ends} → o ≡ Some v → IsSome o
     some_at is = subst IsSome (sym is) refl
 
-    at_first : (zs : List ℕ) → Stands e (last_or None xs) zs None → (q : ℕ) → first_or zs None ≡ Some q
+    at_first : (zs : List ℕ) → Stands e (last_or None xs) zs None → (q : ℕ)
+        → first_or zs None ≡ Some q
         → IsSome (e q) × ((prev_at e q ≡ None) ⊎ (prev_at e q ≡ last_or None xs))
     at_first [] s q is = absurd (cc)
     at_first (z ∷ zs) s q is =
         let w : z ≡ q = cc in
-        let at : e q ≡ Some (last_or None xs, first_or zs None) = subst (λ y. e y ≡ Some (last_or None xs, first_or zs None)) w s.0 in
+        let at : e q ≡ Some (last_or None xs, first_or zs None) =
+        subst (λ y. e y ≡ Some (last_or None xs, first_or zs None)) w s.0 in
         (some_at at, inr (ap prev_in at))
 
 -- the neighbors of an index
-pub linear_ends : (e : ℕ → Option Ends) (xs : List ℕ) (h : ℕ) (ys : List ℕ) → IsLinear e (xs ++ h ∷ ys) → e h ≡ Some (last_or None xs, first_or ys None)
+pub linear_ends : (e : ℕ → Option Ends) (xs : List ℕ) (h : ℕ) (ys : List ℕ)
+    → IsLinear e (xs ++ h ∷ ys) → e h ≡ Some (last_or None xs, first_or ys None)
 linear_ends e xs h ys s = (Stands-back e None None xs (h ∷ ys) s).0
 
 pub last_snoc : (xs : List ℕ) (h : ℕ) → last_or None (xs ++ h ∷ []) ≡ Some h

@@ -1,6 +1,6 @@
 -- The entries in the order of the indexes as one list.
 use Rattle.std.proofs.Common.{◌≡◌, ℕ, List, [], ◌∷◌, map, refl, sym, ap, ◌∙◌}
-use Rattle.triple_arena.proofs.DrainLemmas.{same_listed}
+use Rattle.triple_arena.specs.RiseLaws.{same_listed}
 use Rattle.triple_arena.specs.Iterators.{pointer_of}
 use Rattle.triple_arena_chain.specs.Listed.{listed_value}
 use Rattle.triple_arena_chain.specs.LinkShape.{IndexLink}
@@ -11,11 +11,14 @@ use Rattle.triple_arena_ord.specs.NodeShape.{IndexNode}
 
 module _ {I T : Type 0} where
   -- the same items at the same indexes
-  pub same_items : (o p : Ordered I T) → ((i : ℕ) → entry_in p i ≡ entry_in o i) → indexed p ≡ indexed o
+  pub same_items : (o p : Ordered I T) → ((i : ℕ) → entry_in p i ≡ entry_in o i)
+      → indexed p ≡ indexed o
   same_items o p same =
-      same_listed (indexed p) (indexed o) (indexed-increase p) (indexed-increase o) (λ i. sym (entry-indexed p i) ∙ same i ∙ entry-indexed o i)
+      same_listed (indexed p) (indexed o) (indexed-increase p) (indexed-increase o)
+      (λ i. sym (entry-indexed p i) ∙ same i ∙ entry-indexed o i)
 
   -- the pointers are those of the links
-  pub pointers_same : (links : List (ℕ × (ℕ × IndexLink I (IndexNode I T)))) → map pointer_of (map listed_item (map listed_value links)) ≡ map pointer_of links
+  pub pointers_same : (links : List (ℕ × (ℕ × IndexLink I (IndexNode I T))))
+      → map pointer_of (map listed_item (map listed_value links)) ≡ map pointer_of links
   pointers_same [] = refl
   pointers_same (e ∷ links) = ap (λ l. (e.0, e.1.0) ∷ l) (pointers_same links)

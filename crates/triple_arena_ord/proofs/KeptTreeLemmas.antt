@@ -1,6 +1,7 @@
 -- What keeps the list and the tree: a limit that is set, and a recast of the items.
 use Rattle.std.specs.Prelude.{OnOk, OnErr}
-use Rattle.std.proofs.Common.{◌≡◌, ℕ, zero, suc, List, [], ◌∷◌, get_or, Option, Some, None, Result, Ok, Err, option_map, refl, ap, ◌∙◌}
+use Rattle.std.proofs.Common.{◌≡◌, ℕ, zero, suc, List, [], ◌∷◌, get_or, Option, Some, None, Result}
+use Rattle.std.proofs.Common.{Ok, Err, option_map, refl, ap, ◌∙◌}
 use Rattle.triple_arena_ptr.specs.Recast.{recast_answer, where_ok}
 use Rattle.triple_arena.specs.Content.{Content, live_count, with_limit}
 use Rattle.triple_arena.specs.LimitLaws.{entry-with_limit, live-with_limit}
@@ -26,32 +27,44 @@ module _ {I T : Type 0} (number : I → ℕ) where
   with_chains o d = record { chains = d; root = o.root }
 
   -- the same links
-  same_chains : (o : Ordered I T) (d : Content (IndexLink I (IndexNode I T))) → d ≡ o.chains → IsOrdered number o → Reordered number o (with_chains o d)
+  same_chains : (o : Ordered I T) (d : Content (IndexLink I (IndexNode I T))) → d ≡ o.chains
+      → IsOrdered number o → Reordered number o (with_chains o d)
   same_chains o d same is =
-      same_list number o (with_chains o d) refl (λ k. ap (λ c. knots_in number c k) same) (λ k. ap (λ c. ends_in number c k) same) (ap live_count same) is
+      same_list number o (with_chains o d) refl (λ k. ap (λ c. knots_in number c k) same)
+      (λ k. ap (λ c. ends_in number c k) same) (ap live_count same) is
 
   -- a limit that is set
-  pub limit_kept : (greatest : ℕ) (o : Ordered I T) (max : ℕ) (d : Content (IndexLink I (IndexNode I T))) → d ≡ with_limit greatest o.chains max → IsOrdered number o
+  pub limit_kept : (greatest : ℕ) (o : Ordered I T) (max : ℕ)
+      (d : Content (IndexLink I (IndexNode I T))) → d ≡ with_limit greatest o.chains max
+      → IsOrdered number o
       → Reordered number o (with_chains o d)
   limit_kept greatest o max d set is =
-      same_list number o (with_chains o d) refl (λ k. ap (λ c. knots_in number c k) set ∙ ap entry_knot (entry-with_limit greatest o.chains max k))
+      same_list number o (with_chains o d) refl
+      (λ k. ap (λ c. knots_in number c k) set
+      ∙ ap entry_knot (entry-with_limit greatest o.chains max k))
       (λ k. ap (λ c. ends_in number c k) set ∙ ends-with_limit number greatest o.chains max k)
       (ap live_count set ∙ live-with_limit greatest o.chains max) is
 
   -- the same, or refused
-  pub limited : {A E : Type 0} (greatest : ℕ) (o : Ordered I T) (d : Content (IndexLink I (IndexNode I T))) (max : ℕ) (r : Result A E)
-      → OnOk r (d ≡ with_limit greatest o.chains max) → OnErr r (d ≡ o.chains) → IsOrdered number o → Reordered number o (with_chains o d)
+  pub limited : {A E : Type 0} (greatest : ℕ) (o : Ordered I T)
+      (d : Content (IndexLink I (IndexNode I T))) (max : ℕ) (r : Result A E)
+      → OnOk r (d ≡ with_limit greatest o.chains max) → OnErr r (d ≡ o.chains) → IsOrdered number o
+      → Reordered number o (with_chains o d)
   limited greatest o d max (Err e) set refused is = same_chains o d refused is
   limited greatest o d max (Ok x) set refused is = limit_kept greatest o max d set is
 
   module _ {N : Type 0} (items : T → List N) (f : N → Option N) (recasted : T → T) where
-    abbrev slots_after : List (Option (ℕ × IndexLink I (IndexNode I T))) → List (Option (ℕ × IndexLink I (IndexNode I T)))
-    slots_after = slots_recasted (link_items (node_items items)) f (link_recasted (node_recasted recasted))
+    abbrev slots_after : List (Option (ℕ × IndexLink I (IndexNode I T)))
+        → List (Option (ℕ × IndexLink I (IndexNode I T)))
+    slots_after = slots_recasted (link_items (node_items items)) f
+        (link_recasted (node_recasted recasted))
 
     -- what follows an item may stay as it is
-    part : (r : Result (Unit {0}) N) (slots : List (Option (ℕ × IndexLink I (IndexNode I T)))) (k : ℕ)
+    part : (r : Result (Unit {0}) N) (slots : List (Option (ℕ × IndexLink I (IndexNode I T))))
+        (k : ℕ)
         → entry_knot (get_or (slots_after slots) k None) ≡ entry_knot (get_or slots k None)
-        → entry_knot (get_or (where_ok r (slots_after slots) slots) k None) ≡ entry_knot (get_or slots k None)
+        → entry_knot (get_or (where_ok r (slots_after slots) slots) k None)
+        ≡ entry_knot (get_or slots k None)
     part (Ok _) slots k same = same
     part (Err _) slots k same = refl
 
@@ -61,18 +74,26 @@ module _ {I T : Type 0} (number : I → ℕ) where
     slots_knotted (None ∷ slots) zero = refl
     slots_knotted (None ∷ slots) (suc k) = slots_knotted slots k
     slots_knotted (Some entry ∷ slots) zero = refl
-    slots_knotted (Some entry ∷ slots) (suc k) = part (recast_answer f (items entry.1.t.t)) slots k (slots_knotted slots k)
+    slots_knotted (Some entry ∷ slots) (suc k) =
+        part (recast_answer f (items entry.1.t.t)) slots k (slots_knotted slots k)
 
-    abbrev content_after : Content (IndexLink I (IndexNode I T)) → Content (IndexLink I (IndexNode I T))
-    content_after = content_recasted (link_items (node_items items)) f (link_recasted (node_recasted recasted))
+    abbrev content_after : Content (IndexLink I (IndexNode I T))
+        → Content (IndexLink I (IndexNode I T))
+    content_after = content_recasted (link_items (node_items items)) f
+        (link_recasted (node_recasted recasted))
 
-    knots-recasted : (c : Content (IndexLink I (IndexNode I T))) (k : ℕ) → knots_in number (content_after c) k ≡ knots_in number c k
+    knots-recasted : (c : Content (IndexLink I (IndexNode I T))) (k : ℕ)
+        → knots_in number (content_after c) k ≡ knots_in number c k
     knots-recasted c zero = refl
     knots-recasted c (suc k) = slots_knotted c.slots k
 
     -- items that are recast
-    pub recast_kept : (o : Ordered I T) (d : Content (IndexLink I (IndexNode I T))) → d ≡ content_after o.chains → IsOrdered number o → Reordered number o (with_chains o d)
+    pub recast_kept : (o : Ordered I T) (d : Content (IndexLink I (IndexNode I T)))
+        → d ≡ content_after o.chains → IsOrdered number o → Reordered number o (with_chains o d)
     recast_kept o d exact is =
-        same_list number o (with_chains o d) refl (λ k. ap (λ c. knots_in number c k) exact ∙ knots-recasted o.chains k)
-        (λ k. ap (λ c. ends_in number c k) exact ∙ ends-content_recasted number (node_items items) f (node_recasted recasted) o.chains k)
-        (ap live_count exact ∙ live-recasted (link_items (node_items items)) f (link_recasted (node_recasted recasted)) o.chains) is
+        same_list number o (with_chains o d) refl
+        (λ k. ap (λ c. knots_in number c k) exact ∙ knots-recasted o.chains k)
+        (λ k. ap (λ c. ends_in number c k) exact
+        ∙ ends-content_recasted number (node_items items) f (node_recasted recasted) o.chains k)
+        (ap live_count exact ∙ live-recasted (link_items (node_items items)) f
+        (link_recasted (node_recasted recasted)) o.chains) is

@@ -1,5 +1,7 @@
 -- One more leaf in the tree, and one more entry in the list.
-use Rattle.std.proofs.Common.{◌≡◌, ◌≢◌, ◌==◌, ℕ, ◌+◌, ◌^◌, ◌<◌, List, [], ◌∷◌, ◌++◌, length, append_assoc, length-append, Option, Some, None, IsSome, Bool, true, false, if◌then◌else◌, refl, sym, ap, ◌∙◌, subst, arith, inl, inr}
+use Rattle.std.proofs.Common.{◌≡◌, ◌≢◌, ◌==◌, ℕ, ◌+◌, ◌^◌, ◌<◌, List, [], ◌∷◌, ◌++◌, length}
+use Rattle.std.proofs.Common.{append_assoc, length-append, Option, Some, None, IsSome, Bool, true}
+use Rattle.std.proofs.Common.{false, if◌then◌else◌, refl, sym, ap, ◌∙◌, subst, arith, inl, inr}
 use Rattle.std.specs.Option.{option_map}
 use Rattle.std.proofs.lemmas.Bool.{cases_eq, cases_lt, eq-eqb, ne_eqb}
 use Rattle.triple_arena.specs.Content.{Content, entry_at, live_count}
@@ -16,11 +18,13 @@ use Rattle.rank_tree.specs.Knot.{Knot}
 use Rattle.rank_tree.specs.Store.{child_of}
 use Rattle.triple_arena_ord.specs.Node.{knots_in, knot_of, itemed, rest, prev_for, next_for}
 use Rattle.rank_tree.specs.Tree.{Tree, leaf, node, walk, IsRanked}
-use Rattle.rank_tree.specs.Shape.{make, knot, root_of, Context, top, under, plug, holder, Stands, IsDistinct, one, count}
+use Rattle.rank_tree.specs.Shape.{make, knot, root_of, Context, top, under, plug, holder, Stands}
+use Rattle.rank_tree.specs.Shape.{IsDistinct, one, count}
 use Rattle.rank_tree.specs.Repair.{Gap, new_below, filled, Restored}
 use Rattle.triple_arena_ord.specs.Inserted.{IsAdded}
 use Rattle.triple_arena_ord.specs.Ordered.{Ordered, IsOrdered, StandsBeside, tree_in, order_in}
-use Rattle.rank_tree.specs.FrameLaws.{one-same, one-other, Represents-keep, make-count, plug-count, plug-opens, count-same, IsDistinct-walk}
+use Rattle.rank_tree.specs.FrameLaws.{one-same, one-other, Represents-keep, make-count, plug-count}
+use Rattle.rank_tree.specs.FrameLaws.{plug-opens, count-same, IsDistinct-walk}
 use Rattle.rank_tree.specs.DescentLaws.{before, after, plug-walk_is, rest_leaf}
 use Rattle.rank_tree.specs.UniqueLaws.{tree_is}
 use Rattle.rank_tree.specs.SeekLaws.{counted-lives}
@@ -41,7 +45,13 @@ located c (node l x k r) i h =
     elim (cases_lt 0 (count i l)) [
       | inl in_left ↦ located (under c Left x k r) l i in_left
       | inr out_left ↦ elim (cases_eq i x) [
-        | inl e ↦ record { context = c; left = l; rank = k; right = r; is = ap (λ z. plug c (node l z k r)) (sym e) }
+        | inl e ↦ record {
+          context = c;
+          left = l;
+          rank = k;
+          right = r;
+          is = ap (λ z. plug c (node l z k r)) (sym e);
+        }
         | inr d ↦ let z = one-other i x d in located (under c Right x k l) r i (omega arith)
       ]
     ]
@@ -65,10 +75,12 @@ module _ {I T : Type 0} (number : I → ℕ) where
     pub is : order_in number o ≡ front ++ back
     pub prev_is : prev ≡ last_or None front
     pub next_is : next ≡ first_or back None
-    pub filled_is : (n : ℕ) → walk (plug context (make side (node leaf n 1 leaf) h rank far)) ≡ front ++ n ∷ back
+    pub filled_is : (n : ℕ)
+        → walk (plug context (make side (node leaf n 1 leaf) h rank far)) ≡ front ++ n ∷ back
     pub stands : (n : ℕ) → StandsBeside side (order_in number o) (front ++ n ∷ back) h n
 
-  pub cut : (o : Ordered I T) → IsOrdered number o → (h : ℕ) (side : Side) (g : ℕ) (l : IndexLink I (IndexNode I T))
+  pub cut : (o : Ordered I T) → IsOrdered number o
+      → (h : ℕ) (side : Side) (g : ℕ) (l : IndexLink I (IndexNode I T))
       → entry_at o.chains h ≡ Some (g, l) → IsSome (knots_in number o.chains h) → IsFree o h side
       → Cut o h side (prev_for number side l h) (next_for number side l h)
   cut o is h side g l at lives free = by side free
@@ -76,31 +88,43 @@ module _ {I T : Type 0} (number : I → ℕ) where
       found : Located (tree_in number o) h
       found = located top (tree_in number o) h (is.all h lives)
 
-      at_h : knots_in number o.chains h ≡ Some (knot Left (holder found.context) (root_of found.left) found.rank (root_of found.right))
+      at_h : knots_in number o.chains h
+          ≡ Some (knot Left (holder found.context) (root_of found.left) found.rank
+          (root_of found.right))
       at_h =
-          (plug-opens (knots_in number o.chains) o.root found.context (node found.left h found.rank found.right)
+          (plug-opens (knots_in number o.chains) o.root found.context
+          (node found.left h found.rank found.right)
           (subst (Stands (knots_in number o.chains) o.root) found.is is.whole.stands)).1.0
 
       -- the link names its neighbors in the list
       neighbors : (xs ys : List ℕ) → order_in number o ≡ xs ++ h ∷ ys
-          → (option_map number l.prev ≡ last_or None xs) × (option_map number l.next ≡ first_or ys None)
+          → (option_map number l.prev ≡ last_or None xs)
+          × (option_map number l.next ≡ first_or ys None)
       neighbors xs ys order =
-          let ends : ends_in number o.chains h ≡ Some (option_map number l.prev, option_map number l.next) =
+          let ends : ends_in number o.chains h
+          ≡ Some (option_map number l.prev, option_map number l.next) =
           ap (option_map (entry_ends number)) at in
-          let e : Some (option_map number l.prev, option_map number l.next) ≡ Some (last_or None xs, first_or ys None) =
-          sym ends ∙ linear_ends (ends_in number o.chains) xs h ys (subst (IsLinear (ends_in number o.chains)) order is.linear) in
-          let z : ◌≡◌ {A = Ends} (option_map number l.prev, option_map number l.next) (last_or None xs, first_or ys None) = cc e in
+          let e : Some (option_map number l.prev, option_map number l.next)
+          ≡ Some (last_or None xs, first_or ys None) =
+          sym ends ∙ linear_ends (ends_in number o.chains) xs h ys
+          (subst (IsLinear (ends_in number o.chains)) order is.linear) in
+          let z : ◌≡◌ {A = Ends} (option_map number l.prev, option_map number l.next)
+          (last_or None xs, first_or ys None) = cc e in
           (ap (λ p. p.0) z, ap (λ p. p.1) z)
 
-      by : (side : Side) → IsFree o h side → Cut o h side (prev_for number side l h) (next_for number side l h)
+      by : (side : Side) → IsFree o h side
+          → Cut o h side (prev_for number side l h) (next_for number side l h)
       by Left free =
           let c = found.context in
           let k = found.rank in
           let r = found.right in
           let none : root_of found.left ≡ None =
-          let z : Some (root_of found.left) ≡ Some None = sym (ap (option_map (λ v. child_of Left v)) at_h) ∙ free in cc in
-          let tree : tree_in number o ≡ plug c (node leaf h k r) = found.is ∙ ap (λ t. plug c (node t h k r)) (rest_leaf found.left none) in
-          let order : order_in number o ≡ before c ++ h ∷ (walk r ++ after c) = ap walk tree ∙ plug-walk_is (under c Left h k r) leaf in
+          let z : Some (root_of found.left) ≡ Some None =
+          sym (ap (option_map (λ v. child_of Left v)) at_h) ∙ free in cc in
+          let tree : tree_in number o ≡ plug c (node leaf h k r) = found.is
+          ∙ ap (λ t. plug c (node t h k r)) (rest_leaf found.left none) in
+          let order : order_in number o ≡ before c ++ h ∷ (walk r ++ after c) = ap walk tree
+          ∙ plug-walk_is (under c Left h k r) leaf in
           record {
             context = c;
             rank = k;
@@ -112,20 +136,28 @@ module _ {I T : Type 0} (number : I → ℕ) where
             prev_is = (neighbors (before c) (walk r ++ after c) order).0;
             next_is = refl;
             filled_is = λ n. plug-walk_is (under c Left h k r) (node leaf n 1 leaf);
-            stands = λ n. record { before = before c; after = walk r ++ after c; was = order; is = refl };
+            stands = λ n. record {
+              before = before c;
+              after = walk r ++ after c;
+              was = order;
+              is = refl;
+            };
           }
       by Right free =
           let c = found.context in
           let k = found.rank in
           let a = found.left in
           let none : root_of found.right ≡ None =
-          let z : Some (root_of found.right) ≡ Some None = sym (ap (option_map (λ v. child_of Right v)) at_h) ∙ free in cc in
+          let z : Some (root_of found.right) ≡ Some None =
+          sym (ap (option_map (λ v. child_of Right v)) at_h) ∙ free in cc in
           let tree : tree_in number o ≡ plug c (node a h k leaf) =
           found.is ∙ ap (λ t. plug c (node a h k t)) (rest_leaf found.right none) in
           let order : order_in number o ≡ (before c ++ (walk a ++ h ∷ [])) ++ after c =
           ap walk tree ∙ plug-walk_is (under c Right h k a) leaf in
-          let snoc : before c ++ (walk a ++ h ∷ []) ≡ (before c ++ walk a) ++ h ∷ [] = sym (append_assoc (before c) (walk a) (h ∷ [])) in
-          let flat : (ys : List ℕ) → (before c ++ (walk a ++ h ∷ [])) ++ ys ≡ (before c ++ walk a) ++ h ∷ ys =
+          let snoc : before c ++ (walk a ++ h ∷ []) ≡ (before c ++ walk a) ++ h ∷ [] =
+          sym (append_assoc (before c) (walk a) (h ∷ [])) in
+          let flat : (ys : List ℕ)
+          → (before c ++ (walk a ++ h ∷ [])) ++ ys ≡ (before c ++ walk a) ++ h ∷ ys =
           λ ys. ap (λ z. z ++ ys) snoc ∙ append_assoc (before c ++ walk a) (h ∷ []) ys in
           record {
             context = c;
@@ -138,39 +170,52 @@ module _ {I T : Type 0} (number : I → ℕ) where
             prev_is = sym (ap (last_or None) snoc ∙ last_snoc (before c ++ walk a) h);
             next_is = (neighbors (before c ++ walk a) (after c) (order ∙ flat (after c))).1;
             filled_is = λ n. plug-walk_is (under c Right h k a) (node leaf n 1 leaf);
-            stands = λ n. record { before = before c ++ walk a; after = after c; was = order ∙ flat (after c); is = flat (n ∷ after c) };
+            stands = λ n. record {
+              before = before c ++ walk a;
+              after = after c;
+              was = order ∙ flat (after c);
+              is = flat (n ∷ after c);
+            };
           }
 
-  pub cut_found : (o : Ordered I T) → IsOrdered number o → (h : ℕ) (side : Side) (prev next : Option ℕ)
+  pub cut_found : (o : Ordered I T) → IsOrdered number o
+      → (h : ℕ) (side : Side) (prev next : Option ℕ)
       → IsSome (knots_in number o.chains h) → IsFree o h side
       → option_map (λ e. prev_for number side e.1 h) (entry_at o.chains h) ≡ Some prev
-      → option_map (λ e. next_for number side e.1 h) (entry_at o.chains h) ≡ Some next → Cut o h side prev next
+      → option_map (λ e. next_for number side e.1 h) (entry_at o.chains h) ≡ Some next
+      → Cut o h side prev next
   cut_found o is h side prev next lives free p q = by (entry_at o.chains h) refl p q
     where
       by : (e : Option (ℕ × IndexLink I (IndexNode I T))) → entry_at o.chains h ≡ e
-          → option_map (λ e. prev_for number side e.1 h) e ≡ Some prev → option_map (λ e. next_for number side e.1 h) e ≡ Some next
+          → option_map (λ e. prev_for number side e.1 h) e ≡ Some prev
+          → option_map (λ e. next_for number side e.1 h) e ≡ Some next
           → Cut o h side prev next
       by None at p q = absurd (cc)
       by (Some e) at p q =
           let p_is : prev_for number side e.1 h ≡ prev = cc p in
           let q_is : next_for number side e.1 h ≡ next = cc q in
           let found = cut o is h side e.0 e.1 at lives free in
-          subst (λ z. Cut o h side z next) p_is (subst (λ z. Cut o h side (prev_for number side e.1 h) z) q_is found)
+          subst (λ z. Cut o h side z next) p_is
+          (subst (λ z. Cut o h side (prev_for number side e.1 h) z) q_is found)
 
   -- the gap of the chain
-  pub cut_gap : (o : Ordered I T) (is : IsOrdered number o) (h : ℕ) (side : Side) (prev next : Option ℕ) → Cut o h side prev next
+  pub cut_gap : (o : Ordered I T) (is : IsOrdered number o) (h : ℕ) (side : Side)
+      (prev next : Option ℕ) → Cut o h side prev next
       → IsGap (ends_in number o.chains) (prev, next)
   cut_gap o is h side prev next cut =
       rw (cut.prev_is, cut.next_is)
-      (linear_gap (ends_in number o.chains) cut.front cut.back (subst (IsLinear (ends_in number o.chains)) cut.is is.linear))
+      (linear_gap (ends_in number o.chains) cut.front cut.back
+      (subst (IsLinear (ends_in number o.chains)) cut.is is.linear))
 
   item-if : (b : Bool) (g : ℕ) (v : IndexNode I T) (o : Option (ℕ × IndexNode I T))
-      → option_map itemed (if b then Some (g, v) else o) ≡ (if b then Some (g, v.t) else option_map itemed o)
+      → option_map itemed (if b then Some (g, v) else o)
+      ≡ (if b then Some (g, v.t) else option_map itemed o)
   item-if true g v o = refl
   item-if false g v o = refl
 
   -- the links have one more node, of index `n`, where the list is cut; its pointer's index is `i`
-  pub record Linked (o : Ordered I T) (c1 : Content (IndexLink I (IndexNode I T))) (h n i g : ℕ) (side : Side)
+  pub record Linked (o : Ordered I T) (c1 : Content (IndexLink I (IndexNode I T))) (h n i g : ℕ)
+      (side : Side)
       (v : IndexNode I T) : Type 0 where
     pub is : IsOrdered number o
     pub prev : Option ℕ
@@ -180,16 +225,20 @@ module _ {I T : Type 0} (number : I → ℕ) where
     pub index_is : n ≡ i
     pub small : live_count o.chains + 1 < 2 ^ 64
 
-  module _ {o : Ordered I T} {c1 : Content (IndexLink I (IndexNode I T))} {h n i g : ℕ} {side : Side} {v : IndexNode I T}
+  module _ {o : Ordered I T} {c1 : Content (IndexLink I (IndexNode I T))} {h n i g : ℕ}
+      {side : Side} {v : IndexNode I T}
       (new : Linked o c1 h n i g side v) where
     placed : IsPlaced number (Between new.prev new.next) n g v o.chains c1
-    placed = subst (λ j. IsPlaced number (Between new.prev new.next) j g v o.chains c1) (sym new.index_is) new.placed
+    placed = subst (λ j. IsPlaced number (Between new.prev new.next) j g v o.chains c1)
+        (sym new.index_is) new.placed
 
     lives_not : (j : ℕ) → 0 < count j (tree_in number o) → j ≢ n
     lives_not j c e =
-        let lives = counted-lives (knots_in number o.chains) None (tree_in number o) new.is.whole.stands.1 j c in
+        let lives = counted-lives (knots_in number o.chains) None (tree_in number o)
+        new.is.whole.stands.1 j c in
         let gone : knots_in number o.chains j ≡ None =
-        ap (knots_in number o.chains) e ∙ ap (option_map knot_at) (ap (option_map valued) placed.vacant) in
+        ap (knots_in number o.chains) e
+        ∙ ap (option_map knot_at) (ap (option_map valued) placed.vacant) in
         let z : IsSome (option_map knot_at None) = subst IsSome gone lives in
         absurd (cc)
 
@@ -211,7 +260,8 @@ module _ {I T : Type 0} (number : I → ℕ) where
         let cut = new.cut in
         let stands : Stands (knots_in number c1) o.root (tree_in number o) = (
           new.is.whole.stands.0,
-          Represents-keep (knots_in number o.chains) (knots_in number c1) None (tree_in number o) (λ j c. other j (lives_not j c))
+          Represents-keep (knots_in number o.chains) (knots_in number c1) None (tree_in number o)
+              (λ j c. other j (lives_not j c))
               new.is.whole.stands.1,
         ) in
         let small = new.small in
@@ -258,28 +308,34 @@ module _ {I T : Type 0} (number : I → ℕ) where
 
     pub record Leaf (c2 : Content (IndexLink I (IndexNode I T))) (root2 : Option ℕ) : Type 0 where
       pub ordered : IsOrdered number (record { chains = c2; root = root2 })
-      pub order : StandsBeside side (order_in number o) (order_in number (record { chains = c2; root = root2 })) h i
+      pub order : StandsBeside side (order_in number o)
+          (order_in number (record { chains = c2; root = root2 })) h i
       pub added : IsAdded number i g v.t o (record { chains = c2; root = root2 })
 
     pub leaf_works : (c2 : Content (IndexLink I (IndexNode I T))) (root2 : Option ℕ)
-        → Restored (knots_in number c2) root2 (walk (filled leaf_gap)) → rest c2 ≡ rest c1 → Leaf c2 root2
+        → Restored (knots_in number c2) root2 (walk (filled leaf_gap)) → rest c2 ≡ rest c1
+        → Leaf c2 root2
     unfolding leaf_gap
     leaf_works c2 root2 restored keeps =
         let p : Ordered I T = record { chains = c2; root = root2 } in
         let cut = new.cut in
         let same = rested number c1 c2 keeps in
-        let tree : tree_in number p ≡ restored.tree = tree_is (knots_in number c2) root2 restored.tree restored.stands restored.ranked in
+        let tree : tree_in number p ≡ restored.tree =
+        tree_is (knots_in number c2) root2 restored.tree restored.stands restored.ranked in
         let walks : order_in number p ≡ walk grown = ap walk tree ∙ restored.is_walk in
         let order : order_in number p ≡ cut.front ++ n ∷ cut.back = walks ∙ cut.filled_is n in
         let linear1 : IsLinear (ends_in number c1) (cut.front ++ n ∷ cut.back) =
         placed.lists.inside cut.front cut.back (sym cut.prev_is) (sym cut.next_is)
         (subst (IsLinear (ends_in number o.chains)) cut.is new.is.linear) in
-        let linear2 = chain_where (ends_in number c1) (ends_in number c2) (Linear (cut.front ++ n ∷ cut.back))
+        let linear2 = chain_where (ends_in number c1) (ends_in number c2)
+        (Linear (cut.front ++ n ∷ cut.back))
         (λ i on. same.ends i) linear1 in
-        let old_length : length (order_in number o) ≡ length (cut.front ++ cut.back) = ap length cut.is in
+        let old_length : length (order_in number o) ≡ length (cut.front ++ cut.back) =
+        ap length cut.is in
         let l1 = length-append cut.front (n ∷ cut.back) in
         let l2 = length-append cut.front cut.back in
-        let l3 : length (order_in number p) ≡ length (cut.front ++ n ∷ cut.back) = ap length order in
+        let l3 : length (order_in number p) ≡ length (cut.front ++ n ∷ cut.back) =
+        ap length order in
         let l4 = new.is.counted in
         let l5 : live_count c2 ≡ live_count c1 = same.kept.live in
         let l6 = placed.live in
@@ -296,18 +352,21 @@ module _ {I T : Type 0} (number : I → ℕ) where
                 let f = counts j in
                 elim (cases_eq j n) [
                   | inl at_n ↦ let y = one_at_n j at_n in omega arith
-                  | inr d ↦ let z = new.is.all j (subst IsSome (other j d) (same.lives j lives)) in omega arith
+                  | inr d ↦ let z = new.is.all j (subst IsSome (other j d) (same.lives j lives)) in
+                      omega arith
                 ];
             counted = omega arith;
           };
           order =
-              subst (λ j. StandsBeside side (order_in number o) (order_in number p) h j) new.index_is
+              subst (λ j. StandsBeside side (order_in number o) (order_in number p) h j)
+              new.index_is
               (subst (λ w. StandsBeside side (order_in number o) w h n) (sym order) (cut.stands n));
           added = record {
             index = new.placed.index;
             generation = new.placed.generation;
             vacant = ap (λ e. option_map itemed (option_map valued e)) new.placed.vacant;
-            entries = λ k. same.items k ∙ ap (option_map itemed) (new.placed.values k) ∙ item-if (k == i) g v (values_in o.chains k);
+            entries = λ k. same.items k ∙ ap (option_map itemed) (new.placed.values k)
+                ∙ item-if (k == i) g v (values_in o.chains k);
             size = same.kept.live ∙ new.placed.live;
             free = same.kept.free ∙ new.placed.free;
             slots = same.kept.slots ∙ new.placed.slots;

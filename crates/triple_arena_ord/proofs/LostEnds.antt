@@ -1,5 +1,6 @@
 -- The ends of a list without an index.
-use Rattle.std.proofs.Common.{◌≡◌, ℕ, List, [], ◌∷◌, ◌++◌, Option, Some, None, refl, sym, ap, ◌∙◌, subst}
+use Rattle.std.proofs.Common.{◌≡◌, ℕ, List, [], ◌∷◌, ◌++◌, Option, Some, None, refl, sym, ap, ◌∙◌}
+use Rattle.std.proofs.Common.{subst}
 use Rattle.std.proofs.lemmas.Bool.{eq-eqb, ne_eqb}
 use Rattle.triple_arena_chain.specs.Chains.{Ends, Off, Apart, IsLinear, first_or, last_or}
 use Rattle.triple_arena_chain.specs.ChainLaws.{Off-not_on, last_or-append}
@@ -11,39 +12,52 @@ use Rattle.triple_arena_ord.proofs.EndLemmas.{last_far, last_some, after_off}
 use Rattle.triple_arena_ord.proofs.GapLemmas.{linear_ends}
 
 first_without : (before : List ℕ) (h : ℕ) (after : List ℕ) → Apart (before ++ h ∷ after)
-    → ended (first_or (before ++ h ∷ after) None) h (first_or after None) ≡ first_or (before ++ after) None
+    → ended (first_or (before ++ h ∷ after) None) h (first_or after None)
+    ≡ first_or (before ++ after) None
 first_without [] h after apart = rw (eq-eqb h h refl) refl
 first_without (x ∷ xs) h after apart =
-    rw (ne_eqb x h (λ same. Off-not_on xs after h (subst (λ z. Off (xs ++ h ∷ after) z) same apart.0))) refl
+    rw (ne_eqb x h (λ same. Off-not_on xs after h
+    (subst (λ z. Off (xs ++ h ∷ after) z) same apart.0))) refl
 
 last_without : (before : List ℕ) (h : ℕ) (after : List ℕ) → Apart (before ++ h ∷ after)
-    → ended (last_or None (before ++ h ∷ after)) h (last_or None before) ≡ last_or None (before ++ after)
+    → ended (last_or None (before ++ h ∷ after)) h (last_or None before)
+    ≡ last_or None (before ++ after)
 last_without before h after apart =
-    rw (last_or-append None before (h ∷ after), last_or-append None before after) (go after (after_off before h after apart))
+    rw (last_or-append None before (h ∷ after), last_or-append None before after)
+    (go after (after_off before h after apart))
   where
-    go : (after : List ℕ) → Off after h → ended (last_or (Some h) after) h (last_or None before) ≡ last_or (last_or None before) after
+    go : (after : List ℕ) → Off after h
+        → ended (last_or (Some h) after) h (last_or None before)
+        ≡ last_or (last_or None before) after
     go [] off = rw (eq-eqb h h refl) refl
     go (y ∷ ys) off =
         let l = last_some y ys in
         rw (l.1, ne_eqb l.0 h (last_far h y ys off l.0 l.1)) refl
 
-module _ {I T : Type 0} (number : I → ℕ) (o p : Ordered I T) (is : IsOrdered number o) (h : ℕ) (s : Loses (order_in number o) (order_in number p) h)
+module _ {I T : Type 0} (number : I → ℕ) (o p : Ordered I T) (is : IsOrdered number o) (h : ℕ)
+    (s : Loses (order_in number o) (order_in number p) h)
     (prev next : Option ℕ) (ends : ends_in number o.chains h ≡ Some (prev, next)) where
   apart : Apart (s.before ++ h ∷ s.after)
-  apart = subst Apart s.was (linear_apart (ends_in number o.chains) None (order_in number o) is.linear)
+  apart = subst Apart s.was
+      (linear_apart (ends_in number o.chains) None (order_in number o) is.linear)
 
   neighbors : ◌≡◌ {A = Ends} (prev, next) (last_or None s.before, first_or s.after None)
   neighbors =
       let e : Some (prev, next) ≡ Some (last_or None s.before, first_or s.after None) =
-      sym ends ∙ linear_ends (ends_in number o.chains) s.before h s.after (subst (IsLinear (ends_in number o.chains)) s.was is.linear) in
+      sym ends ∙ linear_ends (ends_in number o.chains) s.before h s.after
+      (subst (IsLinear (ends_in number o.chains)) s.was is.linear) in
       cc e
 
-  pub first_lost : (f : Option ℕ) → f ≡ first_or (order_in number o) None → ended f h next ≡ first_or (order_in number p) None
+  pub first_lost : (f : Option ℕ) → f ≡ first_or (order_in number o) None
+      → ended f h next ≡ first_or (order_in number p) None
   first_lost f e =
-      ap (λ z. ended f h z.1) neighbors ∙ ap (λ z. ended z h (first_or s.after None)) (e ∙ ap (λ l. first_or l None) s.was)
+      ap (λ z. ended f h z.1) neighbors
+      ∙ ap (λ z. ended z h (first_or s.after None)) (e ∙ ap (λ l. first_or l None) s.was)
       ∙ first_without s.before h s.after apart ∙ sym (ap (λ l. first_or l None) s.is)
 
-  pub last_lost : (f : Option ℕ) → f ≡ last_or None (order_in number o) → ended f h prev ≡ last_or None (order_in number p)
+  pub last_lost : (f : Option ℕ) → f ≡ last_or None (order_in number o)
+      → ended f h prev ≡ last_or None (order_in number p)
   last_lost f e =
-      ap (λ z. ended f h z.0) neighbors ∙ ap (λ z. ended z h (last_or None s.before)) (e ∙ ap (last_or None) s.was)
+      ap (λ z. ended f h z.0) neighbors
+      ∙ ap (λ z. ended z h (last_or None s.before)) (e ∙ ap (last_or None) s.was)
       ∙ last_without s.before h s.after apart ∙ sym (ap (last_or None) s.is)

@@ -1,5 +1,6 @@
 -- The first entry of the list leaves.
-use Rattle.std.proofs.Common.{◌≡◌, ℕ, suc, List, [], ◌∷◌, ◌++◌, length, Option, Some, None, IsSome, Bool, refl, sym, ap, subst, ◌∙◌, arith}
+use Rattle.std.proofs.Common.{◌≡◌, ℕ, suc, List, [], ◌∷◌, ◌++◌, length, Option, Some, None, IsSome}
+use Rattle.std.proofs.Common.{Bool, refl, sym, ap, subst, ◌∙◌, arith}
 use Rattle.std.specs.Option.{option_map}
 use Rattle.std.proofs.lemmas.Bool.{ne_eqb}
 use Rattle.triple_arena_ptr.specs.Generation.{next_generation, next_wraps}
@@ -13,15 +14,19 @@ use Rattle.triple_arena_chain.specs.ChainLaws.{Off-not_on, On-cons}
 use Rattle.triple_arena_chain.specs.ListLaws.{On-first}
 use Rattle.triple_arena_chain.specs.Links.{ends_in}
 use Rattle.triple_arena_chain.specs.UniquenessLaws.{linear_apart}
-use Rattle.triple_arena_ord.specs.Ordered.{Ordered, IsOrdered, order_in, entry_in, size_in, counter_in, ordered_entries, entries_at}
-use Rattle.triple_arena_ord.specs.OrderedDrains.{emptied_after, IsFirstTaken, TakesFirst, drain_arena, drain_lender, drain_rest, IsOn, DrainSteps, DrainKeepsAlong}
+use Rattle.triple_arena_ord.specs.Ordered.{Ordered, IsOrdered, order_in, entry_in, size_in}
+use Rattle.triple_arena_ord.specs.Ordered.{counter_in, ordered_entries, entries_at}
+use Rattle.triple_arena_ord.specs.OrderedDrains.{emptied_after, IsFirstTaken, TakesFirst}
+use Rattle.triple_arena_ord.specs.OrderedDrains.{drain_arena, drain_lender, drain_rest, IsOn}
+use Rattle.triple_arena_ord.specs.OrderedDrains.{DrainSteps, DrainKeepsAlong}
 use Rattle.triple_arena_ord.specs.Removal.{Loses, IsEntryRemoved}
 use Rattle.triple_arena_ord.specs.declared.ord_arena.drain.OrderedDrain.{OrderedDrain}
 use Rattle.triple_arena_ord.proofs.OrderedWalkLemmas.{listed_first, on_lives}
 
 module _ {I T : Type 0} where
   -- an index that is not listed can go
-  listed_other : (o p : Ordered I T) (h : ℕ) → ((k : ℕ) → entry_in p k ≡ without (entry_in o) h k) → (xs : List ℕ) → Off xs h → entries_at p xs ≡ entries_at o xs
+  listed_other : (o p : Ordered I T) (h : ℕ) → ((k : ℕ) → entry_in p k ≡ without (entry_in o) h k)
+      → (xs : List ℕ) → Off xs h → entries_at p xs ≡ entries_at o xs
   listed_other o p h entries [] off = refl
   listed_other o p h entries (x ∷ xs) off =
       let same : entry_in p x ≡ entry_in o x = entries x ∙ rw (ne_eqb x h off.0) refl in
@@ -34,52 +39,69 @@ module _ {I T : Type 0} where
       pub was : order_in number o ≡ h ∷ after
       pub now : order_in number p ≡ after
 
-    shorter : first_or (order_in number o) None ≡ Some h → Loses (order_in number o) (order_in number p) h → Shorter
+    shorter : first_or (order_in number o) None ≡ Some h
+        → Loses (order_in number o) (order_in number p) h → Shorter
     shorter first lost = by lost.before lost.was lost.is
       where
-        by : (before : List ℕ) → order_in number o ≡ before ++ h ∷ lost.after → order_in number p ≡ before ++ lost.after → Shorter
+        by : (before : List ℕ) → order_in number o ≡ before ++ h ∷ lost.after
+            → order_in number p ≡ before ++ lost.after → Shorter
         by [] was now = record { after = lost.after; was = was; now = now }
         by (x ∷ before) was now =
             let begins : Some x ≡ Some h = ap (λ l. first_or l None) (sym was) ∙ first in
             let same : x ≡ h = cc in
-            let apart : Apart (x ∷ before ++ h ∷ lost.after) = subst Apart was (linear_apart (ends_in number o.chains) None (order_in number o) is.linear) in
-            absurd (Off-not_on before lost.after h (subst (λ y. Off (before ++ h ∷ lost.after) y) same apart.0))
+            let apart : Apart (x ∷ before ++ h ∷ lost.after) =
+            subst Apart was (linear_apart (ends_in number o.chains) None (order_in number o)
+            is.linear) in
+            absurd (Off-not_on before lost.after h
+            (subst (λ y. Off (before ++ h ∷ lost.after) y) same apart.0))
 
     -- the entries are listed without the first
-    pub first_gone : (last : Option ℕ) (entry : ℕ × T) → first_or (order_in number o) None ≡ Some h → entry_in o h ≡ Some entry → IsEntryRemoved number last h o p
+    pub first_gone : (last : Option ℕ) (entry : ℕ × T) → first_or (order_in number o) None ≡ Some h
+        → entry_in o h ≡ Some entry → IsEntryRemoved number last h o p
         → ordered_entries number o ≡ (h, entry) ∷ ordered_entries number p
     first_gone last entry first at removed =
         let s = shorter first removed.order in
-        let off = (subst Apart s.was (linear_apart (ends_in number o.chains) None (order_in number o) is.linear)).0 in
+        let off = (subst Apart s.was
+        (linear_apart (ends_in number o.chains) None (order_in number o) is.linear)).0 in
         ap (entries_at o) s.was ∙ listed_first o h entry s.after at
         ∙ ap (λ l. (h, entry) ∷ l) (sym (listed_other o p h removed.entries s.after off))
         ∙ ap (λ l. (h, entry) ∷ entries_at p l) (sym s.now)
 
   -- nothing is listed where there is no first
-  pub none_first : (number : I → ℕ) (o : Ordered I T) → first_or (order_in number o) None ≡ None → ordered_entries number o ≡ []
+  pub none_first : (number : I → ℕ) (o : Ordered I T) → first_or (order_in number o) None ≡ None
+      → ordered_entries number o ≡ []
   none_first number o none = ap (entries_at o) (nil (order_in number o) none)
     where
       nil : (w : List ℕ) → first_or w None ≡ None → w ≡ []
       nil [] h = refl
       nil (x ∷ w) h = absurd (cc)
 
-  module _ {P G : Type 0} (stamp : G → ℕ) (number : I → ℕ) (last : Option ℕ) (index generation : P → ℕ) where
+  module _ {P G : Type 0} (stamp : G → ℕ) (number : I → ℕ) (last : Option ℕ)
+      (index generation : P → ℕ) where
     -- a removal that is given as an item
-    pub taken_by : (o p : Ordered I T) (h : ℕ) (r : Option (InvalidationOption (G × T))) (q : P) (gen : G) (t : T) (wrapped : Bool)
+    pub taken_by : (o p : Ordered I T) (h : ℕ) (r : Option (InvalidationOption (G × T))) (q : P)
+        (gen : G) (t : T) (wrapped : Bool)
         (item : InvalidationOption (P × T))
-        → IsOrdered number o → first_or (order_in number o) None ≡ Some h → index q ≡ h → generation q ≡ stamp gen
+        → IsOrdered number o → first_or (order_in number o) None ≡ Some h → index q ≡ h
+        → generation q ≡ stamp gen
         → value_of item ≡ (q, t) → overflowed item ≡ wrapped
-        → (let u : Option ((G × T) × Bool) = Some ((gen, t), wrapped) in u) ≡ option_map (λ a. (let v : (G × T) × Bool = (value_of a, overflowed a) in v)) r
+        → (let u : Option ((G × T) × Bool) = Some ((gen, t), wrapped) in u)
+        ≡ option_map (λ a. (let v : (G × T) × Bool = (value_of a, overflowed a) in v)) r
         → option_map (λ b. (stamp (value_of b).0, (value_of b).1)) r ≡ entry_in o h
-        → option_map overflowed r ≡ Some (next_wraps last o.chains.counter) → IsEntryRemoved number last h o p
+        → option_map overflowed r ≡ Some (next_wraps last o.chains.counter)
+        → IsEntryRemoved number last h o p
         → IsFirstTaken number last index generation item o p
-    taken_by o p h None q gen t wrapped item is first at_h is_gen value wraps told entry overflow removed =
-        absurd (let never : (let u : Option ((G × T) × Bool) = Some ((gen, t), wrapped) in u) ≡ None = told in cc)
-    taken_by o p h (Some a) q gen t wrapped item is first at_h is_gen value wraps told entry overflow removed =
+    taken_by o p h None q gen t wrapped item is first at_h is_gen value wraps told entry overflow
+        removed =
+        absurd (let never : (let u : Option ((G × T) × Bool) = Some ((gen, t), wrapped) in u)
+        ≡ None = told in cc)
+    taken_by o p h (Some a) q gen t wrapped item is first at_h is_gen value wraps told entry
+        overflow removed =
         let b : (G × T) × Bool = ((gen, t), wrapped) in
         let c : (G × T) × Bool = (value_of a, overflowed a) in
         let given : b ≡ c = cc in
-        let found : entry_in o h ≡ Some (stamp gen, t) = sym entry ∙ ap (λ v. Some (stamp v.0.0, v.0.1)) (sym given) in
+        let found : entry_in o h ≡ Some (stamp gen, t) = sym entry
+        ∙ ap (λ v. Some (stamp v.0.0, v.0.1)) (sym given) in
         let over : overflowed a ≡ next_wraps last o.chains.counter = cc in
         let here : index (value_of item).0 ≡ h = ap (λ v. index v.0) value ∙ at_h in
         record {
@@ -92,16 +114,21 @@ module _ {I T : Type 0} where
         }
 
 -- what is left in the end
-emptied_next : {I T : Type 0} (number : I → ℕ) (last : Option ℕ) (n h : ℕ) (o p : Ordered I T) → IsEntryRemoved number last h o p
+emptied_next : {I T : Type 0} (number : I → ℕ) (last : Option ℕ) (n h : ℕ) (o p : Ordered I T)
+    → IsEntryRemoved number last h o p
     → emptied_after last n p ≡ emptied_after last (suc n) o
 emptied_next number last n h o p removed = rw (removed.room, removed.counter) refl
 
 module _ {I T : Type 0} (number : I → ℕ) (o : Ordered I T) (is : IsOrdered number o) where
-  listed_length : (xs : List ℕ) → ((i : ℕ) → On xs i → IsSome (entry_in o i)) → length (entries_at o xs) ≡ length xs
+  listed_length : (xs : List ℕ) → ((i : ℕ) → On xs i → IsSome (entry_in o i))
+      → length (entries_at o xs) ≡ length xs
   listed_length [] live = refl
-  listed_length (x ∷ xs) live = by (listed_length xs (λ i on. live i (On-cons x i xs on))) (entry_in o x) refl (live x (On-first x xs))
+  listed_length (x ∷ xs) live =
+      by (listed_length xs (λ i on. live i (On-cons x i xs on))) (entry_in o x) refl
+      (live x (On-first x xs))
     where
-      by : length (entries_at o xs) ≡ length xs → (v : Option (ℕ × T)) → entry_in o x ≡ v → IsSome v → length (entries_at o (x ∷ xs)) ≡ length (x ∷ xs)
+      by : length (entries_at o xs) ≡ length xs → (v : Option (ℕ × T)) → entry_in o x ≡ v → IsSome v
+          → length (entries_at o (x ∷ xs)) ≡ length (x ∷ xs)
       by rest None at some = absurd (cc)
       by rest (Some entry) at some = ap length (listed_first o x entry xs at) ∙ omega (arith, rest)
 
@@ -110,39 +137,61 @@ module _ {I T : Type 0} (number : I → ℕ) (o : Ordered I T) (is : IsOrdered n
   all_listed = listed_length (order_in number o) (on_lives number o is) ∙ is.counted
 
   -- and so many are left to remove
-  pub removals_left : (last : Option ℕ) → length (removals last (counter_in o) (ordered_entries number o)) ≡ size_in o
+  pub removals_left : (last : Option ℕ)
+      → length (removals last (counter_in o) (ordered_entries number o)) ≡ size_in o
   removals_left last = removals-length last (counter_in o) (ordered_entries number o) ∙ all_listed
 
-module _ {P T S Inx Gen Word Alloc : Type 0} (last : Option ℕ) (number : Inx → ℕ) (index generation : P → ℕ) where
+module _ {P T S Inx Gen Word Alloc : Type 0} (last : Option ℕ) (number : Inx → ℕ)
+    (index generation : P → ℕ) where
   -- the first entry leaves: a drain gives its removal, and is on by one
-  pub drain_steps : (item : Option (InvalidationOption (P × T))) (old new : OrderedDrain P T S Inx Gen Word Alloc)
-      → TakesFirst number last index generation item (drain_arena old) (drain_arena new) → drain_lender new ≡ drain_lender old
+  pub drain_steps : (item : Option (InvalidationOption (P × T)))
+      (old new : OrderedDrain P T S Inx Gen Word Alloc)
+      → TakesFirst number last index generation item (drain_arena old) (drain_arena new)
+      → drain_lender new ≡ drain_lender old
       → DrainSteps last number index generation old item new
   drain_steps None old new took lender =
-      let rest : drain_rest last number old ≡ [] = ap (removals last (counter_in (drain_arena old))) took.0 in (
-        (rest, ap (λ (o : Ordered Inx T). removals last (counter_in o) (ordered_entries number o)) took.1 ∙ rest),
+      let rest : drain_rest last number old ≡ [] =
+      ap (removals last (counter_in (drain_arena old))) took.0 in (
+        (
+          rest,
+          ap (λ (o : Ordered Inx T). removals last (counter_in o) (ordered_entries number o))
+              took.1 ∙ rest,
+        ),
         record { lender = lender; leaves = ap (emptied_after last 1) took.1 },
         took,
       )
   drain_steps (Some item) old new took lender = (
-    ap (removals last (counter_in (drain_arena old))) took.first ∙ rw (took.overflow, took.removed.counter) refl,
-    record { lender = lender; leaves = emptied_next number last 1 (index (value_of item).0) (drain_arena old) (drain_arena new) took.removed },
+    ap (removals last (counter_in (drain_arena old))) took.first
+        ∙ rw (took.overflow, took.removed.counter) refl,
+    record {
+      lender = lender;
+      leaves =
+          emptied_next number last 1 (index (value_of item).0) (drain_arena old) (drain_arena new)
+          took.removed;
+    },
     took,
   )
 
   -- steps on, one after another
-  steps_on : (n : ℕ) (old mid new : OrderedDrain P T S Inx Gen Word Alloc) → IsOn last 1 old mid → IsOn last n mid new → IsOn last (suc n) old new
+  steps_on : (n : ℕ) (old mid new : OrderedDrain P T S Inx Gen Word Alloc) → IsOn last 1 old mid
+      → IsOn last n mid new → IsOn last (suc n) old new
   steps_on n old mid new first rest =
       record {
         lender = rest.lender ∙ first.lender;
-        leaves = rest.leaves ∙ go n (ap (λ (o : Ordered Inx T). o.chains.counter) first.leaves) (ap (λ (o : Ordered Inx T). o.chains.room) first.leaves);
+        leaves = rest.leaves ∙ go n (ap (λ (o : Ordered Inx T). o.chains.counter) first.leaves)
+            (ap (λ (o : Ordered Inx T). o.chains.room) first.leaves);
       }
     where
-      go : (n : ℕ) → next_generation last (drain_arena mid).chains.counter ≡ next_generation last (next_generation last (drain_arena old).chains.counter)
+      go : (n : ℕ) → next_generation last (drain_arena mid).chains.counter
+          ≡ next_generation last (next_generation last (drain_arena old).chains.counter)
           → (drain_arena mid).chains.room ≡ (drain_arena old).chains.room
-          → emptied_after last (suc n) (drain_arena mid) ≡ emptied_after last (suc (suc n)) (drain_arena old)
+          → emptied_after last (suc n) (drain_arena mid)
+          ≡ emptied_after last (suc (suc n)) (drain_arena old)
       go n counter room = rw (counter, room) refl
 
-  pub keeps_along : (first : OrderedDrain P T S Inx Gen Word Alloc) → DrainKeepsAlong last number index generation first
-  keeps_along first [] later run = subst (IsOn last 0 first) run (record { lender = refl; leaves = refl })
-  keeps_along first (item ∷ items) later run = steps_on (length items) first run.0 later run.1.1 (keeps_along run.0 items later run.2)
+  pub keeps_along : (first : OrderedDrain P T S Inx Gen Word Alloc)
+      → DrainKeepsAlong last number index generation first
+  keeps_along first [] later run =
+      subst (IsOn last 0 first) run (record { lender = refl; leaves = refl })
+  keeps_along first (item ∷ items) later run =
+      steps_on (length items) first run.0 later run.1.1 (keeps_along run.0 items later run.2)

@@ -13,14 +13,20 @@ use Rattle.triple_arena_ord.proofs.LiveLemmas.{counted_entry}
 use Rattle.triple_arena_ord.proofs.NameLemmas.{if_answered}
 use Rattle.triple_arena_ord.proofs.SeekLemmas.{parts_at}
 
-module _ {I T K : Type 0} (number : I → ℕ) (cmp : K → K → Ordering) (key : T → K) (k : K) (o : Ordered I T) where
-  pub placed_by_key : IsTotalOrder cmp → IsOrdered number o → (place : Option (ℕ × Ordering)) → IsAnswer (asked_at cmp key k o) (tree_in number o) place
+module _ {I T K : Type 0} (number : I → ℕ) (cmp : K → K → Ordering) (key : T → K) (k : K)
+    (o : Ordered I T) where
+  pub placed_by_key : IsTotalOrder cmp → IsOrdered number o → (place : Option (ℕ × Ordering))
+      → IsAnswer (asked_at cmp key k o) (tree_in number o) place
       → IsPlaceByKey number cmp key k o place
   placed_by_key total is place answer = record {
-    none = (λ e. sym sized ∙ root_size (tree_in number o) (answer.empty e), λ e. nothing place refl (sized ∙ e));
+    none = (
+      λ e. sym sized ∙ root_size (tree_in number o) (answer.empty e),
+      λ e. nothing place refl (sized ∙ e),
+    );
     live = λ i d e. counted_entry number o is i (answer.lives i d e);
     way = answer.asked;
-    places = λ ascending i d e. answer.parted i d e (parts_at number cmp key k total o is ascending);
+    places = λ ascending i d e. answer.parted i d e
+        (parts_at number cmp key k total o is ascending);
   }
     where
       sized : size (tree_in number o) ≡ size_in o
@@ -37,7 +43,8 @@ module _ {I T K : Type 0} (number : I → ℕ) (cmp : K → K → Ordering) (key
     unplaced : r ≡ None → numbered ≡ None
     unplaced e = ap (option_map {U = ℕ × Ordering} (λ a. (number a.0, a.1))) e
 
-    pub key_live : IsPlaceByKey number cmp key k o numbered → IfSome r (λ a. IsSome (entry_in o (number a.0)))
+    pub key_live : IsPlaceByKey number cmp key k o numbered
+        → IfSome r (λ a. IsSome (entry_in o (number a.0)))
     key_live place = if_answered number (λ i d. IsSome (entry_in o i)) r place.live
 
     pub key_empty : IsPlaceByKey number cmp key k o numbered → r ≡ None → size_in o ≡ 0

@@ -1,13 +1,17 @@
 -- A tree that is written anew along a list: the parts of the list, and the tree of the whole.
-use Rattle.std.proofs.Common.{◌≡◌, ◌≢◌, ℕ, zero, suc, ◌+◌, ◌-◌, ◌*◌, ◌^◌, ◌/◌, ◌<◌, ◌≤◌, List, [], ◌∷◌, ◌++◌, length, Option, Some, None, IsSome, IfSome, is_some, true≢false, refl, sym, ap, subst, ◌∙◌, arith, inl, inr, length-append}
+use Rattle.std.proofs.Common.{◌≡◌, ◌≢◌, ℕ, zero, suc, ◌+◌, ◌-◌, ◌*◌, ◌^◌, ◌/◌, ◌<◌, ◌≤◌, List, []}
+use Rattle.std.proofs.Common.{◌∷◌, ◌++◌, length, Option, Some, None, IsSome, IfSome, is_some}
+use Rattle.std.proofs.Common.{true≢false, refl, sym, ap, subst, ◌∙◌, arith, inl, inr, length-append}
 use Rattle.std.specs.Option.{option_map}
 use Rattle.std.specs.Prelude.{min}
 use Rattle.std.proofs.Math.Nat.{pow-succ'}
 use Rattle.std.proofs.lemmas.Bool.Decides.{eqb_tells, leb_tells}
 use Rattle.triple_arena.specs.Content.{Content, entry_at}
 use Rattle.triple_arena_chain.specs.LinkShape.{IndexLink}
-use Rattle.triple_arena_chain.specs.Chains.{Ends, next_in, next_at, first_or, Stands, Off, Apart, IsLinear}
-use Rattle.triple_arena_chain.specs.ChainLaws.{first_or-append, Stands-front, Stands-back, off_or_on, Off-front, Off-back, Apart-both}
+use Rattle.triple_arena_chain.specs.Chains.{Ends, next_in, next_at, first_or, Stands, Off, Apart}
+use Rattle.triple_arena_chain.specs.Chains.{IsLinear}
+use Rattle.triple_arena_chain.specs.ChainLaws.{first_or-append, Stands-front, Stands-back}
+use Rattle.triple_arena_chain.specs.ChainLaws.{off_or_on, Off-front, Off-back, Apart-both}
 use Rattle.triple_arena_chain.specs.ListLaws.{Apart-front, Apart-back, Apart-split, Stands-where}
 use Rattle.triple_arena_chain.specs.UniquenessLaws.{linear_apart}
 use Rattle.triple_arena_chain.specs.Links.{ends_in, entry_ends, valued}
@@ -36,10 +40,17 @@ cut [] n less = absurd (omega (arith, less))
 cut (x ∷ w) zero less = record { v = []; i = x; u = w; whole = refl; long = refl }
 cut (x ∷ w) (suc n) less =
     let rest = cut w n (omega (arith, less)) in
-    record { v = x ∷ rest.v; i = rest.i; u = rest.u; whole = ap (λ l. x ∷ l) rest.whole; long = ap suc rest.long }
+    record {
+      v = x ∷ rest.v;
+      i = rest.i;
+      u = rest.u;
+      whole = ap (λ l. x ∷ l) rest.whole;
+      long = ap suc rest.long;
+    }
 
 -- the left part, the root and the right part of a list
-pub record Parts (e : ℕ → Option Ends) (cursor : Option ℕ) (count : ℕ) (w : List ℕ) (after : Option ℕ) : Type 0 where
+pub record Parts (e : ℕ → Option Ends) (cursor : Option ℕ) (count : ℕ) (w : List ℕ)
+    (after : Option ℕ) : Type 0 where
   pub v : List ℕ
   pub i : ℕ
   pub u : List ℕ
@@ -53,7 +64,8 @@ pub record Parts (e : ℕ → Option Ends) (cursor : Option ℕ) (count : ℕ) (
   pub sizes : length v + length u + 1 ≡ count
   pub apart : Apart (v ++ i ∷ u)
 
-pub parts : (e : ℕ → Option Ends) (cursor : Option ℕ) (count : ℕ) (w : List ℕ) → (a : IsAhead e cursor count w) → 1 ≤ count → Parts e cursor count w a.after
+pub parts : (e : ℕ → Option Ends) (cursor : Option ℕ) (count : ℕ) (w : List ℕ)
+    → (a : IsAhead e cursor count w) → 1 ≤ count → Parts e cursor count w a.after
 parts e cursor count w a some =
     let long = a.long in
     let c = cut w (count / 2) (omega (arith, long, some)) in
@@ -72,7 +84,8 @@ parts e cursor count w a some =
         before = a.before;
         after = Some c.i;
         stands = Stands-front e a.before a.after c.v (c.i ∷ c.u) s;
-        first = a.first ∙ ap (λ l. first_or l a.after) c.whole ∙ first_or-append c.v (c.i ∷ c.u) a.after;
+        first = a.first ∙ ap (λ l. first_or l a.after) c.whole
+            ∙ first_or-append c.v (c.i ∷ c.u) a.after;
         apart = Apart-front c.v (c.i ∷ c.u) apart;
         long = c.long;
       };
@@ -92,19 +105,8 @@ parts e cursor count w a some =
       apart = apart;
     }
 
--- interlinks that are the same
-pub ahead_same : (e e' : ℕ → Option Ends) (cursor : Option ℕ) (count : ℕ) (w : List ℕ) → ((k : ℕ) → e' k ≡ e k) → IsAhead e cursor count w → IsAhead e' cursor count w
-ahead_same e e' cursor count w same a =
-    record {
-      before = a.before;
-      after = a.after;
-      stands = Stands-where e e' a.before a.after w (λ k on. same k) a.stands;
-      first = a.first;
-      apart = a.apart;
-      long = a.long;
-    }
-
-pub empty_ahead : (e : ℕ → Option Ends) (cursor : Option ℕ) (w : List ℕ) → (a : IsAhead e cursor 0 w) → (w ≡ []) × (cursor ≡ a.after)
+pub empty_ahead : (e : ℕ → Option Ends) (cursor : Option ℕ) (w : List ℕ)
+    → (a : IsAhead e cursor 0 w) → (w ≡ []) × (cursor ≡ a.after)
 empty_ahead e cursor [] a = (refl, a.first)
 empty_ahead e cursor (x ∷ w) a = absurd (let long = a.long in omega (arith, long))
 
@@ -137,7 +139,12 @@ distinct_at (node l i k r) apart j =
             | inr on ↦
                 elim (off_or_on (walk r) j) [
                   | inl off ↦ let right = off_uncounted r j off in omega (arith, right, here, p)
-                  | inr too ↦ absurd (Apart-both (walk l) (i ∷ walk r) j apart on (record { front = i ∷ too.front; back = too.back; is = ap (λ l. i ∷ l) too.is }))
+                  | inr too ↦ absurd (Apart-both (walk l) (i ∷ walk r) j apart on
+                      (record {
+                        front = i ∷ too.front;
+                        back = too.back;
+                        is = ap (λ l. i ∷ l) too.is;
+                      }))
                 ]
           ]
     ]
@@ -146,42 +153,64 @@ pub distinct_walk : (t : Tree) (w : List ℕ) → walk t ≡ w → Apart w → I
 distinct_walk t w is apart = record { once = distinct_at t (subst Apart (sym is) apart) }
 
 -- the root of what was built is there
-pub root_lives : (k : ℕ) (w : List ℕ) (root : Option ℕ) (n m : Store) → IsBuilt k w root n m → (i : ℕ) → root ≡ Some i → IsSome (m i)
+pub root_lives : (k : ℕ) (w : List ℕ) (root : Option ℕ) (n m : Store) → IsBuilt k w root n m
+    → (i : ℕ) → root ≡ Some i → IsSome (m i)
 root_lives k w root n m b i is = by b.tree b.represents (sym b.root_is ∙ is)
   where
     by : (t : Tree) → Represents m None t → root_of t ≡ Some i → IsSome (m i)
     by leaf r at = absurd (let none : None ≡ Some i = at in cc)
-    by (node l x rank rr) r at = let same : x ≡ i = cc in subst (λ y. IsSome (m y)) same (ap is_some r.0)
+    by (node l x rank rr) r at = let same : x ≡ i = cc in
+        subst (λ y. IsSome (m y)) same (ap is_some r.0)
 
 module _ {I T : Type 0} (number : I → ℕ) where
-  pub live_knot : (c : Content (IndexLink I (IndexNode I T))) (k : ℕ) → IsSome (ends_in number c k) → IsSome (knots_in number c k)
+  pub live_knot : (c : Content (IndexLink I (IndexNode I T))) (k : ℕ) → IsSome (ends_in number c k)
+      → IsSome (knots_in number c k)
   live_knot c k some = by (entry_at c k) some
     where
-      by : (o : Option (ℕ × IndexLink I (IndexNode I T))) → IsSome (option_map (entry_ends number) o) → IsSome (option_map (λ e. knot_of number e.1) (option_map valued o))
+      by : (o : Option (ℕ × IndexLink I (IndexNode I T)))
+          → IsSome (option_map (entry_ends number) o)
+          → IsSome (option_map (λ e. knot_of number e.1) (option_map valued o))
       by None h = absurd (true≢false (sym h))
       by (Some e) h = refl
 
 -- a part is built
-pub part_built : (e : ℕ → Option Ends) (cursor : Option ℕ) (m top rank i : ℕ) (w : List ℕ) (after : Option ℕ) (left right : Option ℕ) (n0 n1 n2 n3 n4 n5 : Store)
-    → (p : Parts e cursor m w after) → i ≡ p.i → IsBuilt (top - 1) p.v left n0 n1 → IsBuilt (top - 1) p.u right n1 n2
+pub part_built : (e : ℕ → Option Ends) (cursor : Option ℕ) (m top rank i : ℕ) (w : List ℕ)
+    (after : Option ℕ) (left right : Option ℕ) (n0 n1 n2 n3 n4 n5 : Store)
+    → (p : Parts e cursor m w after) → i ≡ p.i → IsBuilt (top - 1) p.v left n0 n1
+    → IsBuilt (top - 1) p.u right n1 n2
     → Reparented n2 n3 left (Some i) → Reparented n3 n4 right (Some i) → rank ≡ part_rank top m
-    → Written n4 n5 i (record { parent = None; left = left; right = right; rank = rank }) → IsBuilt top w (Some i) n0 n5
-part_built e cursor m top rank i w after left right n0 n1 n2 n3 n4 n5 p is a b up_left up_right rank_is written =
-    let top_written : Written n4 n5 i (record { parent = None; left = left; right = right; rank = part_rank top m }) =
-    subst (λ k. Written n4 n5 i (record { parent = None; left = left; right = right; rank = k })) rank_is written in
+    → Written n4 n5 i (record { parent = None; left = left; right = right; rank = rank })
+    → IsBuilt top w (Some i) n0 n5
+part_built e cursor m top rank i w after left right n0 n1 n2 n3 n4 n5 p is a b up_left up_right
+    rank_is written =
+    let top_written : Written n4 n5 i
+    (record { parent = None; left = left; right = right; rank = part_rank top m }) =
+    subst (λ k. Written n4 n5 i (record { parent = None; left = left; right = right; rank = k }))
+    rank_is written in
     let walks : walk (node a.tree i (part_rank top m) b.tree) ≡ p.v ++ p.i ∷ p.u =
-    ap (λ l. l ++ i ∷ walk b.tree) a.is_walk ∙ ap (λ l. p.v ++ i ∷ l) b.is_walk ∙ ap (λ x. p.v ++ x ∷ p.u) is in
+    ap (λ l. l ++ i ∷ walk b.tree) a.is_walk ∙ ap (λ l. p.v ++ i ∷ l) b.is_walk
+    ∙ ap (λ x. p.v ++ x ∷ p.u) is in
     let whole : p.v ++ i ∷ p.u ≡ w = ap (λ x. p.v ++ x ∷ p.u) is ∙ sym p.whole in
     subst (λ l. IsBuilt top l (Some i) n0 n5) whole
-    (built_over top m i p.v p.u left right n0 n1 n2 n3 n4 n5 a b up_left up_right top_written p.half p.sizes
+    (built_over top m i p.v p.u left right n0 n1 n2 n3 n4 n5 a b up_left up_right top_written p.half
+    p.sizes
     (distinct_walk (node a.tree i (part_rank top m) b.tree) (p.v ++ p.i ∷ p.u) walks p.apart))
 
 -- the whole list
-pub whole_ahead : (e : ℕ → Option Ends) (first : Option ℕ) (n : ℕ) (w : List ℕ) → IsLinear e w → length w ≡ n → first ≡ first_or w None → IsAhead e first n w
+pub whole_ahead : (e : ℕ → Option Ends) (first : Option ℕ) (n : ℕ) (w : List ℕ) → IsLinear e w
+    → length w ≡ n → first ≡ first_or w None → IsAhead e first n w
 whole_ahead e first n w linear long is =
-    record { before = None; after = None; stands = linear; first = is; apart = linear_apart e None w linear; long = long }
+    record {
+      before = None;
+      after = None;
+      stands = linear;
+      first = is;
+      apart = linear_apart e None w linear;
+      long = long;
+    }
 
-pub rebuilt_by : (w : List ℕ) (root : Option ℕ) (n m : Store) (k : ℕ) → IsTopRank (length w) k → IsBuilt k w root n m → IsRebuilt w root m
+pub rebuilt_by : (w : List ℕ) (root : Option ℕ) (n m : Store) (k : ℕ) → IsTopRank (length w) k
+    → IsBuilt k w root n m → IsRebuilt w root m
 rebuilt_by w root n m k top b =
     record {
       tree = b.tree;
@@ -194,22 +223,28 @@ rebuilt_by w root n m k top b =
       };
     }
 
-pub lives_if : {I : Type 0} (number : I → ℕ) (o : Option I) (m : Store) → ((i : ℕ) → option_map number o ≡ Some i → IsSome (m i)) → IfSome o (λ x. IsSome (m (number x)))
+pub lives_if : {I : Type 0} (number : I → ℕ) (o : Option I) (m : Store)
+    → ((i : ℕ) → option_map number o ≡ Some i → IsSome (m i))
+    → IfSome o (λ x. IsSome (m (number x)))
 lives_if number None m each = tt
 lives_if number (Some x) m each = each (number x) refl
 
 module _ {I T : Type 0} (number : I → ℕ) where
   -- the right part, after the left one was written
-  pub right_ahead : (old mid : Content (IndexLink I (IndexNode I T))) (cursor next : Option ℕ) (m i : ℕ) (w : List ℕ) (after : Option ℕ)
-      → rest mid ≡ rest old → (p : Parts (ends_in number old) cursor m w after) → i ≡ p.i → next ≡ next_at (ends_in number mid) i
+  pub right_ahead : (old mid : Content (IndexLink I (IndexNode I T))) (cursor next : Option ℕ)
+      (m i : ℕ) (w : List ℕ) (after : Option ℕ)
+      → rest mid ≡ rest old → (p : Parts (ends_in number old) cursor m w after) → i ≡ p.i
+      → next ≡ next_at (ends_in number mid) i
       → (b : IsAhead (ends_in number mid) next (m - m / 2 - 1) p.u) × (b.after ≡ after)
   right_ahead old mid cursor next m i w after keeps p is goes =
       let r = rested number old mid keeps in
-      let from : next_at (ends_in number old) p.i ≡ next = ap next_in (sym (r.ends p.i)) ∙ ap (next_at (ends_in number mid)) (sym is) ∙ sym goes in (
+      let from : next_at (ends_in number old) p.i ≡ next = ap next_in (sym (r.ends p.i))
+      ∙ ap (next_at (ends_in number mid)) (sym is) ∙ sym goes in (
         record {
           before = p.right.before;
           after = p.right.after;
-          stands = Stands-where (ends_in number old) (ends_in number mid) p.right.before p.right.after p.u (λ k on. r.ends k) p.right.stands;
+          stands = Stands-where (ends_in number old) (ends_in number mid) p.right.before
+              p.right.after p.u (λ k on. r.ends k) p.right.stands;
           first = sym from ∙ p.right.first;
           apart = p.right.apart;
           long = p.right.long;
@@ -217,7 +252,8 @@ module _ {I T : Type 0} (number : I → ℕ) where
         p.right_after,
       )
 
-  pub stays_there : (old new : Content (IndexLink I (IndexNode I T))) (k : ℕ) → rest new ≡ rest old → IsSome (knots_in number old k) → IsSome (knots_in number new k)
+  pub stays_there : (old new : Content (IndexLink I (IndexNode I T))) (k : ℕ) → rest new ≡ rest old
+      → IsSome (knots_in number old k) → IsSome (knots_in number new k)
   stays_there old new k keeps some = (rested number old new keeps).stays k some
 
 module _ where
@@ -231,9 +267,11 @@ module _ where
     pub less : (s : ℕ) → s < exponent → 2 ^ s + 1 < count
 
   pub doubled_none : (count : ℕ) → IsDoubled count 0 1
-  doubled_none count = record { reached = refl; some = omega arith; less = λ s below. absurd (omega (arith, below)) }
+  doubled_none count = record
+      { reached = refl; some = omega arith; less = λ s below. absurd (omega (arith, below)) }
 
-  pub doubled_more : (count exponent reach more : ℕ) → count < 2 ^ 64 → IsDoubled count exponent reach → reach < count - 1 → more ≡ min (reach * 2) (2 ^ 64 - 1)
+  pub doubled_more : (count exponent reach more : ℕ) → count < 2 ^ 64
+      → IsDoubled count exponent reach → reach < count - 1 → more ≡ min (reach * 2) (2 ^ 64 - 1)
       → IsDoubled count (exponent + 1) more
   doubled_more count exponent reach more fits d short is =
       let next : 2 ^ suc exponent ≡ 2 * 2 ^ exponent = pow-succ' 2 exponent in
@@ -245,19 +283,24 @@ module _ where
         some = omega (arith, is, some);
         less = λ s below.
             elim (eqb_tells s exponent) [
-              | inl same ↦ let here : 2 ^ s ≡ 2 ^ exponent = ap (λ n. 2 ^ n) same.1 in omega (arith, here, reached, short, fits)
-              | inr other ↦ let differs : s ≢ exponent = other.1 in d.less s (omega (arith, below, differs))
+              | inl same ↦ let here : 2 ^ s ≡ 2 ^ exponent = ap (λ n. 2 ^ n) same.1 in
+                  omega (arith, here, reached, short, fits)
+              | inr other ↦ let differs : s ≢ exponent = other.1 in
+                  d.less s (omega (arith, below, differs))
             ];
       }
 
-  pub doubled_few : (count exponent reach : ℕ) → count < 2 ^ 64 → IsDoubled count exponent reach → exponent ≤ 64
+  pub doubled_few : (count exponent reach : ℕ) → count < 2 ^ 64 → IsDoubled count exponent reach
+      → exponent ≤ 64
   doubled_few count exponent reach fits d =
       elim (leb_tells exponent 64) [
         | inl within ↦ within.1
-        | inr past ↦ absurd (let over = d.less 64 (omega (arith, past.1)) in omega (arith, over, fits))
+        | inr past ↦ absurd (let over = d.less 64 (omega (arith, past.1)) in
+            omega (arith, over, fits))
       ]
 
-  pub doubled_top : (count exponent reach rank : ℕ) → IsDoubled count exponent reach → count - 1 ≤ reach → rank ≡ exponent + 1 → IsTopRank count rank
+  pub doubled_top : (count exponent reach rank : ℕ) → IsDoubled count exponent reach
+      → count - 1 ≤ reach → rank ≡ exponent + 1 → IsTopRank count rank
   doubled_top count exponent reach rank d done is =
       let reached = d.reached in
       record {

@@ -1,5 +1,7 @@
--- A tree that is written anew where the list is the indexes from 1 on: the parts of the indexes, and the tree of the whole.
-use Rattle.std.proofs.Common.{◌≡◌, ℕ, zero, suc, ◌+◌, ◌-◌, ◌/◌, ◌<◌, ◌≤◌, ◌∷◌, ◌++◌, length, Option, Some, None, IsSome, refl, sym, ap, subst, ◌∙◌, arith, inl, inr}
+-- A tree that is written anew where the list is the indexes from 1 on: the parts of the indexes,
+-- and the tree of the whole.
+use Rattle.std.proofs.Common.{◌≡◌, ℕ, zero, suc, ◌+◌, ◌-◌, ◌/◌, ◌<◌, ◌≤◌, ◌∷◌, ◌++◌, length, Option}
+use Rattle.std.proofs.Common.{Some, None, IsSome, refl, sym, ap, subst, ◌∙◌, arith, inl, inr}
 use Rattle.std.specs.List.{range_with_len}
 use Rattle.std.proofs.lemmas.Bool.Decides.{eqb_tells}
 use Rattle.std.proofs.lemmas.List.FromFn.{length-range_with_len}
@@ -22,7 +24,8 @@ use Rattle.triple_arena_ord.specs.RebuiltRun.{IsRunBuilt, middle}
 use Rattle.triple_arena_ord.proofs.RebuildLemmas.{live_knot}
 
 -- a run is its beginning, the next index, and the others
-run_join : (u p q : ℕ) → range_with_len u p ++ (u + p) ∷ range_with_len (u + p + 1) q ≡ range_with_len u (p + suc q)
+run_join : (u p q : ℕ)
+    → range_with_len u p ++ (u + p) ∷ range_with_len (u + p + 1) q ≡ range_with_len u (p + suc q)
 run_join u zero q =
     let at : u + 0 ≡ u = omega arith in
     let all : suc q ≡ 0 + suc q = omega arith in
@@ -48,14 +51,17 @@ counted_within j u (suc n) some =
     ]
 
 -- so is what stands in a tree whose walk is a run
-tree_within : (t : Tree) (u n : ℕ) → walk t ≡ range_with_len u n → (j : ℕ) → 0 < count j t → (u ≤ j) × (j < u + n)
-tree_within t u n is j some = counted_within j u n (subst (λ c. 0 < c) (count-walk j t ∙ ap (count_in j) is) some)
+tree_within : (t : Tree) (u n : ℕ) → walk t ≡ range_with_len u n → (j : ℕ) → 0 < count j t
+    → (u ≤ j) × (j < u + n)
+tree_within t u n is j some =
+    counted_within j u n (subst (λ c. 0 < c) (count-walk j t ∙ ap (count_in j) is) some)
 
 size_run : (t : Tree) (u n : ℕ) → walk t ≡ range_with_len u n → size t ≡ n
 size_run t u n is = size-walk t ∙ ap length is ∙ length-range_with_len u n
 
 -- of no index nothing is written
-pub run_built_none : (k : ℕ) (parent : Option ℕ) (before m : ℕ) (n : Store) → m ≡ 0 → IsRunBuilt k parent before m n n
+pub run_built_none : (k : ℕ) (parent : Option ℕ) (before m : ℕ) (n : Store) → m ≡ 0
+    → IsRunBuilt k parent before m n n
 run_built_none k parent before m n none =
     subst (λ c. IsRunBuilt k parent before c n n) (sym none) (record {
       tree = leaf;
@@ -67,11 +73,14 @@ run_built_none k parent before m n none =
       over = λ j past. refl;
     })
 
-module _ (k : ℕ) (parent : Option ℕ) (before m i rank : ℕ) (left right : Option ℕ) (n0 n1 n2 n3 : Store)
+module _ (k : ℕ) (parent : Option ℕ) (before m i rank : ℕ) (left right : Option ℕ)
+    (n0 n1 n2 n3 : Store)
     (some : 1 ≤ m) (root_is : i ≡ before + m / 2 + 1) (rank_is : rank ≡ part_rank k m)
-    (left_is : left ≡ middle before (m / 2)) (right_is : right ≡ middle (before + m / 2 + 1) (m - m / 2 - 1))
+    (left_is : left ≡ middle before (m / 2))
+    (right_is : right ≡ middle (before + m / 2 + 1) (m - m / 2 - 1))
     (top : Written n0 n1 i (record { parent = parent; left = left; right = right; rank = rank }))
-    (a : IsRunBuilt (k - 1) (Some i) before (m / 2) n1 n2) (b : IsRunBuilt (k - 1) (Some i) (before + m / 2 + 1) (m - m / 2 - 1) n2 n3) where
+    (a : IsRunBuilt (k - 1) (Some i) before (m / 2) n1 n2)
+    (b : IsRunBuilt (k - 1) (Some i) (before + m / 2 + 1) (m - m / 2 - 1) n2 n3) where
   abbrev half : ℕ
   half = m / 2
 
@@ -89,8 +98,10 @@ module _ (k : ℕ) (parent : Option ℕ) (before m i rank : ℕ) (left right : O
       let at : i ≡ before + 1 + half = omega (arith, root_is) in
       let next : before + half + 1 + 1 ≡ before + 1 + half + 1 = omega arith in
       ap (λ l. l ++ i ∷ walk b.tree) a.is_walk
-      ∙ ap (λ l. range_with_len (before + 1) half ++ i ∷ l) (b.is_walk ∙ ap (λ u. range_with_len u more) next)
-      ∙ ap (λ x. range_with_len (before + 1) half ++ x ∷ range_with_len (before + 1 + half + 1) more) at
+      ∙ ap (λ l. range_with_len (before + 1) half ++ i ∷ l)
+      (b.is_walk ∙ ap (λ u. range_with_len u more) next)
+      ∙ ap (λ x. range_with_len (before + 1) half ++ x ∷ range_with_len (before + 1 + half + 1)
+      more) at
       ∙ run_join (before + 1) half more ∙ ap (range_with_len (before + 1)) whole
 
   left_size : size a.tree ≡ half
@@ -109,17 +120,27 @@ module _ (k : ℕ) (parent : Option ℕ) (before m i rank : ℕ) (left right : O
       by zero none is = absurd (omega (arith, none))
       by (suc c) one is = ap Some is
 
-  root_last : n3 i ≡ Some (record { parent = parent; left = root_of a.tree; right = root_of b.tree; rank = part_rank k m })
+  root_last : n3 i ≡ Some
+      (record {
+        parent = parent;
+        left = root_of a.tree;
+        right = root_of b.tree;
+        rank = part_rank k m;
+      })
   root_last =
       b.under i (omega (arith, root_is)) ∙ a.over i (omega (arith, root_is)) ∙ top.here
-      ∙ ap (λ o. Some (record { parent = parent; left = o; right = right; rank = rank })) (left_is ∙ sym a.root_is)
-      ∙ ap (λ o. Some (record { parent = parent; left = root_of a.tree; right = o; rank = rank })) (right_is ∙ sym b.root_is)
-      ∙ ap (λ r. Some (record { parent = parent; left = root_of a.tree; right = root_of b.tree; rank = r })) rank_is
+      ∙ ap (λ o. Some (record { parent = parent; left = o; right = right; rank = rank }))
+      (left_is ∙ sym a.root_is)
+      ∙ ap (λ o. Some (record { parent = parent; left = root_of a.tree; right = o; rank = rank }))
+      (right_is ∙ sym b.root_is)
+      ∙ ap (λ r. Some (record
+      { parent = parent; left = root_of a.tree; right = root_of b.tree; rank = r })) rank_is
 
   left_last : Represents n3 (Some i) a.tree
   left_last =
       Represents-keep n2 n3 (Some i) a.tree
-      (λ j on. let within = tree_within a.tree (before + 1) half a.is_walk j on in let high = within.1 in b.under j (omega (arith, high))) a.represents
+      (λ j on. let within = tree_within a.tree (before + 1) half a.is_walk j on in let high =
+      within.1 in b.under j (omega (arith, high))) a.represents
 
   -- the part is written
   pub run_built_over : IsRunBuilt k parent before m n0 n3
@@ -127,7 +148,12 @@ module _ (k : ℕ) (parent : Option ℕ) (before m i rank : ℕ) (left right : O
       record {
         tree = tree;
         is_walk = walks;
-        halves = (left_size ∙ ap (λ c. c / 2) (sym sizes), ap (part_rank k) (sym sizes), a.halves, b.halves);
+        halves = (
+          left_size ∙ ap (λ c. c / 2) (sym sizes),
+          ap (part_rank k) (sym sizes),
+          a.halves,
+          b.halves,
+        );
         root_is = middle_is;
         represents = (root_last, left_last, b.represents);
         under = λ j within.
@@ -139,7 +165,8 @@ module _ (k : ℕ) (parent : Option ℕ) (before m i rank : ℕ) (left right : O
       }
 
 -- the tree of the whole list
-pub run_rebuilt : (n k : ℕ) (root : Option ℕ) (n0 n1 : Store) → IsTopRank n k → root ≡ middle 0 n → IsRunBuilt k None 0 n n0 n1
+pub run_rebuilt : (n k : ℕ) (root : Option ℕ) (n0 n1 : Store) → IsTopRank n k → root ≡ middle 0 n
+    → IsRunBuilt k None 0 n n0 n1
     → IsRebuilt (range_with_len 1 n) root n1
 run_rebuilt n k root n0 n1 top root_is b =
     record {
@@ -154,21 +181,33 @@ run_rebuilt n k root n0 n1 top root_is b =
     }
 
 -- the list of no entry has no tree
-pub none_rebuilt : (n : ℕ) (root : Option ℕ) (n0 : Store) → n ≡ 0 → root ≡ middle 0 n → IsRebuilt (range_with_len 1 n) root n0
+pub none_rebuilt : (n : ℕ) (root : Option ℕ) (n0 : Store) → n ≡ 0 → root ≡ middle 0 n
+    → IsRebuilt (range_with_len 1 n) root n0
 none_rebuilt n root n0 none root_is =
-    run_rebuilt n 1 root n0 n0 (record { exponent = 0; is = refl; reaches = omega (arith, none); least = λ s within. omega arith }) root_is
+    run_rebuilt n 1 root n0 n0
+    (record {
+      exponent = 0;
+      is = refl;
+      reaches = omega (arith, none);
+      least = λ s within. omega arith;
+    }) root_is
     (run_built_none 1 None 0 n n0 none)
 
 run_on : (low n i : ℕ) → low ≤ i → i < low + n → On (range_with_len low n) i
 run_on low zero i up short = absurd (omega (arith, up, short))
 run_on low (suc n) i up short =
     elim (eqb_tells i low) [
-      | inl same ↦ subst (On (low ∷ range_with_len (low + 1) n)) (sym same.1) (On-first low (range_with_len (low + 1) n))
-      | inr other ↦ let no = other.1 in On-cons low i (range_with_len (low + 1) n) (run_on (low + 1) n i (omega (arith, up, no)) (omega (arith, short)))
+      | inl same ↦ subst (On (low ∷ range_with_len (low + 1) n)) (sym same.1)
+          (On-first low (range_with_len (low + 1) n))
+      | inr other ↦ let no = other.1 in
+          On-cons low i (range_with_len (low + 1) n)
+          (run_on (low + 1) n i (omega (arith, up, no)) (omega (arith, short)))
     ]
 
 -- where the list is a run, each of its indexes has a node
-pub run_lives : {I T : Type 0} (number : I → ℕ) (c : Content (IndexLink I (IndexNode I T))) (n : ℕ) → IsLinear (ends_in number c) (range_with_len 1 n)
+pub run_lives : {I T : Type 0} (number : I → ℕ) (c : Content (IndexLink I (IndexNode I T))) (n : ℕ)
+    → IsLinear (ends_in number c) (range_with_len 1 n)
     → (k : ℕ) → 0 < k → k ≤ 0 + n → IsSome (knots_in number c k)
 run_lives number c n linear k some within =
-    live_knot number c k (live_on (ends_in number c) None None (range_with_len 1 n) k linear (run_on 1 n k some (omega (arith, within))))
+    live_knot number c k (live_on (ends_in number c) None None (range_with_len 1 n) k linear
+    (run_on 1 n k some (omega (arith, within))))

@@ -1,5 +1,6 @@
 -- The links under new indexes, and the tree written anew along the list that they make.
-use Rattle.std.proofs.Common.{◌≡◌, ℕ, List, [], ◌∷◌, length, map, IsSome, refl, sym, subst, ◌∙◌, inl, inr}
+use Rattle.std.proofs.Common.{◌≡◌, ℕ, List, [], ◌∷◌, length, map, IsSome, refl, sym, subst, ◌∙◌}
+use Rattle.std.proofs.Common.{inl, inr}
 use Rattle.std.proofs.lemmas.List.{length-map}
 use Rattle.std.proofs.lemmas.Bool.Decides.{eqb_tells}
 use Rattle.triple_arena.specs.Content.{Content, live_count}
@@ -29,13 +30,17 @@ on_mapped to (x ∷ xs) i on =
     ]
 
 -- each live index is on a list that is renamed, if it was on it before
-pub on_renamed : (e f : ℕ → Option Ends) (to : ℕ → ℕ) (w : List ℕ) → FollowsRenaming to e f → ((i : ℕ) → IsSome (e i) → On w i)
+pub on_renamed : (e f : ℕ → Option Ends) (to : ℕ → ℕ) (w : List ℕ) → FollowsRenaming to e f
+    → ((i : ℕ) → IsSome (e i) → On w i)
     → (k : ℕ) → IsSome (f k) → On (map to w) k
 on_renamed e f to w follows whole k some =
-    let from = follows.onto k some in subst (On (map to w)) from.2 (on_mapped to w from.0 (whole from.0 from.1))
+    let from = follows.onto k some in
+    subst (On (map to w)) from.2 (on_mapped to w from.0 (whole from.0 from.1))
 
-module _ {I T : Type 0} (number : I → ℕ) (o : Ordered I T) (mid : Content (IndexLink I (IndexNode I T))) (to : ℕ → ℕ) (is : IsOrdered number o)
-    (follows : FollowsRenaming to (ends_in number o.chains) (ends_in number mid)) (live : live_count mid ≡ size_in o) where
+module _ {I T : Type 0} (number : I → ℕ) (o : Ordered I T)
+    (mid : Content (IndexLink I (IndexNode I T))) (to : ℕ → ℕ) (is : IsOrdered number o)
+    (follows : FollowsRenaming to (ends_in number o.chains) (ends_in number mid))
+    (live : live_count mid ≡ size_in o) where
   pub list_linear : IsLinear (ends_in number mid) (map to (order_in number o))
   list_linear = follows.lists (Linear (order_in number o)) is.linear
 
@@ -44,9 +49,12 @@ module _ {I T : Type 0} (number : I → ℕ) (o : Ordered I T) (mid : Content (I
 
   -- each live index is on it
   pub on_list : (k : ℕ) → IsSome (ends_in number mid k) → On (map to (order_in number o)) k
-  on_list k some = on_renamed (ends_in number o.chains) (ends_in number mid) to (order_in number o) follows (on_order number o is) k some
+  on_list k some = on_renamed (ends_in number o.chains) (ends_in number mid) to (order_in number o)
+      follows (on_order number o is) k some
 
   -- what the rebuild leaves
-  pub rewritten : (new : Ordered I T) → rest new.chains ≡ rest mid → IsRebuilt (map to (order_in number o)) new.root (knots_in number new.chains)
+  pub rewritten : (new : Ordered I T) → rest new.chains ≡ rest mid
+      → IsRebuilt (map to (order_in number o)) new.root (knots_in number new.chains)
       → IsWritten number mid (map to (order_in number o)) list_linear on_list list_long new
-  rewritten new keeps b = written number mid (map to (order_in number o)) list_linear on_list list_long new keeps b
+  rewritten new keeps b =
+      written number mid (map to (order_in number o)) list_linear on_list list_long new keeps b

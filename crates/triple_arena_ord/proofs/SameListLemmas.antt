@@ -1,5 +1,6 @@
 -- Where the nodes and the interlinks stay, so does the list.
-use Rattle.std.proofs.Common.{◌≡◌, ℕ, zero, suc, ◌<◌, length, Option, Some, None, IsSome, refl, sym, ap, ◌∙◌, subst}
+use Rattle.std.proofs.Common.{◌≡◌, ℕ, zero, suc, ◌<◌, length, Option, Some, None, IsSome, refl, sym}
+use Rattle.std.proofs.Common.{ap, ◌∙◌, subst}
 use Rattle.triple_arena.specs.Content.{live_count}
 use Rattle.triple_arena_chain.specs.Chains.{IsLinear}
 use Rattle.triple_arena_chain.specs.Links.{ends_in}
@@ -17,7 +18,8 @@ use Rattle.rank_tree.specs.UniqueLaws.{tree_is}
 
 -- what hangs from a node, read as deep as the fuel goes
 abbrev hanging : ℕ → Store → ℕ → Option Knot → Tree
-hanging fuel n i o = elim o [ None ↦ leaf | Some v ↦ node (read_tree fuel n v.left) i v.rank (read_tree fuel n v.right) ]
+hanging fuel n i o = elim o
+    [ None ↦ leaf | Some v ↦ node (read_tree fuel n v.left) i v.rank (read_tree fuel n v.right) ]
 
 module _ (n m : Store) (same : (k : ℕ) → n k ≡ m k) where
   read_same : (fuel : ℕ) (root : Option ℕ) → read_tree fuel n root ≡ read_tree fuel m root
@@ -25,7 +27,8 @@ module _ (n m : Store) (same : (k : ℕ) → n k ≡ m k) where
   read_same (suc fuel) None = refl
   read_same (suc fuel) (Some i) = ap (hanging fuel n i) (same i) ∙ by (m i) (read_same fuel)
     where
-      by : (o : Option Knot) → ((root : Option ℕ) → read_tree fuel n root ≡ read_tree fuel m root) → hanging fuel n i o ≡ hanging fuel m i o
+      by : (o : Option Knot) → ((root : Option ℕ) → read_tree fuel n root ≡ read_tree fuel m root)
+          → hanging fuel n i o ≡ hanging fuel m i o
       by None below = refl
       by (Some v) below = rw (below v.left, below v.right) refl
 
@@ -44,17 +47,22 @@ module _ {I T : Type 0} (number : I → ℕ) where
     pub order : order_in number p ≡ order_in number o
     pub tree : tree_in number p ≡ tree_in number o
 
-  pub same_list : (o p : Ordered I T) → p.root ≡ o.root → ((k : ℕ) → knots_in number p.chains k ≡ knots_in number o.chains k)
-      → ((k : ℕ) → ends_in number p.chains k ≡ ends_in number o.chains k) → live_count p.chains ≡ live_count o.chains
+  pub same_list : (o p : Ordered I T) → p.root ≡ o.root
+      → ((k : ℕ) → knots_in number p.chains k ≡ knots_in number o.chains k)
+      → ((k : ℕ) → ends_in number p.chains k ≡ ends_in number o.chains k)
+      → live_count p.chains ≡ live_count o.chains
       → IsOrdered number o → Reordered o p
   same_list o p root knots ends live is =
       let n = knots_in number p.chains in
       let tree = tree_in number o in
-      let stands : Stands n p.root tree =
-      (root ∙ is.whole.stands.0, Represents-keep (knots_in number o.chains) n None tree (λ j c. knots j) is.whole.stands.1) in
+      let stands : Stands n p.root tree = (
+        root ∙ is.whole.stands.0,
+        Represents-keep (knots_in number o.chains) n None tree (λ j c. knots j) is.whole.stands.1,
+      ) in
       let same : tree_in number p ≡ tree = tree_is n p.root tree stands is.whole.ranked in
       let order : order_in number p ≡ order_in number o = ap walk same in
-      let linear = chain_where (ends_in number o.chains) (ends_in number p.chains) (Linear (order_in number o)) (λ i on. ends i) is.linear in
+      let linear = chain_where (ends_in number o.chains) (ends_in number p.chains)
+      (Linear (order_in number o)) (λ i on. ends i) is.linear in
       record {
         ordered = record {
           whole = record {
@@ -63,7 +71,8 @@ module _ {I T : Type 0} (number : I → ℕ) where
             ranked = subst IsRanked (sym same) is.whole.ranked;
           };
           linear = subst (IsLinear (ends_in number p.chains)) (sym order) linear;
-          all = λ i lives. subst (λ t. 0 < count i t) (sym same) (is.all i (subst IsSome (knots i) lives));
+          all = λ i lives. subst (λ t. 0 < count i t) (sym same)
+              (is.all i (subst IsSome (knots i) lives));
           counted = ap length order ∙ is.counted ∙ sym live;
         };
         order = order;

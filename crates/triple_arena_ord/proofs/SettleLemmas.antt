@@ -1,5 +1,7 @@
--- A place directly before or after an index, where that has a child on this side: the neighbor in the list has none on the other.
-use Rattle.std.proofs.Common.{◌≡◌, ℕ, List, [], ◌∷◌, ◌++◌, append_assoc, Option, Some, None, IsSome, is_some, true, Result, Ok, Err, refl, sym, ap, ◌∙◌, subst}
+-- A place directly before or after an index, where that has a child on this side: the neighbor in
+-- the list has none on the other.
+use Rattle.std.proofs.Common.{◌≡◌, ℕ, List, [], ◌∷◌, ◌++◌, append_assoc, Option, Some, None, IsSome}
+use Rattle.std.proofs.Common.{is_some, true, Result, Ok, Err, refl, sym, ap, ◌∙◌, subst}
 use Rattle.std.specs.Option.{option_map}
 use Rattle.std.specs.declared.cmp.Ordering.{Ordering}
 use Rattle.std.specs.declared.cmp.Ordering.TheVariants.{Less, Equal, Greater}
@@ -18,7 +20,8 @@ use Rattle.rank_tree.specs.Tree.{Tree, leaf, node, walk}
 use Rattle.rank_tree.specs.Shape.{knot, root_of, Context, top, under, plug, holder, Stands}
 use Rattle.rank_tree.specs.Search.{IsFreeAt}
 use Rattle.triple_arena_ord.specs.Ordered.{Ordered, IsOrdered, StandsBeside, tree_in, order_in}
-use Rattle.triple_arena_ord.specs.Inserted.{StandsAt, IsSamePlace, IsReplaced, IsAdded, IsInsertedAt}
+use Rattle.triple_arena_ord.specs.Inserted.{StandsAt, IsSamePlace, IsReplaced, IsAdded}
+use Rattle.triple_arena_ord.specs.Inserted.{IsInsertedAt}
 use Rattle.rank_tree.specs.FrameLaws.{plug-opens}
 use Rattle.rank_tree.specs.DescentLaws.{before, after, plug-walk_is}
 use Rattle.triple_arena_ord.proofs.GapLemmas.{linear_ends, last_snoc}
@@ -38,7 +41,8 @@ record Final (t : Tree) : Type 0 where
 
 final_at : (t : Tree) (i : ℕ) → root_of t ≡ Some i → Final t
 final_at leaf i e = absurd (cc)
-final_at (node l x k leaf) i e = record { context = top; index = x; rank = k; left = l; is = refl; at_end = refl }
+final_at (node l x k leaf) i e =
+    record { context = top; index = x; rank = k; left = l; is = refl; at_end = refl }
 final_at (node l x k (node a y j b)) i e = go (final_at (node a y j b) y refl)
   where
     go : Final (node a y j b) → Final (node l x k (node a y j b))
@@ -47,15 +51,21 @@ final_at (node l x k (node a y j b)) i e = go (final_at (node a y j b) y refl)
       index = h.index;
       rank = h.rank;
       left = h.left;
-      is = ap (λ t. node l x k t) h.is ∙ sym (plug_in-plug (under top Right x k l) h.context (node h.left h.index h.rank leaf));
-      at_end = ap (λ w. walk l ++ x ∷ w) h.at_end ∙ sym (append_assoc (walk l) (x ∷ walk (plug h.context h.left)) (h.index ∷ []))
-          ∙ ap (λ t. walk t ++ h.index ∷ []) (sym (plug_in-plug (under top Right x k l) h.context h.left));
+      is = ap (λ t. node l x k t) h.is
+          ∙ sym (plug_in-plug (under top Right x k l) h.context (node h.left h.index h.rank leaf));
+      at_end = ap (λ w. walk l ++ x ∷ w) h.at_end
+          ∙ sym (append_assoc (walk l) (x ∷ walk (plug h.context h.left)) (h.index ∷ []))
+          ∙ ap (λ t. walk t ++ h.index ∷ [])
+          (sym (plug_in-plug (under top Right x k l) h.context h.left));
     }
 
-module _ {I T P : Type 0} (number : I → ℕ) (index generation : P → ℕ) (allows : Option OrdInsertionError → Type 0) (t : T) (o p : Ordered I T) where
+module _ {I T P : Type 0} (number : I → ℕ) (index generation : P → ℕ)
+    (allows : Option OrdInsertionError → Type 0) (t : T) (o p : Ordered I T) where
   -- an insertion at a place is one at the same place
-  pub inserted_there : (one other : Option (ℕ × Ordering)) (result : Result (P × Option T) OrdInsertionError) → IsSamePlace (order_in number o) one other
-      → IsInsertedAt number index generation allows one t result o p → IsInsertedAt number index generation allows other t result o p
+  pub inserted_there : (one other : Option (ℕ × Ordering))
+      (result : Result (P × Option T) OrdInsertionError) → IsSamePlace (order_in number o) one other
+      → IsInsertedAt number index generation allows one t result o p
+      → IsInsertedAt number index generation allows other t result o p
   inserted_there one other result same put = record {
     replaced = λ q u e. let r = put.replaced q u e in (same.replaced (index q) r.0, r.1);
     added = λ q e. let r = put.added q e in (same.stands (order_in number p) (index q) r.0, r.1);
@@ -66,30 +76,39 @@ module _ {I T P : Type 0} (number : I → ℕ) (index generation : P → ℕ) (a
 
   -- the same by numbers
   abbrev Numbered : Option (ℕ × Ordering) → Result ((ℕ × ℕ) × Option T) OrdInsertionError → Type 0
-  Numbered place result = IsInsertedAt number (λ (q : ℕ × ℕ). q.0) (λ (q : ℕ × ℕ). q.1) allows place t result o p
+  Numbered place result =
+      IsInsertedAt number (λ (q : ℕ × ℕ). q.0) (λ (q : ℕ × ℕ). q.1) allows place t result o p
 
-  inserted_numbered : (place : Option (ℕ × Ordering)) (result : Result (P × Option T) OrdInsertionError) (a : P) (u : Option T) → result ≡ Ok (a, u)
-      → IsInsertedAt number index generation allows place t result o p → Numbered place (Ok ((index a, generation a), u))
+  inserted_numbered : (place : Option (ℕ × Ordering))
+      (result : Result (P × Option T) OrdInsertionError) (a : P) (u : Option T) → result ≡ Ok (a, u)
+      → IsInsertedAt number index generation allows place t result o p
+      → Numbered place (Ok ((index a, generation a), u))
   inserted_numbered place result a u is put = record {
     replaced = λ q v e.
         let z = pair q (Some v) e in
-        subst (λ (q : ℕ × ℕ). (place ≡ Some (q.0, Equal)) × IsReplaced number q.0 q.1 t v o p) z.0 (put.replaced a v (is ∙ ap (λ x. Ok (a, x)) z.1));
+        subst (λ (q : ℕ × ℕ). (place ≡ Some (q.0, Equal)) × IsReplaced number q.0 q.1 t v o p) z.0
+        (put.replaced a v (is ∙ ap (λ x. Ok (a, x)) z.1));
     added = λ q e.
         let z = pair q None e in
-        subst (λ (q : ℕ × ℕ). StandsAt place (order_in number o) (order_in number p) q.0 × IsAdded number q.0 q.1 t o p) z.0 (put.added a (is ∙ ap (λ x. Ok (a, x)) z.1));
+        subst (λ (q : ℕ × ℕ). StandsAt place (order_in number o) (order_in number p) q.0
+        × IsAdded number q.0 q.1 t o p) z.0 (put.added a (is ∙ ap (λ x. Ok (a, x)) z.1));
     fits = λ q e. put.fits a (is ∙ ap (λ x. Ok (a, x)) (pair q None e).1);
     refused = λ error e. absurd (cc);
     same = λ error e. absurd (cc);
   }
     where
-      pair : (q : ℕ × ℕ) (v : Option T) → ◌≡◌ {A = Result ((ℕ × ℕ) × Option T) OrdInsertionError} (Ok ((index a, generation a), u)) (Ok (q, v)) → ((index a, generation a) ≡ q) × (u ≡ v)
+      pair : (q : ℕ × ℕ) (v : Option T)
+          → ◌≡◌ {A = Result ((ℕ × ℕ) × Option T) OrdInsertionError}
+          (Ok ((index a, generation a), u)) (Ok (q, v)) → ((index a, generation a) ≡ q) × (u ≡ v)
       pair q v e =
           let l : (ℕ × ℕ) × Option T = ((index a, generation a), u) in
           let r : (ℕ × ℕ) × Option T = (q, v) in
           let z : l ≡ r = cc in
           (ap (λ x. x.0) z, ap (λ x. x.1) z)
 
-  inserted_nowhere : (place : Option (ℕ × Ordering)) (result : Result (P × Option T) OrdInsertionError) (error : OrdInsertionError) → result ≡ Err error
+  inserted_nowhere : (place : Option (ℕ × Ordering))
+      (result : Result (P × Option T) OrdInsertionError) (error : OrdInsertionError)
+      → result ≡ Err error
       → IsInsertedAt number index generation allows place t result o p → Numbered place (Err error)
   inserted_nowhere place result error is put = record {
     replaced = λ q v e. absurd (cc);
@@ -99,30 +118,46 @@ module _ {I T P : Type 0} (number : I → ℕ) (index generation : P → ℕ) (a
     same = λ other e. put.same other (is ∙ errs other e);
   }
     where
-      errs : (other : OrdInsertionError) → ◌≡◌ {A = Result ((ℕ × ℕ) × Option T) OrdInsertionError} (Err error) (Err other) → ◌≡◌ {A = Result (P × Option T) OrdInsertionError} (Err error) (Err other)
+      errs : (other : OrdInsertionError)
+          → ◌≡◌ {A = Result ((ℕ × ℕ) × Option T) OrdInsertionError} (Err error) (Err other)
+          → ◌≡◌ {A = Result (P × Option T) OrdInsertionError} (Err error) (Err other)
       errs other e = let z : error ≡ other = cc in ap (λ x. Err x) z
 
-  pub numbered_ok : (one other : Option (ℕ × Ordering)) (result : Result (P × Option T) OrdInsertionError) (a : P) (u : Option T) → result ≡ Ok (a, u)
-      → IsSamePlace (order_in number o) one other → IsInsertedAt number index generation allows one t result o p → (q : ℕ × ℕ) × Numbered other (Ok (q, u))
-  numbered_ok one other result a u is same put = ((index a, generation a), inserted_numbered other result a u is (inserted_there one other result same put))
+  pub numbered_ok : (one other : Option (ℕ × Ordering))
+      (result : Result (P × Option T) OrdInsertionError) (a : P) (u : Option T) → result ≡ Ok (a, u)
+      → IsSamePlace (order_in number o) one other
+      → IsInsertedAt number index generation allows one t result o p
+      → (q : ℕ × ℕ) × Numbered other (Ok (q, u))
+  numbered_ok one other result a u is same put = (
+    (index a, generation a),
+    inserted_numbered other result a u is (inserted_there one other result same put),
+  )
 
-  pub numbered_err : (one other : Option (ℕ × Ordering)) (result : Result (P × Option T) OrdInsertionError) (error : OrdInsertionError) → result ≡ Err error
-      → IsSamePlace (order_in number o) one other → IsInsertedAt number index generation allows one t result o p → (q : ℕ × ℕ) × Numbered other (Err error)
-  numbered_err one other result error is same put = ((0, 0), inserted_nowhere other result error is (inserted_there one other result same put))
+  pub numbered_err : (one other : Option (ℕ × Ordering))
+      (result : Result (P × Option T) OrdInsertionError) (error : OrdInsertionError)
+      → result ≡ Err error
+      → IsSamePlace (order_in number o) one other
+      → IsInsertedAt number index generation allows one t result o p
+      → (q : ℕ × ℕ) × Numbered other (Err error)
+  numbered_err one other result error is same put =
+      ((0, 0), inserted_nowhere other result error is (inserted_there one other result same put))
 
 module _ {I T : Type 0} (number : I → ℕ) where
   -- where a new leaf hangs that stands directly before or after an index
   pub record Settled (o : Ordered I T) (side : Side) (h j : ℕ) (d : Ordering) : Type 0 where
     pub free : IsFreeAt d (knots_in number o.chains j)
-    pub same : (w : List ℕ) (n : ℕ) → StandsAt (Some (j, d)) (order_in number o) w n → StandsBeside side (order_in number o) w h n
+    pub same : (w : List ℕ) (n : ℕ) → StandsAt (Some (j, d)) (order_in number o) w n
+        → StandsBeside side (order_in number o) w h n
 
   -- the same of the index that a link is found to name, in the arena as it is seen
-  pub settled_at : (o seen : Ordered I T) (side : Side) (h : ℕ) (d : Ordering) (q : Option I) → (i : I) × ((q ≡ Some i) × Settled o side h (number i) d)
+  pub settled_at : (o seen : Ordered I T) (side : Side) (h : ℕ) (d : Ordering) (q : Option I)
+      → (i : I) × ((q ≡ Some i) × Settled o side h (number i) d)
       → (j : I) → q ≡ Some j → o ≡ seen → Settled seen side h (number j) d
   settled_at o seen side h d q s j here same =
       let there = s.1.0 in
       let named : s.0 ≡ j = cc in
-      subst (λ z. Settled z side h (number j) d) same (subst (λ i. Settled o side h (number i) d) named s.1.1)
+      subst (λ z. Settled z side h (number j) d) same
+      (subst (λ i. Settled o side h (number i) d) named s.1.1)
 
   record Before (o : Ordered I T) (h : ℕ) : Type 0 where
     index : ℕ
@@ -134,7 +169,8 @@ module _ {I T : Type 0} (number : I → ℕ) where
     is : next_at (ends_in number o.chains) h ≡ Some index
     settled : Settled o Right h index Less
 
-  module _ (o : Ordered I T) (is : IsOrdered number o) (h : ℕ) (v : Knot) (at : knots_in number o.chains h ≡ Some v) where
+  module _ (o : Ordered I T) (is : IsOrdered number o) (h : ℕ) (v : Knot)
+      (at : knots_in number o.chains h ≡ Some v) where
     found : Located (tree_in number o) h
     found = located top (tree_in number o) h (is.all h (subst IsSome (sym at) refl))
 
@@ -151,7 +187,8 @@ module _ {I T : Type 0} (number : I → ℕ) where
     r = found.right
 
     at_h : Some v ≡ Some (knot Left (holder c) (root_of a) k (root_of r))
-    at_h = sym at ∙ (plug-opens (knots_in number o.chains) o.root c (node a h k r) (subst (Stands (knots_in number o.chains) o.root) found.is is.whole.stands)).1.0
+    at_h = sym at ∙ (plug-opens (knots_in number o.chains) o.root c (node a h k r)
+        (subst (Stands (knots_in number o.chains) o.root) found.is is.whole.stands)).1.0
 
     below : v ≡ knot Left (holder c) (root_of a) k (root_of r)
     below = let e = at_h in cc e
@@ -168,27 +205,37 @@ module _ {I T : Type 0} (number : I → ℕ) where
         let i = f.index in
         let inner = plug_in (under c Left h k r) f.context in
         let tree : tree_in number o ≡ plug inner (node f.left i f.rank leaf) =
-        found.is ∙ ap (λ t. plug c (node t h k r)) f.is ∙ sym (plug_in-plug (under c Left h k r) f.context (node f.left i f.rank leaf)) in
+        found.is ∙ ap (λ t. plug c (node t h k r)) f.is
+        ∙ sym (plug_in-plug (under c Left h k r) f.context (node f.left i f.rank leaf)) in
         let front = before c ++ walk (plug f.context f.left) in
         let back = walk r ++ after c in
         let to_end : before c ++ walk a ≡ front ++ i ∷ [] =
-        ap (λ z. before c ++ z) f.at_end ∙ sym (append_assoc (before c) (walk (plug f.context f.left)) (i ∷ [])) in
-        let order : order_in number o ≡ (front ++ i ∷ []) ++ h ∷ back = round ∙ ap (λ z. z ++ h ∷ back) to_end in
-        let flat_order : order_in number o ≡ front ++ i ∷ h ∷ back = order ∙ append_assoc front (i ∷ []) (h ∷ back) in
-        let ends = linear_ends (ends_in number o.chains) (front ++ i ∷ []) h back (subst (IsLinear (ends_in number o.chains)) order is.linear) in
-        let node_at = (plug-opens (knots_in number o.chains) o.root inner (node f.left i f.rank leaf) (subst (Stands (knots_in number o.chains) o.root) tree is.whole.stands)).1.0 in
+        ap (λ z. before c ++ z) f.at_end
+        ∙ sym (append_assoc (before c) (walk (plug f.context f.left)) (i ∷ [])) in
+        let order : order_in number o ≡ (front ++ i ∷ []) ++ h ∷ back = round
+        ∙ ap (λ z. z ++ h ∷ back) to_end in
+        let flat_order : order_in number o ≡ front ++ i ∷ h ∷ back = order
+        ∙ append_assoc front (i ∷ []) (h ∷ back) in
+        let ends = linear_ends (ends_in number o.chains) (front ++ i ∷ []) h back
+        (subst (IsLinear (ends_in number o.chains)) order is.linear) in
+        let node_at = (plug-opens (knots_in number o.chains) o.root inner
+        (node f.left i f.rank leaf)
+        (subst (Stands (knots_in number o.chains) o.root) tree is.whole.stands)).1.0 in
         record {
           index = i;
           is = ap prev_in ends ∙ last_snoc front i;
           settled = record {
             free = ap (option_map (λ z. z.right)) node_at;
             same = λ w n s.
-                let split = split_same s.before i s.after front (h ∷ back) (subst Apart s.was apart) (sym s.was ∙ flat_order) in
+                let split = split_same s.before i s.after front (h ∷ back) (subst Apart s.was apart)
+                (sym s.was ∙ flat_order) in
                 record {
                   before = front ++ i ∷ [];
                   after = back;
                   was = order;
-                  is = s.is ∙ ap (λ z. z ++ i ∷ n ∷ s.after) split.0 ∙ ap (λ z. front ++ i ∷ n ∷ z) split.1 ∙ sym (append_assoc front (i ∷ []) (n ∷ h ∷ back));
+                  is = s.is ∙ ap (λ z. z ++ i ∷ n ∷ s.after) split.0
+                      ∙ ap (λ z. front ++ i ∷ n ∷ z) split.1
+                      ∙ sym (append_assoc front (i ∷ []) (n ∷ h ∷ back));
                 };
           };
         }
@@ -199,62 +246,87 @@ module _ {I T : Type 0} (number : I → ℕ) where
         let i = f.index in
         let inner = plug_in (under c Right h k a) f.context in
         let tree : tree_in number o ≡ plug inner (node leaf i f.rank f.right) =
-        found.is ∙ ap (λ t. plug c (node a h k t)) f.is ∙ sym (plug_in-plug (under c Right h k a) f.context (node leaf i f.rank f.right)) in
+        found.is ∙ ap (λ t. plug c (node a h k t)) f.is
+        ∙ sym (plug_in-plug (under c Right h k a) f.context (node leaf i f.rank f.right)) in
         let front = before c ++ walk a in
         let back = walk (plug f.context f.right) ++ after c in
-        let order : order_in number o ≡ front ++ h ∷ i ∷ back = round ∙ ap (λ w. front ++ h ∷ (w ++ after c)) f.at_start in
-        let ends = linear_ends (ends_in number o.chains) front h (i ∷ back) (subst (IsLinear (ends_in number o.chains)) order is.linear) in
-        let node_at = (plug-opens (knots_in number o.chains) o.root inner (node leaf i f.rank f.right) (subst (Stands (knots_in number o.chains) o.root) tree is.whole.stands)).1.0 in
+        let order : order_in number o ≡ front ++ h ∷ i ∷ back = round
+        ∙ ap (λ w. front ++ h ∷ (w ++ after c)) f.at_start in
+        let ends = linear_ends (ends_in number o.chains) front h (i ∷ back)
+        (subst (IsLinear (ends_in number o.chains)) order is.linear) in
+        let node_at = (plug-opens (knots_in number o.chains) o.root inner
+        (node leaf i f.rank f.right)
+        (subst (Stands (knots_in number o.chains) o.root) tree is.whole.stands)).1.0 in
         record {
           index = i;
           is = ap next_in ends;
           settled = record {
             free = ap (option_map (λ z. z.left)) node_at;
             same = λ w n s.
-                let split = split_same s.before i s.after (front ++ h ∷ []) back (subst Apart s.was apart) (sym s.was ∙ order ∙ snoc front h (i ∷ back)) in
+                let split = split_same s.before i s.after (front ++ h ∷ []) back
+                (subst Apart s.was apart) (sym s.was ∙ order ∙ snoc front h (i ∷ back)) in
                 record {
                   before = front;
                   after = i ∷ back;
                   was = order;
-                  is = s.is ∙ ap (λ z. z ++ n ∷ i ∷ s.after) split.0 ∙ ap (λ z. (front ++ h ∷ []) ++ n ∷ i ∷ z) split.1 ∙ append_assoc front (h ∷ []) (n ∷ i ∷ back);
+                  is = s.is ∙ ap (λ z. z ++ n ∷ i ∷ s.after) split.0
+                      ∙ ap (λ z. (front ++ h ∷ []) ++ n ∷ i ∷ z) split.1
+                      ∙ append_assoc front (h ∷ []) (n ∷ i ∷ back);
                 };
           };
         }
 
-    prev_is : (e : Option (ℕ × IndexLink I (IndexNode I T))) (q : Option ℕ) (i : ℕ) → option_map (λ e. prev_for number Left e.1 h) e ≡ Some q
+    prev_is : (e : Option (ℕ × IndexLink I (IndexNode I T))) (q : Option ℕ) (i : ℕ)
+        → option_map (λ e. prev_for number Left e.1 h) e ≡ Some q
         → prev_in (option_map (entry_ends number) e) ≡ Some i → q ≡ Some i
     prev_is None q i p e = absurd (cc)
     prev_is (Some l) q i p e = let z : option_map number l.1.prev ≡ q = cc p in sym z ∙ e
 
-    next_is : (e : Option (ℕ × IndexLink I (IndexNode I T))) (q : Option ℕ) (i : ℕ) → option_map (λ e. next_for number Right e.1 h) e ≡ Some q
+    next_is : (e : Option (ℕ × IndexLink I (IndexNode I T))) (q : Option ℕ) (i : ℕ)
+        → option_map (λ e. next_for number Right e.1 h) e ≡ Some q
         → next_in (option_map (entry_ends number) e) ≡ Some i → q ≡ Some i
     next_is None q i p e = absurd (cc)
     next_is (Some l) q i p e = let z : option_map number l.1.next ≡ q = cc p in sym z ∙ e
 
     -- the neighbor that was read
-    settled_before : (x : ℕ) → v.left ≡ Some x → (q : Option ℕ) → option_map (λ e. prev_for number Left e.1 h) (entry_at o.chains h) ≡ Some q
+    settled_before : (x : ℕ) → v.left ≡ Some x → (q : Option ℕ)
+        → option_map (λ e. prev_for number Left e.1 h) (entry_at o.chains h) ≡ Some q
         → (j : ℕ) × ((q ≡ Some j) × Settled o Left h j Greater)
-    settled_before x left q p = let b = before_in x left in (b.index, (prev_is (entry_at o.chains h) q b.index p b.is, b.settled))
+    settled_before x left q p = let b = before_in x left in
+        (b.index, (prev_is (entry_at o.chains h) q b.index p b.is, b.settled))
 
-    settled_after : (x : ℕ) → v.right ≡ Some x → (q : Option ℕ) → option_map (λ e. next_for number Right e.1 h) (entry_at o.chains h) ≡ Some q
+    settled_after : (x : ℕ) → v.right ≡ Some x → (q : Option ℕ)
+        → option_map (λ e. next_for number Right e.1 h) (entry_at o.chains h) ≡ Some q
         → (j : ℕ) × ((q ≡ Some j) × Settled o Right h j Less)
-    settled_after x right q p = let b = after_in x right in (b.index, (next_is (entry_at o.chains h) q b.index p b.is, b.settled))
+    settled_after x right q p = let b = after_in x right in
+        (b.index, (next_is (entry_at o.chains h) q b.index p b.is, b.settled))
 
     -- the same, by the links as they stand in the nodes
-    pub settled_prev : (l : Option I) → is_some l ≡ true → v.left ≡ option_map number l → (q : Option I)
-        → option_map (λ e. prev_for number Left e.1 h) (entry_at o.chains h) ≡ Some (option_map number q) → (j : I) × ((q ≡ Some j) × Settled o Left h (number j) Greater)
+    pub settled_prev : (l : Option I) → is_some l ≡ true → v.left ≡ option_map number l
+        → (q : Option I)
+        → option_map (λ e. prev_for number Left e.1 h) (entry_at o.chains h)
+        ≡ Some (option_map number q)
+        → (j : I) × ((q ≡ Some j) × Settled o Left h (number j) Greater)
     settled_prev None some e q p = absurd (cc)
     settled_prev (Some x) some e q p = by q (settled_before (number x) e (option_map number q) p)
       where
-        by : (q : Option I) → (j : ℕ) × ((option_map number q ≡ Some j) × Settled o Left h j Greater) → (j : I) × ((q ≡ Some j) × Settled o Left h (number j) Greater)
+        by : (q : Option I) → (j : ℕ)
+            × ((option_map number q ≡ Some j) × Settled o Left h j Greater)
+            → (j : I) × ((q ≡ Some j) × Settled o Left h (number j) Greater)
         by None s = let z = s.1.0 in absurd (cc)
-        by (Some i) s = let z : number i ≡ s.0 = cc (s.1.0) in (i, (refl, subst (λ k. Settled o Left h k Greater) (sym z) s.1.1))
+        by (Some i) s = let z : number i ≡ s.0 = cc (s.1.0) in
+            (i, (refl, subst (λ k. Settled o Left h k Greater) (sym z) s.1.1))
 
-    pub settled_next : (l : Option I) → is_some l ≡ true → v.right ≡ option_map number l → (q : Option I)
-        → option_map (λ e. next_for number Right e.1 h) (entry_at o.chains h) ≡ Some (option_map number q) → (j : I) × ((q ≡ Some j) × Settled o Right h (number j) Less)
+    pub settled_next : (l : Option I) → is_some l ≡ true → v.right ≡ option_map number l
+        → (q : Option I)
+        → option_map (λ e. next_for number Right e.1 h) (entry_at o.chains h)
+        ≡ Some (option_map number q)
+        → (j : I) × ((q ≡ Some j) × Settled o Right h (number j) Less)
     settled_next None some e q p = absurd (cc)
     settled_next (Some x) some e q p = by q (settled_after (number x) e (option_map number q) p)
       where
-        by : (q : Option I) → (j : ℕ) × ((option_map number q ≡ Some j) × Settled o Right h j Less) → (j : I) × ((q ≡ Some j) × Settled o Right h (number j) Less)
+        by : (q : Option I) → (j : ℕ) × ((option_map number q ≡ Some j) × Settled o Right h j Less)
+            → (j : I) × ((q ≡ Some j) × Settled o Right h (number j) Less)
         by None s = let z = s.1.0 in absurd (cc)
-        by (Some i) s = let z : number i ≡ s.0 = cc (s.1.0) in (i, (refl, subst (λ k. Settled o Right h k Less) (sym z) s.1.1))
+        by (Some i) s = let z : number i ≡ s.0 = cc (s.1.0) in
+            (i, (refl, subst (λ k. Settled o Right h k Less) (sym z) s.1.1))

@@ -1,5 +1,8 @@
 -- An entry leaves the tree, and then the list.
-use Rattle.std.proofs.Common.{◌≡◌, ◌≢◌, ◌==◌, ℕ, ◌+◌, ◌-◌, ◌^◌, ◌<◌, List, [], ◌∷◌, ◌++◌, length, append_assoc, length-append, Option, Some, None, IsSome, IfSome, OnSome, Bool, true, false, if◌then◌else◌, refl, sym, ap, ◌∙◌, subst, arith, inl, inr}
+use Rattle.std.proofs.Common.{◌≡◌, ◌≢◌, ◌==◌, ℕ, ◌+◌, ◌-◌, ◌^◌, ◌<◌, List, [], ◌∷◌, ◌++◌, length}
+use Rattle.std.proofs.Common.{append_assoc, length-append, Option, Some, None, IsSome, IfSome}
+use Rattle.std.proofs.Common.{OnSome, Bool, true, false, if◌then◌else◌, refl, sym, ap, ◌∙◌, subst}
+use Rattle.std.proofs.Common.{arith, inl, inr}
 use Rattle.std.specs.Option.{option_map}
 use Rattle.std.proofs.lemmas.Bool.{cases_eq, eq-eqb, ne_eqb}
 use Rattle.triple_arena_ptr.specs.Generation.{next_generation}
@@ -34,7 +37,8 @@ not_none : {A : Type 0} (o : Option A) → o ≡ None → IsSome o → ⊥
 not_none None e s = absurd (cc)
 not_none (Some x) e s = absurd (cc)
 
-pub mapped_if : {A B : Type 0} (f : A → B) (o : Option A) (b : B) → IsSome o → IfSome o (λ a. f a ≡ b) → option_map f o ≡ Some b
+pub mapped_if : {A B : Type 0} (f : A → B) (o : Option A) (b : B) → IsSome o
+    → IfSome o (λ a. f a ≡ b) → option_map f o ≡ Some b
 mapped_if f None b s e = absurd (cc)
 mapped_if f (Some a) b s e = ap Some e
 
@@ -51,19 +55,25 @@ module _ {I T : Type 0} (number : I → ℕ) where
     pub was : order_in number o ≡ front ++ h ∷ back
     pub is : walk (plug loose.context loose.sub) ≡ front ++ back
 
-  pub out : (o : Ordered I T) → IsOrdered number o → (h : ℕ) → live_count o.chains < 2 ^ 64 → IsSome (knots_in number o.chains h)
+  pub out : (o : Ordered I T) → IsOrdered number o → (h : ℕ) → live_count o.chains < 2 ^ 64
+      → IsSome (knots_in number o.chains h)
       → (v : Knot) → knots_in number o.chains h ≡ Some v → v.right ≡ None → Out o h
   out o is h small lives v at free =
-      let found : Located (tree_in number o) h = located top (tree_in number o) h (is.all h lives) in
+      let found : Located (tree_in number o) h =
+      located top (tree_in number o) h (is.all h lives) in
       let c = found.context in
       let a = found.left in
       let k = found.rank in
-      let at_h : knots_in number o.chains h ≡ Some (knot Left (holder c) (root_of a) k (root_of found.right)) =
-      (plug-opens (knots_in number o.chains) o.root c (node a h k found.right) (subst (Stands (knots_in number o.chains) o.root) found.is is.whole.stands)).1.0 in
-      let same : Some v ≡ Some (knot Left (holder c) (root_of a) k (root_of found.right)) = sym at ∙ at_h in
+      let at_h : knots_in number o.chains h
+      ≡ Some (knot Left (holder c) (root_of a) k (root_of found.right)) =
+      (plug-opens (knots_in number o.chains) o.root c (node a h k found.right)
+      (subst (Stands (knots_in number o.chains) o.root) found.is is.whole.stands)).1.0 in
+      let same : Some v ≡ Some (knot Left (holder c) (root_of a) k (root_of found.right)) = sym at
+      ∙ at_h in
       let below : v ≡ knot Left (holder c) (root_of a) k (root_of found.right) = cc in
       let none : root_of found.right ≡ None = sym (ap (λ z. z.right) below) ∙ free in
-      let tree : tree_in number o ≡ plug c (node a h k leaf) = found.is ∙ ap (λ t. plug c (node a h k t)) (rest_leaf found.right none) in
+      let tree : tree_in number o ≡ plug c (node a h k leaf) = found.is
+      ∙ ap (λ t. plug c (node a h k t)) (rest_leaf found.right none) in
       let short : length (walk (tree_in number o)) < 2 ^ 64 = rw is.counted small in
       record {
         loose = record {
@@ -78,11 +88,15 @@ module _ {I T : Type 0} (number : I → ℕ) where
         };
         front = before c ++ walk a;
         back = after c;
-        was = ap walk tree ∙ plug-walk_is c (node a h k leaf) ∙ ap (λ z. before c ++ z) (append_assoc (walk a) (h ∷ []) (after c)) ∙ sym (append_assoc (before c) (walk a) (h ∷ after c));
+        was = ap walk tree ∙ plug-walk_is c (node a h k leaf)
+            ∙ ap (λ z. before c ++ z) (append_assoc (walk a) (h ∷ []) (after c))
+            ∙ sym (append_assoc (before c) (walk a) (h ∷ after c));
         is = plug-walk_is c a ∙ sym (append_assoc (before c) (walk a) (after c));
       }
 
-  pub uprooted : (o p : Ordered I T) (h : ℕ) (out : Out o h) → Restored (knots_in number p.chains) p.root (walk (plug out.loose.context out.loose.sub)) → IsUprooted number o p h
+  pub uprooted : (o p : Ordered I T) (h : ℕ) (out : Out o h)
+      → Restored (knots_in number p.chains) p.root (walk (plug out.loose.context out.loose.sub))
+      → IsUprooted number o p h
   uprooted o p h out restored = record {
     before = out.front;
     after = out.back;
@@ -90,29 +104,40 @@ module _ {I T : Type 0} (number : I → ℕ) where
     restored = subst (Restored (knots_in number p.chains) p.root) out.is restored;
   }
 
-  item-none : (b : Bool) (o : Option (ℕ × IndexNode I T)) → option_map itemed (if b then None else o) ≡ (if b then None else option_map itemed o)
+  item-none : (b : Bool) (o : Option (ℕ × IndexNode I T))
+      → option_map itemed (if b then None else o) ≡ (if b then None else option_map itemed o)
   item-none true o = refl
   item-none false o = refl
 
   -- the entry is there until the chain loses it
-  pub still : (o : Ordered I T) (c1 : Content (IndexLink I (IndexNode I T))) (h : ℕ) → rest c1 ≡ rest o.chains → IsSome (knots_in number o.chains h) → IsSome (entry_at c1 h)
+  pub still : (o : Ordered I T) (c1 : Content (IndexLink I (IndexNode I T))) (h : ℕ)
+      → rest c1 ≡ rest o.chains → IsSome (knots_in number o.chains h) → IsSome (entry_at c1 h)
   still o c1 h keeps lives =
       let same = rested number o.chains c1 keeps in
-      mapped_lives valued (entry_at c1 h) (mapped_lives (λ e. knot_of number e.1) (values_in c1 h) (same.stays h lives))
+      mapped_lives valued (entry_at c1 h)
+      (mapped_lives (λ e. knot_of number e.1) (values_in c1 h) (same.stays h lives))
 
-  pub answered : {A : Type 0} (a : Option A) (f : A → ℕ × IndexLink I (IndexNode I T)) (e : Option (ℕ × IndexLink I (IndexNode I T))) → option_map f a ≡ e → IsSome e → IsSome a
+  pub answered : {A : Type 0} (a : Option A) (f : A → ℕ × IndexLink I (IndexNode I T))
+      (e : Option (ℕ × IndexLink I (IndexNode I T))) → option_map f a ≡ e → IsSome e → IsSome a
   answered a f e is s = mapped_lives f a (subst IsSome (sym is) s)
 
-  pub answer_item : {A : Type 0} (a : Option A) (f : A → ℕ × IndexLink I (IndexNode I T)) (o : Ordered I T) (c1 : Content (IndexLink I (IndexNode I T))) (h : ℕ)
-      → rest c1 ≡ rest o.chains → option_map f a ≡ entry_at c1 h → option_map (λ x. ((f x).0, (f x).1.t.t)) a ≡ items_in o.chains h
-  answer_item {A = A} a f o c1 h keeps is = by a ∙ ap (option_map itemed) (ap (option_map valued) is) ∙ (rested number o.chains c1 keeps).items h
+  pub answer_item : {A : Type 0} (a : Option A) (f : A → ℕ × IndexLink I (IndexNode I T))
+      (o : Ordered I T) (c1 : Content (IndexLink I (IndexNode I T))) (h : ℕ)
+      → rest c1 ≡ rest o.chains → option_map f a ≡ entry_at c1 h
+      → option_map (λ x. ((f x).0, (f x).1.t.t)) a ≡ items_in o.chains h
+  answer_item {A = A} a f o c1 h keeps is = by a
+      ∙ ap (option_map itemed) (ap (option_map valued) is)
+      ∙ (rested number o.chains c1 keeps).items h
     where
-      by : (a : Option A) → option_map (λ x. ((f x).0, (f x).1.t.t)) a ≡ option_map itemed (option_map valued (option_map f a))
+      by : (a : Option A) → option_map (λ x. ((f x).0, (f x).1.t.t)) a
+          ≡ option_map itemed (option_map valued (option_map f a))
       by None = refl
       by (Some a) = refl
 
-  module _ (o : Ordered I T) (is : IsOrdered number o) (h : ℕ) (last : Option ℕ) (c1 c2 : Content (IndexLink I (IndexNode I T))) (root1 : Option ℕ)
-      (up : IsUprooted number o (record { chains = c1; root = root1 }) h) (keeps : rest c1 ≡ rest o.chains) (out : IsTakenOut number last h c1 c2) where
+  module _ (o : Ordered I T) (is : IsOrdered number o) (h : ℕ) (last : Option ℕ)
+      (c1 c2 : Content (IndexLink I (IndexNode I T))) (root1 : Option ℕ)
+      (up : IsUprooted number o (record { chains = c1; root = root1 }) h)
+      (keeps : rest c1 ≡ rest o.chains) (out : IsTakenOut number last h c1 c2) where
     same : Rested number o.chains c1
     same = rested number o.chains c1 keeps
 
@@ -123,7 +148,8 @@ module _ {I T : Type 0} (number : I → ℕ) where
     here = ap (option_map (λ e. knot_of number e.1)) (out.values h) ∙ rw (eq-eqb h h refl) refl
 
     counts : (j : ℕ) → count j (tree_in number o) ≡ count j up.restored.tree + one j h
-    counts j = count_split j (tree_in number o) up.restored.tree up.before h up.after up.was up.restored.is_walk
+    counts j = count_split j (tree_in number o) up.restored.tree up.before h up.after up.was
+        up.restored.is_walk
 
     in_new : (j : ℕ) → 0 < count j up.restored.tree → j ≢ h
     in_new j c e =
@@ -134,7 +160,8 @@ module _ {I T : Type 0} (number : I → ℕ) where
 
     pub record Taken : Type 0 where
       pub ordered : IsOrdered number (record { chains = c2; root = root1 })
-      pub order : Loses (order_in number o) (order_in number (record { chains = c2; root = root1 })) h
+      pub order : Loses (order_in number o) (order_in number (record { chains = c2; root = root1 }))
+          h
       pub entries : (k : ℕ) → items_in c2 k ≡ without (items_in o.chains) h k
       pub free : c2.free ≡ (without_entry last o.chains h).free
       pub slots : length c2.slots ≡ length (without_entry last o.chains h).slots
@@ -143,14 +170,22 @@ module _ {I T : Type 0} (number : I → ℕ) where
     taken =
         let p : Ordered I T = record { chains = c2; root = root1 } in
         let r = up.restored in
-        let stands2 : Stands (knots_in number c2) root1 r.tree = (r.stands.0, Represents-keep (knots_in number c1) (knots_in number c2) None r.tree (λ j c. other j (in_new j c)) r.stands.1) in
-        let tree : tree_in number p ≡ r.tree = tree_is (knots_in number c2) root1 r.tree stands2 r.ranked in
+        let stands2 : Stands (knots_in number c2) root1 r.tree = (
+          r.stands.0,
+          Represents-keep (knots_in number c1) (knots_in number c2) None r.tree
+              (λ j c. other j (in_new j c)) r.stands.1,
+        ) in
+        let tree : tree_in number p ≡ r.tree =
+        tree_is (knots_in number c2) root1 r.tree stands2 r.ranked in
         let order : order_in number p ≡ up.before ++ up.after = ap walk tree ∙ r.is_walk in
-        let linear0 = chain_where (ends_in number o.chains) (ends_in number c1) (Linear (up.before ++ h ∷ up.after)) (λ i on. same.ends i)
+        let linear0 = chain_where (ends_in number o.chains) (ends_in number c1)
+        (Linear (up.before ++ h ∷ up.after)) (λ i on. same.ends i)
         (subst (IsLinear (ends_in number o.chains)) up.was is.linear) in
-        let linear2 : IsLinear (ends_in number c2) (up.before ++ up.after) = out.lists.from_linear up.before up.after linear0 in
+        let linear2 : IsLinear (ends_in number c2) (up.before ++ up.after) =
+        out.lists.from_linear up.before up.after linear0 in
         let live2 = out.live in
-        let l1 : length (order_in number o) ≡ length (up.before ++ h ∷ up.after) = ap length up.was in
+        let l1 : length (order_in number o) ≡ length (up.before ++ h ∷ up.after) =
+        ap length up.was in
         let l2 = length-append up.before (h ∷ up.after) in
         let l3 = length-append up.before up.after in
         let l4 : length (order_in number p) ≡ length (up.before ++ up.after) = ap length order in
@@ -160,13 +195,18 @@ module _ {I T : Type 0} (number : I → ℕ) where
           ordered = record {
             whole = record {
               stands = subst (Stands (knots_in number c2) root1) (sym tree) stands2;
-              distinct = subst IsDistinct (sym tree) (record { once = λ j. let z = counts j in let b = is.whole.distinct.once j in omega arith });
+              distinct = subst IsDistinct (sym tree)
+                  (record {
+                    once = λ j. let z = counts j in let b = is.whole.distinct.once j in
+                        omega arith;
+                  });
               ranked = subst IsRanked (sym tree) r.ranked;
             };
             linear = subst (IsLinear (ends_in number c2)) (sym order) linear2;
             all = λ j lives.
                 elim (cases_eq j h) [
-                  | inl e ↦ absurd (not_none (knots_in number c2 j) (ap (knots_in number c2) e ∙ here) lives)
+                  | inl e ↦ absurd (not_none (knots_in number c2 j)
+                      (ap (knots_in number c2) e ∙ here) lives)
                   | inr d ↦
                       let z = is.all j (same.lives j (subst IsSome (other j d) lives)) in
                       let f = counts j in
@@ -177,7 +217,8 @@ module _ {I T : Type 0} (number : I → ℕ) where
             counted = omega arith;
           };
           order = record { before = up.before; after = up.after; was = up.was; is = order };
-          entries = λ k. ap (option_map itemed) (out.values k) ∙ item-none (k == h) (values_in c1 k) ∙ ap (λ z. if k == h then None else z) (same.items k);
+          entries = λ k. ap (option_map itemed) (out.values k) ∙ item-none (k == h) (values_in c1 k)
+              ∙ ap (λ z. if k == h then None else z) (same.items k);
           free =
               out.free ∙ free-removed last c1 h
               ∙ ap (λ m. if h == m then c1.free else (h ∷ c1.free)) same.kept.slots
@@ -190,15 +231,29 @@ module _ {I T : Type 0} (number : I → ℕ) where
         }
 
   -- the list is one shorter
-  pub removed : (last : Option ℕ) (o p : Ordered I T) (h : ℕ) → IsOrdered number o → IsOrdered number p → Loses (order_in number o) (order_in number p) h
-      → ((k : ℕ) → entry_in p k ≡ without (entry_in o) h k) → p.chains.counter ≡ next_generation last o.chains.counter → p.chains.free ≡ (without_entry last o.chains h).free
-      → length p.chains.slots ≡ length (without_entry last o.chains h).slots → p.chains.room ≡ o.chains.room
+  pub removed : (last : Option ℕ) (o p : Ordered I T) (h : ℕ) → IsOrdered number o
+      → IsOrdered number p → Loses (order_in number o) (order_in number p) h
+      → ((k : ℕ) → entry_in p k ≡ without (entry_in o) h k)
+      → p.chains.counter ≡ next_generation last o.chains.counter
+      → p.chains.free ≡ (without_entry last o.chains h).free
+      → length p.chains.slots ≡ length (without_entry last o.chains h).slots
+      → p.chains.room ≡ o.chains.room
       → IsEntryRemoved number last h o p
   removed last o p h is new_is lost entries counter free slots room =
-      let l1 : length (order_in number o) ≡ length (lost.before ++ h ∷ lost.after) = ap length lost.was in
-      let l2 : length (order_in number p) ≡ length (lost.before ++ lost.after) = ap length lost.is in
+      let l1 : length (order_in number o) ≡ length (lost.before ++ h ∷ lost.after) =
+      ap length lost.was in
+      let l2 : length (order_in number p) ≡ length (lost.before ++ lost.after) =
+      ap length lost.is in
       let l3 = length-append lost.before (h ∷ lost.after) in
       let l4 = length-append lost.before lost.after in
       let l5 : length (order_in number o) ≡ live_count o.chains = is.counted in
       let l6 : length (order_in number p) ≡ live_count p.chains = new_is.counted in
-      record { order = lost; entries = entries; size = omega arith; counter = counter; free = free; slots = slots; room = room }
+      record {
+        order = lost;
+        entries = entries;
+        size = omega arith;
+        counter = counter;
+        free = free;
+        slots = slots;
+        room = room;
+      }

@@ -21,25 +21,35 @@ module _ {I T : Type 0} (number : I → ℕ) where
   abbrev renewed : IndexNode I T → ℕ × IndexNode I T → ℕ × IndexNode I T
   renewed v entry = (entry.0, v)
 
-  written_here : (v : IndexNode I T) (o : Option (ℕ × IndexNode I T)) → IsSome (option_map knot o) → option_map knot (option_map (renewed v) o) ≡ Some (knot_of number v)
+  written_here : (v : IndexNode I T) (o : Option (ℕ × IndexNode I T)) → IsSome (option_map knot o)
+      → option_map knot (option_map (renewed v) o) ≡ Some (knot_of number v)
   written_here v None h = absurd (cc)
   written_here v (Some e) h = refl
 
-  pub written : (c : Content (IndexLink I (IndexNode I T))) (i : ℕ) (v : IndexNode I T) → IsSome (knots_in number c i)
+  pub written : (c : Content (IndexLink I (IndexNode I T))) (i : ℕ) (v : IndexNode I T)
+      → IsSome (knots_in number c i)
       → Written (knots_in number c) (knots_in number (with_value_in c i v)) i (knot_of number v)
   written c i v lives = record {
-    here = ap (option_map knot) (values-with_value_in c i v i) ∙ rw (eq-eqb i i refl) (written_here v (values_in c i) lives);
-    elsewhere = λ j other. ap (option_map knot) (values-with_value_in c i v j) ∙ rw (ne_eqb j i other) refl;
+    here = ap (option_map knot) (values-with_value_in c i v i)
+        ∙ rw (eq-eqb i i refl) (written_here v (values_in c i) lives);
+    elsewhere = λ j other. ap (option_map knot) (values-with_value_in c i v j)
+        ∙ rw (ne_eqb j i other) refl;
   }
 
-  there : (u : IndexNode I T) (o : Option (ℕ × IndexNode I T)) → option_map (λ e. e.1) o ≡ Some u → option_map knot o ≡ Some (knot_of number u)
+  there : (u : IndexNode I T) (o : Option (ℕ × IndexNode I T)) → option_map (λ e. e.1) o ≡ Some u
+      → option_map knot o ≡ Some (knot_of number u)
   there u None h = absurd (cc)
   there u (Some e) h = let z : e.1 ≡ u = cc in ap (λ n. Some (knot_of number n)) z
 
   -- a write of one field
-  pub written_in : (c : Content (IndexLink I (IndexNode I T))) (i : ℕ) (u v : IndexNode I T) (k : Knot → Knot)
-      → IsSome (knots_in number c i) → option_map (λ e. e.1) (values_in c i) ≡ Some u → knot_of number v ≡ k (knot_of number u)
-      → (w : Knot) → knots_in number c i ≡ Some w → Written (knots_in number c) (knots_in number (with_value_in c i v)) i (k w)
+  pub written_in : (c : Content (IndexLink I (IndexNode I T))) (i : ℕ) (u v : IndexNode I T)
+      (k : Knot → Knot)
+      → IsSome (knots_in number c i) → option_map (λ e. e.1) (values_in c i) ≡ Some u
+      → knot_of number v ≡ k (knot_of number u)
+      → (w : Knot) → knots_in number c i ≡ Some w
+      → Written (knots_in number c) (knots_in number (with_value_in c i v)) i (k w)
   written_in c i u v k lives is same w at =
-      let it : knot_of number u ≡ w = seen (knot_of number u) w (sym (there u (values_in c i) is) ∙ at) in
-      subst (Written (knots_in number c) (knots_in number (with_value_in c i v)) i) (same ∙ ap k it) (written c i v lives)
+      let it : knot_of number u ≡ w =
+      seen (knot_of number u) w (sym (there u (values_in c i) is) ∙ at) in
+      subst (Written (knots_in number c) (knots_in number (with_value_in c i v)) i) (same ∙ ap k it)
+      (written c i v lives)

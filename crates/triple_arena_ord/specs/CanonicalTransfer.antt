@@ -6,7 +6,8 @@ use Rattle.triple_arena_ptr.specs.declared.invalidation.InvalidationOption.{Inva
 use Rattle.triple_arena.specs.Transfer.{IsTransferred}
 use Rattle.rank_tree.specs.Halving.{IsHalvingOf}
 use Rattle.triple_arena_ord.specs.Indexed.{indexed}
-use Rattle.triple_arena_ord.specs.Ordered.{Ordered, size_in, counter_in, tree_in, order_in, ordered_entries}
+use Rattle.triple_arena_ord.specs.Ordered.{Ordered, size_in, counter_in, tree_in, order_in}
+use Rattle.triple_arena_ord.specs.Ordered.{ordered_entries}
 
 module _ {Q U P T J I F : Type 0} (old_index old_generation : Q → ℕ) (index generation : P → ℕ)
     (old_number : J → ℕ) (number : I → ℕ)

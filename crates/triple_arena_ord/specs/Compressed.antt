@@ -1,6 +1,7 @@
 -- Compression: the entries at the first indexes, in the order of the indexes that they had, the
 -- list renamed with them, and the tree written anew.
-use Rattle.std.specs.Prelude.{◌≡◌, ℕ, ◌+◌, Bool, [], List, Option, Some, None, length, map, slice_get}
+use Rattle.std.specs.Prelude.{◌≡◌, ℕ, ◌+◌, Bool, [], List, Option, Some, None, length, map}
+use Rattle.std.specs.Prelude.{slice_get}
 use Rattle.std.specs.Option.{option_map}
 use Rattle.triple_arena.specs.Compression.{renewed}
 use Rattle.triple_arena_chain.specs.Renaming.{new_index}

@@ -25,8 +25,7 @@ module _ {I T : Type 0} where
   -- last index
   abbrev pub copied_into : Content (IndexLink I (IndexNode I T)) → Ordered I T → Ordered I T
   copied_into c source = record {
-    chains = copied c (counter_in source)
-        (live_entries source.chains);
+    chains = copied c (counter_in source) (live_entries source.chains);
     root = source.root;
   }
 

@@ -1,5 +1,6 @@
 -- What a contract sees of an insertion's entry, and what the calls that make one answer.
-use Rattle.std.specs.Prelude.{◌≡◌, ◌≢◌, ◌<◌, ◌↔◌, ℕ, Option, Some, None, IsSome, IfSome, Result, Ok, Err}
+use Rattle.std.specs.Prelude.{◌≡◌, ◌≢◌, ◌<◌, ◌↔◌, ℕ, Option, Some, None, IsSome, IfSome, Result, Ok}
+use Rattle.std.specs.Prelude.{Err}
 use Rattle.std.specs.Option.{option_map}
 use Rattle.std.specs.Borrow.{GName}
 use Rattle.std.specs.declared.cmp.Ordering.{Ordering}
@@ -10,7 +11,7 @@ use Rattle.triple_arena.specs.Content.{arena_capacity, next_index}
 use Rattle.triple_arena.specs.Entries.{generation_at}
 use Rattle.triple_arena_ord.specs.declared.kind.OrdEntryKind.{OrdEntryKind}
 use Rattle.triple_arena_ord.specs.declared.kind.OrdEntryKind.TheVariants.{New, Replacing}
-use Rattle.triple_arena_ord.specs.declared.ord_arena.entry.SimpleOrdArenaInsertEntry.{SimpleOrdArenaInsertEntry}
+use Rattle.triple_arena_ord.specs.declared.ord_arena.insertion.entry.SimpleOrdArenaInsertEntry.{SimpleOrdArenaInsertEntry}
 use Rattle.triple_arena_ord.specs.Ordered.{Ordered, entry_in, size_in}
 use Rattle.triple_arena_ord.specs.Inserted.{Replaces}
 

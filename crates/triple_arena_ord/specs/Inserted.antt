@@ -1,5 +1,6 @@
 -- What an insertion does.
-use Rattle.std.specs.Prelude.{◌≡◌, ◌≢◌, ℕ, ◌+◌, ◌<◌, ◌≤◌, max, Bool, IsTrue, List, [], ◌∷◌, ◌++◌, length, drop, Option, Some, None, Result, Ok, Err}
+use Rattle.std.specs.Prelude.{◌≡◌, ◌≢◌, ℕ, ◌+◌, ◌<◌, ◌≤◌, max, Bool, IsTrue, List, [], ◌∷◌, ◌++◌}
+use Rattle.std.specs.Prelude.{length, drop, Option, Some, None, Result, Ok, Err}
 use Rattle.std.specs.Option.{option_map}
 use Rattle.std.specs.declared.cmp.Ordering.{Ordering}
 use Rattle.std.specs.declared.cmp.Ordering.TheVariants.{Less, Equal, Greater}
@@ -7,14 +8,18 @@ use Rattle.triple_arena_stack.specs.Room.{Room, capacity, room_after}
 use Rattle.triple_arena.specs.Content.{Content, next_index}
 use Rattle.triple_arena.specs.Entries.{with_entry}
 use Rattle.triple_arena_ptr.specs.declared.errors.OrdInsertionError.{OrdInsertionError}
-use Rattle.triple_arena_ptr.specs.declared.errors.OrdInsertionError.TheVariants.{FailedOrdRequirement, NotWithinCapacity, BeyondMaxCapacity, AllocError}
+use Rattle.triple_arena_ptr.specs.declared.errors.OrdInsertionError.TheVariants.{FailedOrdRequirement}
+use Rattle.triple_arena_ptr.specs.declared.errors.OrdInsertionError.TheVariants.{NotWithinCapacity}
+use Rattle.triple_arena_ptr.specs.declared.errors.OrdInsertionError.TheVariants.{BeyondMaxCapacity}
+use Rattle.triple_arena_ptr.specs.declared.errors.OrdInsertionError.TheVariants.{AllocError}
 use Rattle.triple_arena_chain.specs.Links.{IsKept, ends_in}
 use Rattle.triple_arena_chain.specs.LinkShape.{IndexLink}
 use Rattle.rank_tree.specs.declared.side.Side.TheVariants.{Left, Right}
 use Rattle.triple_arena_ord.specs.NodeShape.{IndexNode}
 use Rattle.triple_arena_ord.specs.Node.{knots_in, items_in}
 use Rattle.rank_tree.specs.Search.{AllIn}
-use Rattle.triple_arena_ord.specs.Ordered.{Ordered, IsAscending, StandsBeside, order_in, entry_in, size_in, asked_at}
+use Rattle.triple_arena_ord.specs.Ordered.{Ordered, IsAscending, StandsBeside, order_in, entry_in}
+use Rattle.triple_arena_ord.specs.Ordered.{size_in, asked_at}
 
 -- one more index stands where a search ended: before or after the index that was asked last, or
 -- alone

@@ -5,9 +5,12 @@ use Rattle.std.specs.Borrow.{Bor}
 use Rattle.std.specs.declared.cmp.Ordering.{Ordering}
 use Rattle.std.specs.declared.cmp.Ordering.TheVariants.{Less, Equal, Greater}
 use Rattle.triple_arena_ord.specs.declared.kind.InsertKind.{InsertKind}
-use Rattle.triple_arena_ord.specs.declared.kind.InsertKind.TheVariants.{Empty, Normal, Nonhereditary, Linear, NonhereditaryLinear, Manual}
+use Rattle.triple_arena_ord.specs.declared.kind.InsertKind.TheVariants.{Empty, Normal}
+use Rattle.triple_arena_ord.specs.declared.kind.InsertKind.TheVariants.{Nonhereditary, Linear}
+use Rattle.triple_arena_ord.specs.declared.kind.InsertKind.TheVariants.{NonhereditaryLinear, Manual}
 use Rattle.rank_tree.specs.Search.{Places}
-use Rattle.triple_arena_ord.specs.Ordered.{Ordered, IsAscending, order_in, entry_in, size_in, asked_at}
+use Rattle.triple_arena_ord.specs.Ordered.{Ordered, IsAscending, order_in, entry_in, size_in}
+use Rattle.triple_arena_ord.specs.Ordered.{asked_at}
 
 -- directly before an entry in place of in it
 abbrev pub before_equal : Option (ℕ × Ordering) → Option (ℕ × Ordering)

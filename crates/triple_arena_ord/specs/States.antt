@@ -1,7 +1,8 @@
 -- What exactly an ordered arena is after the calls that leave its list as it is, and after those
 -- that leave no entry.
 use Rattle.std.specs.Prelude.{ℕ, Option, None}
-use Rattle.triple_arena.specs.Content.{cleared, empty, invalidated, reallocated, stepped, with_counter}
+use Rattle.triple_arena.specs.Content.{cleared, empty, invalidated, reallocated, stepped}
+use Rattle.triple_arena.specs.Content.{with_counter}
 use Rattle.triple_arena.specs.Drains.{drained}
 use Rattle.triple_arena_chain.specs.Links.{with_link}
 use Rattle.triple_arena_stack.specs.Room.{Room}

@@ -1,5 +1,6 @@
 //! What follows from the calls of an ordered arena.
-ghost use Rattle.std.specs.Prelude.{◌≡◌, ◌≢◌, ◌+◌, ◌*◌, ◌^◌, ◌<◌, ◌≤◌, ℕ, Bool, List, ◌∷◌, ◌++◌, length, Option, Some, None, IsSome, Result};
+ghost use Rattle.std.specs.Prelude.{◌≡◌, ◌≢◌, ◌+◌, ◌*◌, ◌^◌, ◌<◌, ◌≤◌, ℕ, Bool, List, ◌∷◌, ◌++◌};
+ghost use Rattle.std.specs.Prelude.{length, Option, Some, None, IsSome, Result};
 ghost use Rattle.std.specs.List.{AllByRecursion, range_with_len};
 ghost use Rattle.std.specs.Option.{option_map};
 ghost use Rattle.std.specs.declared.cmp.Ordering.{Ordering as Way};
@@ -10,10 +11,13 @@ ghost use Rattle.triple_arena.specs.Transfer.{IsFilled};
 ghost use Rattle.triple_arena_chain.specs.Chains.{On};
 ghost use Rattle.triple_arena_ord.specs.Asked.{IsWay};
 ghost use Rattle.triple_arena_ord.specs.AskedLaws.{IsCutAt, last_greater, last_less};
+ghost use Rattle.triple_arena_ord.specs.CanonicalLayout.{IsLaidInOrder};
 ghost use Rattle.triple_arena_ord.specs.Indexed.{indexed};
 ghost use Rattle.triple_arena_ord.specs.Inserted.{IsInsertedAt, IsReplaced, either_room};
 ghost use Rattle.triple_arena_ord.specs.ItemRecasting.{recasted_in};
-ghost use Rattle.triple_arena_ord.specs.Ordered.{Ordered, IsOrdered, IsAscending, tree_in, order_in, ordered_entries, entry_in, size_in, counter_in, room_in, asked_at};
+ghost use Rattle.triple_arena_ord.specs.Ordered.{Ordered, IsOrdered, IsAscending, tree_in};
+ghost use Rattle.triple_arena_ord.specs.Ordered.{order_in, ordered_entries, entry_in, size_in};
+ghost use Rattle.triple_arena_ord.specs.Ordered.{counter_in, room_in, asked_at};
 ghost use Rattle.triple_arena_ord.specs.Placing.{IsPlaceByKey, IsPlaceBeforeEqual};
 ghost use Rattle.triple_arena_ord.specs.Removal.{IsEntryRemoved};
 ghost use Rattle.rank_tree.specs.Search.{AllIn};
@@ -152,4 +156,12 @@ pub fn canonical_transfers_list_by_index<P: PtrCore, T>()
         → IsFilled entry_in size_in counter_in room_in indexed n g own old new
         → order_in P.Inx.number new ≡ range_with_len 1 n
         → ordered_entries P.Inx.number new ≡ indexed new }
+{}
+
+/// A second `compress_canonical` changes no index.
+pub fn compress_canonical_stays<P: PtrCore, T>()
+    ensures { (before between after : Ordered P.Inx T) (reset again : Bool)
+        → IsLaidInOrder P.Inx.number P.Gen.last reset before between
+        → (second : IsLaidInOrder P.Inx.number P.Gen.last again between after)
+        → (i : ℕ) → On (order_in P.Inx.number between) i → second.to i ≡ i }
 {}

@@ -8,7 +8,8 @@ ghost use Rattle.triple_arena_chain.specs.Kinds.{ends_by};
 ghost use Rattle.triple_arena_chain.specs.Links.{ends_in};
 ghost use Rattle.triple_arena_ord.specs.Node.{knots_in, prev_for, next_for};
 ghost use Rattle.triple_arena_ord.specs.Inserted.{IsAdded};
-ghost use Rattle.triple_arena_ord.specs.Ordered.{IsOrdered, StandsBeside, order_in, moved, replaced};
+ghost use Rattle.triple_arena_ord.specs.Ordered.{IsOrdered, StandsBeside, order_in, moved};
+ghost use Rattle.triple_arena_ord.specs.Ordered.{replaced};
 
 use crate::{IndexNode, OrdSlots, SimpleOrdArenaNode};
 use rank_tree::{Side, bring_in};

@@ -79,7 +79,7 @@ pub mod ord_iterators {
 pub use item::SimpleOrdItem;
 pub use kind::{InsertKind, OrdEntryKind, OrdInsertKind};
 pub use node::{IndexNode, NodeItem, SimpleOrdArenaNode};
-pub use ord_arena::entry::SimpleOrdArenaInsertEntry;
+pub use ord_arena::insertion::entry::SimpleOrdArenaInsertEntry;
 pub use ord_arena::{ArrayOrdArena, BoxedOrdArena, HeapOrdArena, LimitedOrdArena, SimpleOrdArena};
 pub use pair::OrdPair;
 pub use slots::OrdSlots;

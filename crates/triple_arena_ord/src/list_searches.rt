@@ -5,7 +5,8 @@ ghost use Rattle.triple_arena_chain.specs.Chains.{IsLinear, On};
 ghost use Rattle.triple_arena_chain.specs.Links.{ends_in, link_ends};
 ghost use Rattle.triple_arena_ord.specs.Node.{items_in};
 ghost use Rattle.rank_tree.specs.Search.{IsParted};
-ghost use Rattle.triple_arena_ord.specs.Near.{IsAtHand, IsStop, IsWalked, path_from, asked_in, onward as onward_of};
+ghost use Rattle.triple_arena_ord.specs.Near.{IsAtHand, IsStop, IsWalked, path_from, asked_in};
+ghost use Rattle.triple_arena_ord.specs.Near.{onward as onward_of};
 
 use crate::SimpleOrdItem;
 use crate::links::Links;

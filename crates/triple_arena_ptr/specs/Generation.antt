@@ -1,6 +1,7 @@
 -- The numbers of generations, under the greatest one. It is absent where generations are not
 -- counted, and all have the number 1.
-use Rattle.std.specs.Prelude.{◌≡◌, ℕ, ◌+◌, ◌==◌, ◌<◌, ◌≤◌, Bool, false, Option, Some, None, if◌then◌else◌}
+use Rattle.std.specs.Prelude.{◌≡◌, ℕ, ◌+◌, ◌==◌, ◌<◌, ◌≤◌, Bool, false, Option, Some, None}
+use Rattle.std.specs.Prelude.{if◌then◌else◌}
 
 -- a number that a generation may have
 abbrev pub IsGeneration : Option ℕ → ℕ → Type 0

@@ -1,7 +1,8 @@
 -- The answer of a call that ends pointers by a step of a generation.
 use Rattle.std.specs.Prelude.{◌≡◌, Bool, true, false, Option, Some, None}
 use Rattle.triple_arena_ptr.specs.declared.invalidation.InvalidationOption.{InvalidationOption}
-use Rattle.triple_arena_ptr.specs.declared.invalidation.InvalidationOption.TheVariants.{Success, GenerationOverflow}
+use Rattle.triple_arena_ptr.specs.declared.invalidation.InvalidationOption.TheVariants.{Success}
+use Rattle.triple_arena_ptr.specs.declared.invalidation.InvalidationOption.TheVariants.{GenerationOverflow}
 
 -- whether the step started the generations again
 abbrev pub overflowed : {T : Type 0} → InvalidationOption T → Bool

@@ -3,7 +3,9 @@ use Rattle.std.specs.Prelude.{Option, Some, None}
 use Rattle.triple_arena_ptr.specs.declared.invalidation.InvalidationOption.{InvalidationOption}
 use Rattle.triple_arena_ptr.specs.declared.invalidation.InvalidationOption.TheVariants as valid
 use Rattle.triple_arena_ptr.specs.declared.invalidation.InvalidationResult.{InvalidationResult}
-use Rattle.triple_arena_ptr.specs.declared.invalidation.InvalidationResult.TheVariants.{Success, GenerationOverflow, InvalidPtr}
+use Rattle.triple_arena_ptr.specs.declared.invalidation.InvalidationResult.TheVariants.{Success}
+use Rattle.triple_arena_ptr.specs.declared.invalidation.InvalidationResult.TheVariants.{GenerationOverflow}
+use Rattle.triple_arena_ptr.specs.declared.invalidation.InvalidationResult.TheVariants.{InvalidPtr}
 
 -- the answer where the pointer was valid
 abbrev pub answer_of : {T : Type 0} → InvalidationResult T → Option (InvalidationOption T)

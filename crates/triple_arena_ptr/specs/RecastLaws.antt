@@ -1,7 +1,8 @@
 -- What a renaming makes of the items of parts.
 use Rattle.std.specs.Prelude.{◌≡◌, List, [], ◌∷◌, ◌++◌, Option, Some, None, Result, Ok, Err, refl}
 use Rattle.std.proofs.Common.{ap, ◌∙◌, sym}
-use Rattle.triple_arena_ptr.specs.Recast.{renamed_item, answer_before, recast_answer, items_after, renamed, where_ok, option_items, option_recasted}
+use Rattle.triple_arena_ptr.specs.Recast.{renamed_item, answer_before, recast_answer, items_after}
+use Rattle.triple_arena_ptr.specs.Recast.{renamed, where_ok, option_items, option_recasted}
 
 -- a value that is an item
 pub renamed-one : {I : Type 0} (f : I → Option I) (x : I)

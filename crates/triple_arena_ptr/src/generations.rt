@@ -1,9 +1,12 @@
 //! The generations: std's integers that are not 0, and `()` if generations are not counted.
 ghost use Rattle.std.specs.Prelude.{Some, None, ◌-◌, ◌^◌, refl};
 ghost use Rattle.std.specs.Cmp.Rules.{comparing};
-ghost use Rattle.std.specs.Int.NonZero.{non_zero_u8_get, non_zero_u16_get, non_zero_u32_get, non_zero_u64_get, non_zero_u128_get, non_zero_usize_get};
+ghost use Rattle.std.specs.Int.NonZero.{non_zero_u8_get, non_zero_u16_get, non_zero_u32_get};
+ghost use Rattle.std.specs.Int.NonZero.{non_zero_u64_get, non_zero_u128_get, non_zero_usize_get};
 ghost use Rattle.std.proofs.Common.{rules};
-ghost use Rattle.triple_arena_ptr.specs.NonZeros.{u8_determined, u16_determined, u32_determined, u64_determined, u128_determined, usize_determined};
+ghost use Rattle.triple_arena_ptr.specs.NonZeros.{u8_determined, u16_determined, u32_determined};
+ghost use Rattle.triple_arena_ptr.specs.NonZeros.{u64_determined, u128_determined};
+ghost use Rattle.triple_arena_ptr.specs.NonZeros.{usize_determined};
 
 use crate::hexadecimal;
 use crate::ptr::{PtrGen, PtrGenCore};

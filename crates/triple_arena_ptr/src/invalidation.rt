@@ -1,5 +1,6 @@
 //! What a call answers that ends pointers by a step of a generation.
-ghost use Rattle.std.specs.Prelude.{◌≡◌, MatchOption, IsSome, IfSome, IsSomeAnd, IsNone, is_none, not, false, option_and_then};
+ghost use Rattle.std.specs.Prelude.{◌≡◌, MatchOption, IsSome, IfSome, IsSomeAnd, IsNone, is_none};
+ghost use Rattle.std.specs.Prelude.{not, false, option_and_then};
 ghost use Rattle.std.specs.Option.{option_map, option_map_or};
 
 /// The answer of a call that may step generations: its value, and whether a generation started
@@ -13,7 +14,8 @@ pub enum InvalidationOption<T> {
 }
 
 impl<T> InvalidationOption<T> {
-    ghost use Rattle.triple_arena_ptr.specs.InvalidationOption.{IsMappedBy, overflowed, value_of, strict_value};
+    ghost use Rattle.triple_arena_ptr.specs.InvalidationOption.{IsMappedBy, overflowed, value_of};
+    ghost use Rattle.triple_arena_ptr.specs.InvalidationOption.{strict_value};
 
     /// Whether no generation started again.
     pub fn is_success(&self) -> bool
@@ -93,7 +95,8 @@ pub enum InvalidationResult<T> {
 }
 
 impl<T> InvalidationResult<T> {
-    ghost use Rattle.triple_arena_ptr.specs.InvalidationOption.{IsMappedBy, overflowed, value_of, strict_value};
+    ghost use Rattle.triple_arena_ptr.specs.InvalidationOption.{IsMappedBy, overflowed, value_of};
+    ghost use Rattle.triple_arena_ptr.specs.InvalidationOption.{strict_value};
     ghost use Rattle.triple_arena_ptr.specs.InvalidationResult.{answer_of};
 
     /// Whether the pointer was valid and no generation started again.

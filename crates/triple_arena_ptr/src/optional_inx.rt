@@ -2,7 +2,8 @@
 ghost use Rattle.std.specs.Prelude.{◌≡◌, Some, None, is_none, ⊤};
 ghost use Rattle.std.specs.Cmp.Rules.{comparing};
 ghost use Rattle.std.proofs.Common.{rules};
-ghost use Rattle.triple_arena_ptr.specs.OptionLaws.{options_agree, options_fed, options_per, options_po, options_tied};
+ghost use Rattle.triple_arena_ptr.specs.OptionLaws.{options_agree, options_fed, options_per};
+ghost use Rattle.triple_arena_ptr.specs.OptionLaws.{options_po, options_tied};
 
 use crate::ptr::PtrInxCore;
 use std::alloc::AllocError;

@@ -1,9 +1,11 @@
 //! What an index, a generation and a pointer are.
-ghost use Rattle.std.specs.Prelude.{◌≡◌, ℕ, ◌<◌, ◌≤◌, ◌^◌, ◌==◌, ◌&&◌, ◌↔◌, List, Option, Some, None, IsNone, IfSome};
+ghost use Rattle.std.specs.Prelude.{◌≡◌, ℕ, ◌<◌, ◌≤◌, ◌^◌, ◌==◌, ◌&&◌, ◌↔◌, List, Option, Some};
+ghost use Rattle.std.specs.Prelude.{None, IsNone, IfSome};
 ghost use Rattle.std.specs.Ordering.{nat_cmp, on, then_cmp};
 ghost use Rattle.std.specs.Fmt.{WritesOnOk};
 ghost use Rattle.std.specs.Int.NonZero.{non_zero_usize_get};
-ghost use Rattle.triple_arena_ptr.specs.Generation.{IsGeneration, second_generation, next_generation, next_wraps};
+ghost use Rattle.triple_arena_ptr.specs.Generation.{IsGeneration, second_generation};
+ghost use Rattle.triple_arena_ptr.specs.Generation.{next_generation, next_wraps};
 ghost use Rattle.triple_arena_ptr.specs.Hexadecimal.{hexadecimal};
 ghost use Rattle.triple_arena_ptr.specs.Index.{max_index_of};
 ghost use Rattle.triple_arena_ptr.specs.Pointer.{generation_digits, pointer_text};

@@ -1,11 +1,13 @@
 -- What the calls that append an item, or make room for one, answer and leave, in any stack:
 -- `items_of` and `room_of` are its items and its room, and `takes_memory` says whether it takes
 -- memory.
-use Rattle.std.specs.Prelude.{◌≡◌, ℕ, ◌+◌, ◌<◌, ◌↔◌, Bool, IsTrue, List, [], ◌∷◌, ◌++◌, length, Some, Result, IsOk, IfOk, OnErr, IsErrOf}
+use Rattle.std.specs.Prelude.{◌≡◌, ℕ, ◌+◌, ◌<◌, ◌↔◌, Bool, IsTrue, List, [], ◌∷◌, ◌++◌, length}
+use Rattle.std.specs.Prelude.{Some, Result, IsOk, IfOk, OnErr, IsErrOf}
 use Rattle.std.specs.Int.NonZero.{non_zero_usize_get}
 use Rattle.std.specs.declared.num.NonZeroUsize.{NonZeroUsize}
 use Rattle.triple_arena_ptr.specs.declared.errors.ReallocationError.{ReallocationError}
-use Rattle.triple_arena_ptr.specs.declared.errors.ReallocationError.TheVariants.{BeyondMaxCapacity, AllocError}
+use Rattle.triple_arena_ptr.specs.declared.errors.ReallocationError.TheVariants.{BeyondMaxCapacity}
+use Rattle.triple_arena_ptr.specs.declared.errors.ReallocationError.TheVariants.{AllocError}
 use Rattle.triple_arena_stack.specs.Room.{Room, capacity, room_after}
 
 -- which error comes where a slot is asked for, with so many items in this room, and when none does

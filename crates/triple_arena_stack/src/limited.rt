@@ -1,6 +1,7 @@
 //! A stack on the heap whose limit can be set.
 ghost use Rattle.std.specs.Prelude.{◌≤◌, None, length, true, refl};
-ghost use Rattle.triple_arena_stack.specs.Limited.{with_items as with_items_of, with_limit as with_limit_of};
+ghost use Rattle.triple_arena_stack.specs.Limited.{with_items as with_items_of};
+ghost use Rattle.triple_arena_stack.specs.Limited.{with_limit as with_limit_of};
 
 use crate::heap::Heap;
 use crate::stack::make_room;

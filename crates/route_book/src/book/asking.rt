@@ -1,7 +1,7 @@
 //! Calls that change nothing.
 ghost use Rattle.std.specs.Prelude.{◌≡◌, Some, None};
 ghost use Rattle.std.specs.Option.{option_map};
-ghost use Rattle.counted_search.specs.Searches.{most_comparisons};
+ghost use Rattle.rank_tree.specs.Comparisons.{most_comparisons};
 ghost use Rattle.triple_arena_chain.specs.Links.{values_in};
 ghost use Rattle.triple_arena_ord.specs.Ordered.{entry_in};
 ghost use Rattle.route_lines.specs.Calls.{shown, found, floor_of, place_after, place_before};

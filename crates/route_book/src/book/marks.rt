@@ -1,6 +1,6 @@
 //! Marks.
 ghost use Rattle.std.specs.Prelude.{◌≡◌, IfErr};
-ghost use Rattle.counted_search.specs.Searches.{most_comparisons};
+ghost use Rattle.rank_tree.specs.Comparisons.{most_comparisons};
 ghost use Rattle.route_lines.specs.Calls.{marked, after_mark};
 ghost use Rattle.route_lines.specs.Searches.{CountsWithin, living_count};
 ghost use Rattle.route_lines.specs.State.{is_full_of_marks};

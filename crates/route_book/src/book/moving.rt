@@ -1,5 +1,6 @@
 //! A store that moves to other pointers, stacks and rooms.
-ghost use Rattle.std.specs.Prelude.{◌≡◌, ◌+◌, ◌<◌, ◌≤◌, ℕ, Some, None, Err, IfOk, IfErr, IsTrue, length};
+ghost use Rattle.std.specs.Prelude.{◌≡◌, ◌+◌, ◌<◌, ◌≤◌, ℕ, Some, None, Err, IfOk, IfErr, IsTrue};
+ghost use Rattle.std.specs.Prelude.{length};
 ghost use Rattle.route_lines.specs.State.{Rooms, stop_list};
 ghost use Rattle.route_lines.specs.declared.refusal.RoomError.{RoomError as Refused};
 ghost use Rattle.route_book.specs.Book.{Book};

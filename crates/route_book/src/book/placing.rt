@@ -1,10 +1,11 @@
 //! A place more, or another word for one.
 ghost use Rattle.std.specs.Prelude.{◌≡◌, ◌+◌, Some, Ok, IfErr, false};
-ghost use Rattle.counted_search.specs.Searches.{most_comparisons};
+ghost use Rattle.rank_tree.specs.Comparisons.{most_comparisons};
 ghost use Rattle.triple_arena.specs.Entries.{value_if};
 ghost use Rattle.triple_arena_ord.specs.Found.{IsSimilar};
 ghost use Rattle.triple_arena_ord.specs.Ordered.{IsAscending, asked_at, entry_in};
-ghost use Rattle.route_lines.specs.Calls.{place_holder, placed, after_place, placed_near, after_place_near, worded, after_word};
+ghost use Rattle.route_lines.specs.Calls.{place_holder, placed, after_place, placed_near};
+ghost use Rattle.route_lines.specs.Calls.{after_place_near, worded, after_word};
 ghost use Rattle.route_lines.specs.Searches.{CountsWithin, place_count, living_count, most_near};
 ghost use Rattle.route_lines.specs.State.{Place as PlaceView, is_full_of_places};
 ghost use Rattle.route_book.specs.Book.{KeepsItems};

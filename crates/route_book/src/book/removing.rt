@@ -1,6 +1,6 @@
 //! Removals, which leave stored references as they are.
 ghost use Rattle.std.specs.Prelude.{◌≡◌, ℕ, Some, false};
-ghost use Rattle.counted_search.specs.Searches.{most_comparisons};
+ghost use Rattle.rank_tree.specs.Comparisons.{most_comparisons};
 ghost use Rattle.triple_arena_ptr.specs.Generation.{next_wraps};
 ghost use Rattle.ticket_book.specs.Tickets.{Entry as EntryView, entry_at};
 ghost use Rattle.route_lines.specs.Calls.{removed, after_removed};

@@ -1,7 +1,8 @@
 //! Routes: a stop behind another, and stops that are joined, parted and exchanged.
 ghost use Rattle.std.specs.Prelude.{◌≡◌, IfErr};
-ghost use Rattle.counted_search.specs.Searches.{most_comparisons};
-ghost use Rattle.route_lines.specs.Calls.{after_cut, after_extend, after_join, after_swap, extended, joined, parted, swapped};
+ghost use Rattle.rank_tree.specs.Comparisons.{most_comparisons};
+ghost use Rattle.route_lines.specs.Calls.{after_cut, after_extend, after_join, after_swap};
+ghost use Rattle.route_lines.specs.Calls.{extended, joined, parted, swapped};
 ghost use Rattle.route_lines.specs.Searches.{CountsWithin, living_count};
 ghost use Rattle.route_book.specs.Book.{KeepsItems};
 

@@ -1,6 +1,6 @@
 //! Stops and their routes.
 ghost use Rattle.std.specs.Prelude.{◌≡◌, IfErr};
-ghost use Rattle.counted_search.specs.Searches.{most_comparisons};
+ghost use Rattle.rank_tree.specs.Comparisons.{most_comparisons};
 ghost use Rattle.triple_arena_chain.specs.Links.{IsChained};
 ghost use Rattle.route_lines.specs.Calls.{started, after_start};
 ghost use Rattle.route_lines.specs.Searches.{CountsWithin, living_count};

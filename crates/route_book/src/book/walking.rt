@@ -1,7 +1,7 @@
 //! A walk along a route.
 ghost use Rattle.std.specs.Prelude.{◌≡◌};
 ghost use Rattle.std.specs.Iterator.{YieldsFirstBy, item_count};
-ghost use Rattle.counted_search.specs.Searches.{most_comparisons};
+ghost use Rattle.rank_tree.specs.Comparisons.{most_comparisons};
 ghost use Rattle.route_lines.specs.Calls.{walked};
 ghost use Rattle.route_lines.specs.Searches.{CountsWithin, living_count};
 

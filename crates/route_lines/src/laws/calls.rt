@@ -1,6 +1,9 @@
 //! What holds of every call that may be refused, and of every call that gives a ticket.
 ghost use Rattle.std.specs.Prelude.{◌≡◌, ◌+◌, ℕ, List, Ok, Err};
-ghost use Rattle.route_lines.specs.Calls.{after_cut, after_extend, after_join, after_mark, after_place, after_removed, after_start, after_swap, after_word, extended, joined, marked, parted, placed, removed, started, swapped, worded};
+ghost use Rattle.route_lines.specs.Calls.{after_cut, after_extend, after_join, after_mark};
+ghost use Rattle.route_lines.specs.Calls.{after_place, after_removed, after_start, after_swap};
+ghost use Rattle.route_lines.specs.Calls.{after_word, extended, joined, marked, parted, placed};
+ghost use Rattle.route_lines.specs.Calls.{removed, started, swapped, worded};
 ghost use Rattle.route_lines.specs.State.{State};
 ghost use Rattle.route_lines.specs.declared.refusal.Refusal.{Refusal};
 

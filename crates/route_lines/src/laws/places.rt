@@ -1,7 +1,8 @@
 //! What holds of a hint at a line that puts a place in, and of a look for a key.
 ghost use Rattle.std.specs.Prelude.{◌≡◌, ◌≢◌, ◌≤◌, ℕ, List, Some, None, Ok, Err};
 ghost use Rattle.std.specs.List.{AllByRecursion};
-ghost use Rattle.route_lines.specs.Calls.{after_place, after_place_near, found, place_holder, placed, placed_near};
+ghost use Rattle.route_lines.specs.Calls.{after_place, after_place_near, found, place_holder};
+ghost use Rattle.route_lines.specs.Calls.{placed, placed_near};
 ghost use Rattle.route_lines.specs.Sound.{IsSound};
 ghost use Rattle.route_lines.specs.State.{Place, State};
 ghost use Rattle.route_lines.specs.declared.refusal.Refusal.{Refusal};

@@ -1,10 +1,13 @@
 //! What holds of removals.
-ghost use Rattle.std.specs.Prelude.{◌≡◌, ◌≢◌, ◌==◌, ◌+◌, ℕ, List, None, Ok, Err, if◌then◌else◌, length};
+ghost use Rattle.std.specs.Prelude.{◌≡◌, ◌≢◌, ◌==◌, ◌+◌, ℕ, List, None, Ok, Err, if◌then◌else◌};
+ghost use Rattle.std.specs.Prelude.{length};
 ghost use Rattle.std.specs.Option.{option_map};
-ghost use Rattle.route_lines.specs.Calls.{after_removed, clear_mark, clear_mark_stop, clear_stop, removed};
+ghost use Rattle.route_lines.specs.Calls.{after_removed, clear_mark, clear_mark_stop, clear_stop};
+ghost use Rattle.route_lines.specs.Calls.{removed};
 ghost use Rattle.route_lines.specs.Routes.{next_stop, past};
 ghost use Rattle.route_lines.specs.Sound.{IsSound};
-ghost use Rattle.route_lines.specs.State.{Mark, Place, State, Stop, holder, mark, mark_of, place, place_of, stop, stop_list, stop_of};
+ghost use Rattle.route_lines.specs.State.{Mark, Place, State, Stop, holder, mark, mark_of, place};
+ghost use Rattle.route_lines.specs.State.{place_of, stop, stop_list, stop_of};
 ghost use Rattle.route_lines.specs.Text.{Line, after_lines};
 ghost use Rattle.route_lines.specs.declared.refusal.Refusal.TheVariants.{Gone};
 

@@ -1,11 +1,13 @@
 //! What holds of replies.
-ghost use Rattle.std.specs.Prelude.{◌≡◌, ◌≤◌, List, Option, [], true, codes, filter, flat_map, length, not};
+ghost use Rattle.std.specs.Prelude.{◌≡◌, ◌≤◌, List, Option, [], true, codes, filter, flat_map};
+ghost use Rattle.std.specs.Prelude.{length, not};
 ghost use Rattle.std.specs.List.{AllByRecursion};
 ghost use Rattle.route_lines.specs.declared.command.Command.{Command};
 ghost use Rattle.route_lines.specs.Reply.{ended, reply};
 ghost use Rattle.route_lines.specs.Sound.{IsNumbered, IsSound};
 ghost use Rattle.route_lines.specs.State.{State};
-ghost use Rattle.route_lines.specs.Text.{Line, after_lines, answered, is_pack, replies, rest_of, whole_lines};
+ghost use Rattle.route_lines.specs.Text.{Line, after_lines, answered, is_pack, replies, rest_of};
+ghost use Rattle.route_lines.specs.Text.{whole_lines};
 
 /// Every line of a reply ends with an LF and has at most 58 bytes before it. The longest is a
 /// ticket, a key and a word.

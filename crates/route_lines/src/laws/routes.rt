@@ -1,7 +1,9 @@
 //! What holds of joins, cuts and swaps of routes.
-ghost use Rattle.std.specs.Prelude.{◌≡◌, ◌≢◌, ◌↔◌, ◌+◌, ◌∷◌, ◌++◌, ℕ, List, Some, None, IfSome, Ok, false, length, reverse};
+ghost use Rattle.std.specs.Prelude.{◌≡◌, ◌≢◌, ◌↔◌, ◌+◌, ◌∷◌, ◌++◌, ℕ, List, Some, None, IfSome, Ok};
+ghost use Rattle.std.specs.Prelude.{false, length, reverse};
 ghost use Rattle.std.specs.List.{AllByRecursion};
-ghost use Rattle.route_lines.specs.Calls.{after_cut, after_extend, after_join, after_start, after_swap, extended, joined, parted, started, swapped};
+ghost use Rattle.route_lines.specs.Calls.{after_cut, after_extend, after_join, after_start};
+ghost use Rattle.route_lines.specs.Calls.{after_swap, extended, joined, parted, started, swapped};
 ghost use Rattle.route_lines.specs.Cuts.{first_item};
 ghost use Rattle.route_lines.specs.Leads.{Leads, closes_at};
 ghost use Rattle.route_lines.specs.Routes.{has_ticket, next_stop, previous_stop, walk_from};

@@ -2,11 +2,17 @@
 ghost use Rattle.std.specs.Prelude.{◌≡◌, true, [], Some, None, IsSome, refl};
 ghost use Rattle.triple_arena_ptr.specs.Generation.{second_generation};
 ghost use Rattle.triple_arena.specs.ArenaRoom.{room_of};
-ghost use Rattle.triple_arena.specs.Content.{some_counter, entry_at as entry_of_index, live_count as live_count_of, empty as empty_of, reallocated as reallocated_of, removed as removed_of, invalidated as invalidated_of, cleared as cleared_of, with_value as with_value_of, IsWellFormed};
-ghost use Rattle.triple_arena.specs.ContentLaws.{entry-with_value, live-with_value, some_counter-with_value, room-with_value};
+ghost use Rattle.triple_arena.specs.Content.{some_counter, entry_at as entry_of_index};
+ghost use Rattle.triple_arena.specs.Content.{live_count as live_count_of, empty as empty_of};
+ghost use Rattle.triple_arena.specs.Content.{reallocated as reallocated_of, removed as removed_of};
+ghost use Rattle.triple_arena.specs.Content.{invalidated as invalidated_of, cleared as cleared_of};
+ghost use Rattle.triple_arena.specs.Content.{with_value as with_value_of, IsWellFormed};
+ghost use Rattle.triple_arena.specs.ContentLaws.{entry-with_value, live-with_value};
+ghost use Rattle.triple_arena.specs.ContentLaws.{some_counter-with_value, room-with_value};
 ghost use Rattle.triple_arena.specs.Drains.{drained as drained_of};
 ghost use Rattle.triple_arena.specs.DrainLaws.{drained-leaves};
-ghost use Rattle.triple_arena.specs.LiveEntries.{live_entries as live_entries_of, entry-listed, live_entries-increase, live_entries-length};
+ghost use Rattle.triple_arena.specs.LiveEntries.{live_entries as live_entries_of, entry-listed};
+ghost use Rattle.triple_arena.specs.LiveEntries.{live_entries-increase, live_entries-length};
 ghost use Rattle.triple_arena.specs.Compression.{renewed, compacted};
 
 use crate::advancer::{LivePointers, PtrAdvancer};

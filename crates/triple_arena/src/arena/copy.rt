@@ -1,12 +1,16 @@
 //! An arena as a copy of another one.
-ghost use Rattle.std.specs.Prelude.{◌≡◌, ◌<◌, ◌≤◌, ◌↔◌, ◌⊎◌, Some, IsTrue, IsOk, IsErr, IfOk, OnOk, IsErrOf, length, is_some, count_by, map as list_map};
+ghost use Rattle.std.specs.Prelude.{◌≡◌, ◌<◌, ◌≤◌, ◌↔◌, ◌⊎◌, Some, IsTrue, IsOk, IsErr, IfOk, OnOk};
+ghost use Rattle.std.specs.Prelude.{IsErrOf, length, is_some, count_by, map as list_map};
 ghost use Rattle.std.specs.Int.NonZero.{non_zero_usize_get};
 ghost use Rattle.std.specs.Option.{option_map};
 ghost use Rattle.triple_arena_ptr.specs.Generation.{second_generation};
 ghost use Rattle.triple_arena_stack.specs.Room.{capacity, IsBeyond};
 ghost use Rattle.triple_arena.specs.ArenaRoom.{room_of};
-ghost use Rattle.triple_arena.specs.Content.{entry_at, live_count, some_counter, empty, arena_capacity, reallocated, cleared, vacant_from, IsWellFormed};
-ghost use Rattle.triple_arena.specs.Copy.{last_listed, copied as copied_of, MayRefuse, IsMappedCopy, IsRefusedCopy, IsUnmadeCopy};
+ghost use Rattle.triple_arena.specs.Content.{entry_at, live_count, some_counter, empty};
+ghost use Rattle.triple_arena.specs.Content.{arena_capacity, reallocated, cleared, vacant_from};
+ghost use Rattle.triple_arena.specs.Content.{IsWellFormed};
+ghost use Rattle.triple_arena.specs.Copy.{last_listed, copied as copied_of, MayRefuse};
+ghost use Rattle.triple_arena.specs.Copy.{IsMappedCopy, IsRefusedCopy, IsUnmadeCopy};
 ghost use Rattle.triple_arena.specs.Layout.{IsFreeList};
 ghost use Rattle.triple_arena.specs.LiveEntries.{listed_from, live_entries};
 ghost use Rattle.triple_arena.specs.Slot.{entry_of};

@@ -4,7 +4,9 @@ ghost use Rattle.std.specs.Borrow.{sem, RestsIfErr};
 ghost use Rattle.triple_arena_stack.specs.Push.{IsRefusal};
 ghost use Rattle.triple_arena.specs.Changes.{IsInserted};
 ghost use Rattle.triple_arena.specs.InsertEntry.{entry_arena, entry_lender};
-ghost use Rattle.triple_arena.specs.Content.{Content, entry_at, some_counter, live_count, arena_capacity, next_index, inserted, grown_if_full, IsWellFormed};
+ghost use Rattle.triple_arena.specs.Content.{Content, entry_at, some_counter, live_count};
+ghost use Rattle.triple_arena.specs.Content.{arena_capacity, next_index, inserted, grown_if_full};
+ghost use Rattle.triple_arena.specs.Content.{IsWellFormed};
 
 use crate::{Arena, ArenaSlots};
 use triple_arena_ptr::{NotWithinCapacityError, PtrCore, ReallocationError};

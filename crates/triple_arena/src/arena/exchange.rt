@@ -2,7 +2,8 @@
 ghost use Rattle.std.specs.Prelude.{◌≡◌, ◌≢◌, IsSome};
 ghost use Rattle.std.specs.Int.NonZero.{non_zero_usize_get};
 ghost use Rattle.triple_arena.specs.Changes.{IsExchanged};
-ghost use Rattle.triple_arena.specs.Content.{entry_at, some_counter, live_count, with_exchange, IsWellFormed};
+ghost use Rattle.triple_arena.specs.Content.{entry_at, some_counter, live_count, with_exchange};
+ghost use Rattle.triple_arena.specs.Content.{IsWellFormed};
 
 use crate::arena::Arena;
 use crate::slot::exchange_values;

@@ -1,11 +1,13 @@
 //! The free slots: the list of them, its order, and those at the end.
-ghost use Rattle.std.specs.Prelude.{◌≡◌, ◌≤◌, ℕ, Some, IsSome, IsTrue, IsFalse, length, map as list_map, slice_get, ⊤};
+ghost use Rattle.std.specs.Prelude.{◌≡◌, ◌≤◌, ℕ, Some, IsSome, IsTrue, IsFalse, length};
+ghost use Rattle.std.specs.Prelude.{map as list_map, slice_get, ⊤};
 ghost use Rattle.std.specs.Int.NonZero.{non_zero_usize_get};
 ghost use Rattle.std.specs.Option.{option_map};
 ghost use Rattle.triple_arena.specs.FreeLinks.{with_prev_at, with_next_at};
 ghost use Rattle.triple_arena.specs.Slot.{entry_of};
 ghost use Rattle.triple_arena.specs.Layout.{links_at, head_after, without_last, IsFreeList};
-ghost use Rattle.triple_arena.specs.Content.{without_free_end, vacant_from, canonicalized, last_index, IsVacant, IsWellFormed};
+ghost use Rattle.triple_arena.specs.Content.{without_free_end, vacant_from, canonicalized};
+ghost use Rattle.triple_arena.specs.Content.{last_index, IsVacant, IsWellFormed};
 
 use crate::ArenaSlots;
 use crate::arena::Arena;

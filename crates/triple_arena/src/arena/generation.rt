@@ -3,7 +3,8 @@ ghost use Rattle.std.specs.Prelude.{◌≡◌};
 ghost use Rattle.triple_arena_ptr.specs.Generation.{next_wraps};
 ghost use Rattle.triple_arena_ptr.specs.InvalidationOption.{overflowed};
 ghost use Rattle.triple_arena.specs.Changes.{IsStepped};
-ghost use Rattle.triple_arena.specs.Content.{entry_at, live_count, some_counter, with_counter, stepped, IsWellFormed};
+ghost use Rattle.triple_arena.specs.Content.{entry_at, live_count, some_counter, with_counter};
+ghost use Rattle.triple_arena.specs.Content.{stepped, IsWellFormed};
 
 use crate::ArenaSlots;
 use crate::answers::answer;

@@ -38,6 +38,9 @@ impl<P: PtrCore, T: Drop, S: ArenaSlots<P, T>> IndexMut<P> for Arena<P, T, S> {
             (with_value_of self.old (P.index p))) }
         ensures value { get self.old (P.index p) (P.generation p) ≡ Some result.now }
     {
+        if !self.contains(p) {
+            unreached!();
+        }
         self.get_inx_mut_unwrap(p.inx())
     }
 }

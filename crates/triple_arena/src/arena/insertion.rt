@@ -1,7 +1,9 @@
 //! Insertion at an index that the arena chooses.
 ghost use Rattle.std.specs.Prelude.{◌≡◌, ◌<◌, refl};
 ghost use Rattle.triple_arena.specs.Changes.{IsInserted};
-ghost use Rattle.triple_arena.specs.Content.{entry_at, some_counter, live_count, arena_capacity, next_index as next_of, inserted as inserted_of, grown_if_full as grown_of, IsWellFormed};
+ghost use Rattle.triple_arena.specs.Content.{entry_at, some_counter, live_count, arena_capacity};
+ghost use Rattle.triple_arena.specs.Content.{next_index as next_of, inserted as inserted_of};
+ghost use Rattle.triple_arena.specs.Content.{grown_if_full as grown_of, IsWellFormed};
 ghost use Rattle.triple_arena.specs.ContentLaws.{next-with_value};
 
 use crate::arena::free_slots::set_prev_at;

@@ -2,7 +2,8 @@
 ghost use Rattle.std.specs.Prelude.{◌≡◌, ◌≤◌, length, min};
 ghost use Rattle.triple_arena_ptr.specs.Index.{max_index_of};
 ghost use Rattle.triple_arena_stack.specs.Room.{limited};
-ghost use Rattle.triple_arena.specs.Content.{last_index as last_index_of, in_room, with_limit as with_limit_of};
+ghost use Rattle.triple_arena.specs.Content.{last_index as last_index_of, in_room};
+ghost use Rattle.triple_arena.specs.Content.{with_limit as with_limit_of};
 
 use crate::ArenaSlot;
 use crate::advancer::LivePointers;

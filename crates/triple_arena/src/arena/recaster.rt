@@ -1,12 +1,15 @@
 //! A compression with a map from the old pointers to the new ones.
-ghost use Rattle.std.specs.Prelude.{◌≡◌, ◌≤◌, ◌↔◌, ℕ, [], Some, IsOk, IfOk, OnOk, OnErr, IsErrOf, IsTrue, length, map as list_map, slice_get};
+ghost use Rattle.std.specs.Prelude.{◌≡◌, ◌≤◌, ◌↔◌, ℕ, [], Some, IsOk, IfOk, OnOk, OnErr, IsErrOf};
+ghost use Rattle.std.specs.Prelude.{IsTrue, length, map as list_map, slice_get};
 ghost use Rattle.triple_arena_stack.specs.Room.{capacity, IsBeyond};
 ghost use Rattle.triple_arena.specs.ArenaRoom.{room_of};
 ghost use Rattle.triple_arena.specs.Changes.{IsCompressed};
 ghost use Rattle.triple_arena.specs.Compression.{renewed, compacted, index_of, live_values};
-ghost use Rattle.triple_arena.specs.Content.{entry_at, live_count, some_counter, last_index, IsWellFormed};
+ghost use Rattle.triple_arena.specs.Content.{entry_at, live_count, some_counter, last_index};
+ghost use Rattle.triple_arena.specs.Content.{IsWellFormed};
 ghost use Rattle.triple_arena.specs.Copy.{last_listed, directly_copied};
-ghost use Rattle.triple_arena.specs.DirectContent.{live_entries as entries_of, empty, arena_capacity, IsWellFormed as IsFormed};
+ghost use Rattle.triple_arena.specs.DirectContent.{live_entries as entries_of, empty};
+ghost use Rattle.triple_arena.specs.DirectContent.{arena_capacity, IsWellFormed as IsFormed};
 ghost use Rattle.triple_arena.specs.LiveEntries.{listed_from, live_entries};
 ghost use Rattle.triple_arena.specs.Recaster.{IsRecaster};
 ghost use Rattle.triple_arena.specs.Slot.{entry_of};

@@ -3,7 +3,8 @@ ghost use Rattle.std.specs.Prelude.{◌≡◌, Some, None, IsSome};
 ghost use Rattle.std.specs.Int.NonZero.{non_zero_usize_get};
 ghost use Rattle.triple_arena_ptr.specs.Generation.{next_wraps};
 ghost use Rattle.triple_arena.specs.Changes.{IsRemoved};
-ghost use Rattle.triple_arena.specs.Content.{entry_at, some_counter, live_count, with_generation, vacated, removed, emptied, IsWellFormed};
+ghost use Rattle.triple_arena.specs.Content.{entry_at, some_counter, live_count, with_generation};
+ghost use Rattle.triple_arena.specs.Content.{vacated, removed, emptied, IsWellFormed};
 
 use crate::arena::free_slots::set_prev_at;
 use crate::arena::{Arena, pointer_at};

@@ -1,9 +1,11 @@
 //! The room of an arena, and its growth.
-ghost use Rattle.std.specs.Prelude.{◌≡◌, ◌^◌, ◌<◌, ◌≤◌, ◌↔◌, Some, None, IsOk, OnOk, OnErr, IsErrOf, IsTrue};
+ghost use Rattle.std.specs.Prelude.{◌≡◌, ◌^◌, ◌<◌, ◌≤◌, ◌↔◌, Some, None, IsOk, OnOk, OnErr};
+ghost use Rattle.std.specs.Prelude.{IsErrOf, IsTrue};
 ghost use Rattle.triple_arena_ptr.specs.Index.{max_index_of};
 ghost use Rattle.triple_arena_stack.specs.Push.{IsRefusal};
 ghost use Rattle.triple_arena_stack.specs.Room.{grown, IsBeyond};
-ghost use Rattle.triple_arena.specs.Content.{live_count, arena_capacity, reallocated, grown_if_full, in_room, IsWellFormed};
+ghost use Rattle.triple_arena.specs.Content.{live_count, arena_capacity, reallocated};
+ghost use Rattle.triple_arena.specs.Content.{grown_if_full, in_room, IsWellFormed};
 
 use crate::arena::Arena;
 use crate::stack_room::{capacity_over, limit_over, reallocate_over};

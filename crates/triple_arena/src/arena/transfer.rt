@@ -1,10 +1,12 @@
 //! The entries of an arena moved to another, and those of another moved here.
 ghost use Rattle.std.specs.Prelude.{◌≡◌, ◌≤◌, map as list_map};
 ghost use Rattle.triple_arena.specs.Compression.{compacted, value_of};
-ghost use Rattle.triple_arena.specs.Content.{entry_at, live_count, some_counter, arena_capacity, IsWellFormed};
+ghost use Rattle.triple_arena.specs.Content.{entry_at, live_count, some_counter, arena_capacity};
+ghost use Rattle.triple_arena.specs.Content.{IsWellFormed};
 ghost use Rattle.triple_arena.specs.Drains.{drained};
 ghost use Rattle.triple_arena.specs.LiveEntries.{live_entries};
-ghost use Rattle.triple_arena.specs.Transfer.{filled as filled_of, IsTransferred, IsFilled, IsGivenUp};
+ghost use Rattle.triple_arena.specs.Transfer.{filled as filled_of, IsTransferred, IsFilled};
+ghost use Rattle.triple_arena.specs.Transfer.{IsGivenUp};
 
 use crate::arena::Arena;
 use crate::optional_inx::OptionalInx;

@@ -1,10 +1,22 @@
 //! The calls of a `DirectArena` that every arena has.
 ghost use Rattle.std.specs.Prelude.{◌≡◌, false, [], Some, None, IsSome, refl};
 ghost use Rattle.triple_arena.specs.ArenaRoom.{room_of};
-ghost use Rattle.triple_arena.specs.DirectContent.{as_content, no_counter, entry_at as entry_of_index, live_count as live_count_of, live_entries as live_entries_of, empty as empty_of, reallocated as reallocated_of, removed as removed_of, invalidated as invalidated_of, cleared as cleared_of, compressed as compressed_of, with_value as with_value_of, IsWellFormed as IsFormed};
+ghost use Rattle.triple_arena.specs.DirectContent.{as_content, no_counter};
+ghost use Rattle.triple_arena.specs.DirectContent.{entry_at as entry_of_index};
+ghost use Rattle.triple_arena.specs.DirectContent.{live_count as live_count_of};
+ghost use Rattle.triple_arena.specs.DirectContent.{live_entries as live_entries_of};
+ghost use Rattle.triple_arena.specs.DirectContent.{empty as empty_of};
+ghost use Rattle.triple_arena.specs.DirectContent.{reallocated as reallocated_of};
+ghost use Rattle.triple_arena.specs.DirectContent.{removed as removed_of};
+ghost use Rattle.triple_arena.specs.DirectContent.{invalidated as invalidated_of};
+ghost use Rattle.triple_arena.specs.DirectContent.{cleared as cleared_of};
+ghost use Rattle.triple_arena.specs.DirectContent.{compressed as compressed_of};
+ghost use Rattle.triple_arena.specs.DirectContent.{with_value as with_value_of};
+ghost use Rattle.triple_arena.specs.DirectContent.{IsWellFormed as IsFormed};
 ghost use Rattle.triple_arena.specs.DirectLaws.{entry-with_value, live-with_value, room-with_value};
 ghost use Rattle.triple_arena.specs.DrainLaws.{directly_drained-leaves};
-ghost use Rattle.triple_arena.specs.LiveEntries.{entry-listed, live_entries-increase, live_entries-length};
+ghost use Rattle.triple_arena.specs.LiveEntries.{entry-listed, live_entries-increase};
+ghost use Rattle.triple_arena.specs.LiveEntries.{live_entries-length};
 
 use crate::advancer::{LivePointers, PtrAdvancer};
 use crate::answers::{answer, valid};

@@ -1,9 +1,13 @@
 //! A direct arena as a copy of another one.
-ghost use Rattle.std.specs.Prelude.{◌≡◌, ◌<◌, ◌≤◌, ◌↔◌, ◌⊎◌, IsTrue, IsOk, IsErr, IfOk, OnOk, IsErrOf, length, map as list_map};
+ghost use Rattle.std.specs.Prelude.{◌≡◌, ◌<◌, ◌≤◌, ◌↔◌, ◌⊎◌, IsTrue, IsOk, IsErr, IfOk, OnOk};
+ghost use Rattle.std.specs.Prelude.{IsErrOf, length, map as list_map};
 ghost use Rattle.triple_arena_stack.specs.Room.{capacity, IsBeyond};
 ghost use Rattle.triple_arena.specs.ArenaRoom.{room_of};
-ghost use Rattle.triple_arena.specs.Copy.{last_listed, directly_copied, MayRefuse, IsMappedCopy, IsRefusedCopy, IsUnmadeCopy};
-ghost use Rattle.triple_arena.specs.DirectContent.{entry_at, live_count, live_entries, no_counter, empty, arena_capacity, reallocated, cleared, IsWellFormed};
+ghost use Rattle.triple_arena.specs.Copy.{last_listed, directly_copied, MayRefuse, IsMappedCopy};
+ghost use Rattle.triple_arena.specs.Copy.{IsRefusedCopy, IsUnmadeCopy};
+ghost use Rattle.triple_arena.specs.DirectContent.{entry_at, live_count, live_entries, no_counter};
+ghost use Rattle.triple_arena.specs.DirectContent.{empty, arena_capacity, reallocated, cleared};
+ghost use Rattle.triple_arena.specs.DirectContent.{IsWellFormed};
 ghost use Rattle.triple_arena.specs.LiveEntries.{listed_from};
 
 use crate::copy::{append_copies, up_to_last};

@@ -2,7 +2,8 @@
 ghost use Rattle.triple_arena.specs.Changes.{IsDirectlyInserted};
 ghost use Rattle.std.specs.Prelude.{◌≡◌, refl};
 ghost use Rattle.triple_arena.specs.DirectEntry.{entry_arena, entry_index, entry_generation};
-ghost use Rattle.triple_arena.specs.DirectContent.{entry_at, live_count, no_counter, inserted, IsPlace, IsWellFormed};
+ghost use Rattle.triple_arena.specs.DirectContent.{entry_at, live_count, no_counter, inserted};
+ghost use Rattle.triple_arena.specs.DirectContent.{IsPlace, IsWellFormed};
 
 use crate::direct::DirectArena;
 use crate::{ArenaDirectInsertEntryTrait, ArenaDirectInsertTrait, DirectSlots};

@@ -2,7 +2,8 @@
 ghost use Rattle.std.specs.Prelude.{◌≡◌, ◌≢◌, IsSome};
 ghost use Rattle.std.specs.Int.NonZero.{non_zero_usize_get};
 ghost use Rattle.triple_arena.specs.Changes.{IsExchanged};
-ghost use Rattle.triple_arena.specs.DirectContent.{entry_at, no_counter, live_count, with_exchange, IsWellFormed};
+ghost use Rattle.triple_arena.specs.DirectContent.{entry_at, no_counter, live_count, with_exchange};
+ghost use Rattle.triple_arena.specs.DirectContent.{IsWellFormed};
 
 use crate::direct::DirectArena;
 use crate::slot::exchange_values;

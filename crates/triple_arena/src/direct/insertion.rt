@@ -2,7 +2,9 @@
 ghost use Rattle.std.specs.Prelude.{◌≡◌, ◌<◌, ◌≤◌, ◌↔◌, IsOk, IfOk, IsErrOf, IsSome, ⊤};
 ghost use Rattle.std.specs.Int.NonZero.{non_zero_usize_get};
 ghost use Rattle.triple_arena.specs.Changes.{IsDirectlyInserted};
-ghost use Rattle.triple_arena.specs.DirectContent.{entry_at, live_count, no_counter, arena_capacity, reaching, inserted, IsPlace, IsWellFormed};
+ghost use Rattle.triple_arena.specs.DirectContent.{entry_at, live_count, no_counter};
+ghost use Rattle.triple_arena.specs.DirectContent.{arena_capacity, reaching, inserted, IsPlace};
+ghost use Rattle.triple_arena.specs.DirectContent.{IsWellFormed};
 ghost use Rattle.triple_arena_stack.specs.Room.{capacity};
 
 use crate::direct::DirectArena;

@@ -2,7 +2,9 @@
 ghost use Rattle.std.specs.Prelude.{◌≡◌, ◌≤◌, length, min};
 ghost use Rattle.triple_arena_ptr.specs.Index.{max_index_of};
 ghost use Rattle.triple_arena_stack.specs.Room.{limited};
-ghost use Rattle.triple_arena.specs.DirectContent.{last_index as last_index_of, without_free_end, in_room, with_limit as with_limit_of, IsWellFormed};
+ghost use Rattle.triple_arena.specs.DirectContent.{last_index as last_index_of, without_free_end};
+ghost use Rattle.triple_arena.specs.DirectContent.{in_room, with_limit as with_limit_of};
+ghost use Rattle.triple_arena.specs.DirectContent.{IsWellFormed};
 
 use crate::advancer::LivePointers;
 use crate::arena::keep_first;

@@ -1,7 +1,9 @@
 //! The entries of a direct arena moved to another arena, and those of another moved here.
 ghost use Rattle.std.specs.Prelude.{◌≡◌, ◌≤◌, map as list_map};
 ghost use Rattle.triple_arena.specs.Compression.{compacted, value_of};
-ghost use Rattle.triple_arena.specs.DirectContent.{entry_at, live_count, live_entries, no_counter, arena_capacity, as_content, of_content, cleared, filled as filled_of, IsWellFormed};
+ghost use Rattle.triple_arena.specs.DirectContent.{entry_at, live_count, live_entries, no_counter};
+ghost use Rattle.triple_arena.specs.DirectContent.{arena_capacity, as_content, of_content, cleared};
+ghost use Rattle.triple_arena.specs.DirectContent.{filled as filled_of, IsWellFormed};
 ghost use Rattle.triple_arena.specs.Transfer.{IsTransferred, IsFilled, IsGivenUp};
 
 use crate::direct::DirectArena;

@@ -2,14 +2,18 @@
 ghost use Rattle.std.specs.Prelude.{◌≡◌, true, refl};
 ghost use Rattle.triple_arena_ptr.specs.Generation.{second_generation};
 ghost use Rattle.triple_arena.specs.ArenaRoom.{room_of};
-ghost use Rattle.triple_arena.specs.Content.{some_counter, live_count as live_count_of, empty as empty_of, reallocated as reallocated_of, invalidated as invalidated_of, cleared as cleared_of};
+ghost use Rattle.triple_arena.specs.Content.{some_counter, live_count as live_count_of};
+ghost use Rattle.triple_arena.specs.Content.{empty as empty_of, reallocated as reallocated_of};
+ghost use Rattle.triple_arena.specs.Content.{invalidated as invalidated_of, cleared as cleared_of};
 ghost use Rattle.triple_arena.specs.Drains.{drained as drained_of};
 ghost use Rattle.triple_arena_chain.specs.EmptiedLaws.{drained-leaves};
 ghost use Rattle.triple_arena_chain.specs.Links.{values_in, with_value_in, link_removed, IsChained};
-ghost use Rattle.triple_arena_chain.specs.LinkLaws.{values-with_value_in, live-with_value_in, counter-with_value_in, room-with_value_in};
+ghost use Rattle.triple_arena_chain.specs.LinkLaws.{values-with_value_in, live-with_value_in};
+ghost use Rattle.triple_arena_chain.specs.LinkLaws.{counter-with_value_in, room-with_value_in};
 ghost use Rattle.triple_arena_chain.specs.Listed.{listed_values};
 ghost use Rattle.triple_arena_chain.specs.Renaming.{IsCompacted};
-ghost use Rattle.triple_arena_chain.specs.ListedLaws.{value-listed, listed_values-increase, listed_values-length};
+ghost use Rattle.triple_arena_chain.specs.ListedLaws.{value-listed, listed_values-increase};
+ghost use Rattle.triple_arena_chain.specs.ListedLaws.{listed_values-length};
 ghost use Rattle.triple_arena_chain.specs.Values.{room_in};
 
 use crate::chain_arena::compression::compress_links;

@@ -1,5 +1,6 @@
 //! The canonical layout: the links of each chain at successive indexes.
-ghost use Rattle.std.specs.Prelude.{◌≡◌, ◌↔◌, IsTrue, ◌+◌, ◌<◌, ◌≤◌, ℕ, Some, None, IsSome, IfSome, [], length};
+ghost use Rattle.std.specs.Prelude.{◌≡◌, ◌↔◌, IsTrue, ◌+◌, ◌<◌, ◌≤◌, ℕ, Some, None, IsSome, IfSome};
+ghost use Rattle.std.specs.Prelude.{[], length};
 ghost use Rattle.std.specs.Option.{option_map};
 ghost use Rattle.triple_arena_ptr.specs.Index.{max_index_of};
 ghost use Rattle.triple_arena_ptr.specs.InvalidationOption.{overflowed};
@@ -8,8 +9,10 @@ ghost use Rattle.triple_arena.specs.Content.{entry_at, live_count, IsWellFormed}
 ghost use Rattle.triple_arena_chain.specs.Chains.{prev_at, next_at, On, IsAgreed};
 ghost use Rattle.triple_arena_chain.specs.Links.{ends_in, values_in, IsKept, IsChained};
 ghost use Rattle.triple_arena_chain.specs.Lists.{Chain, members, IsChainOf};
-ghost use Rattle.triple_arena_chain.specs.CanonicalLayout.{IsAlike, IsHead, IsAllGathered, IsCanonical};
-ghost use Rattle.triple_arena_chain.specs.Notes.{up_to, before_past, IsLed, IsLedOn, IsBrought, IsGathering, IsRejoinable, StartsAt, GathersUpTo};
+ghost use Rattle.triple_arena_chain.specs.CanonicalLayout.{IsAlike, IsHead, IsAllGathered};
+ghost use Rattle.triple_arena_chain.specs.CanonicalLayout.{IsCanonical};
+ghost use Rattle.triple_arena_chain.specs.Notes.{up_to, before_past, IsLed, IsLedOn, IsBrought};
+ghost use Rattle.triple_arena_chain.specs.Notes.{IsGathering, IsRejoinable, StartsAt, GathersUpTo};
 
 use crate::chain_arena::interlinks::{set_next, set_prev};
 use crate::{ChainArena, ChainSlots, LinkNoGen};

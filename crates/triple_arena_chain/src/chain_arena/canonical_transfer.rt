@@ -1,6 +1,7 @@
 //! The canonical transfer: the links of a chain arena moved to another, each chain to successive
 //! indexes.
-ghost use Rattle.std.specs.Prelude.{◌≡◌, ◌≢◌, ◌↔◌, IsTrue, ◌+◌, ◌<◌, ◌≤◌, ℕ, Some, None, IsSome, IfSome, IfNone, ◌⊎◌, IsOk, OnOk, OnErr, IsErrOf, [], length};
+ghost use Rattle.std.specs.Prelude.{◌≡◌, ◌≢◌, ◌↔◌, IsTrue, ◌+◌, ◌<◌, ◌≤◌, ℕ, Some, None, IsSome};
+ghost use Rattle.std.specs.Prelude.{IfSome, IfNone, ◌⊎◌, IsOk, OnOk, OnErr, IsErrOf, [], length};
 ghost use Rattle.std.specs.Fn.{iterate};
 ghost use Rattle.std.specs.Option.{option_map};
 ghost use Rattle.triple_arena_ptr.specs.Generation.{next_generation, next_wraps};
@@ -9,7 +10,8 @@ ghost use Rattle.triple_arena_ptr.specs.InvalidationOption.{value_of, overflowed
 ghost use Rattle.triple_arena_stack.specs.Room.{IsBeyond};
 ghost use Rattle.triple_arena.specs.ArenaRoom.{room_with};
 ghost use Rattle.triple_arena.specs.Changes.{IsRemoved};
-ghost use Rattle.triple_arena.specs.Content.{entry_at, live_count, some_counter, arena_capacity, inserted, IsWellFormed};
+ghost use Rattle.triple_arena.specs.Content.{entry_at, live_count, some_counter, arena_capacity};
+ghost use Rattle.triple_arena.specs.Content.{inserted, IsWellFormed};
 ghost use Rattle.triple_arena.specs.Drains.{drained};
 ghost use Rattle.triple_arena.specs.Transfer.{IsFilled};
 ghost use Rattle.triple_arena_chain.specs.CanonicalTransfer.{IsMovedInOrder};

@@ -3,8 +3,10 @@ ghost use Rattle.std.specs.Prelude.{◌≡◌, ℕ, ◌<◌, ◌≤◌, ◌↔�
 ghost use Rattle.triple_arena_ptr.specs.Generation.{second_generation};
 ghost use Rattle.triple_arena_stack.specs.Room.{capacity as capacity_of, IsBeyond};
 ghost use Rattle.triple_arena.specs.ArenaRoom.{room_of};
-ghost use Rattle.triple_arena.specs.Content.{entry_at, live_count, some_counter, empty, reallocated, cleared};
-ghost use Rattle.triple_arena.specs.Copy.{last_listed, copied, MayRefuse, NeverRefuses, IsMappedCopy, IsRefusedCopy, IsCopy, IsUnmadeCopy};
+ghost use Rattle.triple_arena.specs.Content.{entry_at, live_count, some_counter, empty};
+ghost use Rattle.triple_arena.specs.Content.{reallocated, cleared};
+ghost use Rattle.triple_arena.specs.Copy.{last_listed, copied, MayRefuse, NeverRefuses};
+ghost use Rattle.triple_arena.specs.Copy.{IsMappedCopy, IsRefusedCopy, IsCopy, IsUnmadeCopy};
 ghost use Rattle.triple_arena.specs.LiveEntries.{live_entries};
 ghost use Rattle.triple_arena_chain.specs.Links.{ends_in, values_in, IsChained};
 ghost use Rattle.triple_arena_chain.specs.Listed.{listed_values};

@@ -1,7 +1,8 @@
 //! What copies of links are made of.
 ghost use Rattle.std.specs.Prelude.{◌≡◌, ◌≤◌, ◌↔◌, ℕ, Option, IsOk, OnOk, IsErrOf};
 ghost use Rattle.triple_arena_stack.specs.Room.{capacity as capacity_of, IsBeyond};
-ghost use Rattle.triple_arena.specs.Copy.{last_listed, NeverRefuses, IsMappedCopy, IsRefusedCopy, IsCopy, IsUnmadeCopy};
+ghost use Rattle.triple_arena.specs.Copy.{last_listed, NeverRefuses, IsMappedCopy, IsRefusedCopy};
+ghost use Rattle.triple_arena.specs.Copy.{IsCopy, IsUnmadeCopy};
 ghost use Rattle.triple_arena_chain.specs.Chains.{Ends, IsAgreed};
 ghost use Rattle.triple_arena_chain.specs.LinkCopies.{listed_ends};
 ghost use Rattle.triple_arena_chain.specs.Links.{prev_next_of};

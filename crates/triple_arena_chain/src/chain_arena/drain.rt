@@ -6,7 +6,10 @@ ghost use Rattle.std.specs.Option.{option_map};
 ghost use Rattle.triple_arena.specs.Content.{get, entry_at, live_count};
 ghost use Rattle.triple_arena_chain.specs.Kinds.{ends_by};
 ghost use Rattle.triple_arena_chain.specs.Links.{IsChained};
-ghost use Rattle.triple_arena_chain.specs.Drains.{next_or_prev, drain_chains, drain_lender, drain_at, IsRestDrained, IsStep, DrainCanStep, DrainLeaves, DrainSteps, DrainKeepsAlong, DrainGoesAlong};
+ghost use Rattle.triple_arena_chain.specs.Drains.{next_or_prev, drain_chains, drain_lender};
+ghost use Rattle.triple_arena_chain.specs.Drains.{drain_at, IsRestDrained, IsStep, DrainCanStep};
+ghost use Rattle.triple_arena_chain.specs.Drains.{DrainLeaves, DrainSteps, DrainKeepsAlong};
+ghost use Rattle.triple_arena_chain.specs.Drains.{DrainGoesAlong};
 
 use crate::{ChainArena, ChainArenaTrait, ChainSlots, LinkNoGen};
 use triple_arena::{InvalidationOption, PtrCore, PtrInxCore};

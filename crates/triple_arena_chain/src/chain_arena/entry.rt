@@ -2,7 +2,8 @@
 ghost use Rattle.std.specs.Prelude.{◌≡◌, ◌<◌, ◌↔◌, None, Some, IsSome, IfOk, IfSome};
 ghost use Rattle.std.specs.Borrow.{sem, RestsIfErr};
 ghost use Rattle.triple_arena.specs.Content.{live_count, arena_capacity, next_index, grown_if_full};
-ghost use Rattle.triple_arena_chain.specs.InsertEntry.{entry_chains, entry_lender, entry_place, IsReady, IsLinkAnswer, IsLinkRefusal};
+ghost use Rattle.triple_arena_chain.specs.InsertEntry.{entry_chains, entry_lender, entry_place};
+ghost use Rattle.triple_arena_chain.specs.InsertEntry.{IsReady, IsLinkAnswer, IsLinkRefusal};
 ghost use Rattle.triple_arena_chain.specs.Links.{place_among, IsChained, IsPlaced};
 
 use crate::place::Place;

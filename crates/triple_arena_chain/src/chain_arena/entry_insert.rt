@@ -2,7 +2,8 @@
 ghost use Rattle.std.specs.Prelude.{◌≡◌, Some, IsSome, IfOk};
 ghost use Rattle.std.specs.Borrow.{sem, RestsIfErr};
 ghost use Rattle.triple_arena.specs.Content.{live_count, grown_if_full};
-ghost use Rattle.triple_arena_chain.specs.InsertEntry.{entry_chains, entry_lender, entry_place, IsReady, IsLinkRefusal};
+ghost use Rattle.triple_arena_chain.specs.InsertEntry.{entry_chains, entry_lender, entry_place};
+ghost use Rattle.triple_arena_chain.specs.InsertEntry.{IsReady, IsLinkRefusal};
 ghost use Rattle.triple_arena_chain.specs.Links.{place_among};
 
 use crate::{ChainArena, ChainArenaInsertEntry, ChainSlots, LinkInsertKind};

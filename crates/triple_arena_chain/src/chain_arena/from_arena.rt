@@ -1,5 +1,6 @@
 //! Arenas of links that become chain arenas.
-ghost use Rattle.std.specs.Prelude.{◌≡◌, ◌↔◌, ℕ, Some, IsTrue, IsOk, IsSome, IfOk, IfErr, IfNone, OnSome};
+ghost use Rattle.std.specs.Prelude.{◌≡◌, ◌↔◌, ℕ, Some, IsTrue, IsOk, IsSome, IfOk, IfErr, IfNone};
+ghost use Rattle.std.specs.Prelude.{OnSome};
 ghost use Rattle.std.specs.Option.{option_map};
 ghost use Rattle.triple_arena_chain.specs.Chains.{IsAgreed, next_at, prev_at};
 ghost use Rattle.triple_arena_chain.specs.Links.{ends_in};

@@ -6,6 +6,7 @@ ghost use Rattle.triple_arena_chain.specs.Links.{values_in};
 use crate::{ChainArena, ChainSlots};
 use std::ops::{Index, IndexMut};
 use triple_arena::{ArenaTrait, PtrCore};
+use unreached::unreached;
 
 impl<P: PtrCore, T: Drop, S: ChainSlots<P, T>> Index<P> for ChainArena<P, T, S> {
     type Output = T;
@@ -18,7 +19,7 @@ impl<P: PtrCore, T: Drop, S: ChainSlots<P, T>> Index<P> for ChainArena<P, T, S> 
     fn index(&self, p: P) -> &T {
         match self.get(p) {
             Some(value) => value,
-            None => unreachable!(),
+            None => unreached!(),
         }
     }
 }
@@ -40,6 +41,9 @@ impl<P: PtrCore, T: Drop, S: ChainSlots<P, T>> IndexMut<P> for ChainArena<P, T, 
         ensures value { value_if (P.generation p) (values_in self.old (P.index p))
             ≡ Some result.now }
     {
+        if !self.contains(p) {
+            unreached!();
+        }
         self.get_inx_mut_unwrap(p.inx())
     }
 }

@@ -1,7 +1,8 @@
 //! Interlinks, written where the links lie.
 ghost use Rattle.std.specs.Prelude.{◌≡◌, IsSome, IfSome};
 ghost use Rattle.triple_arena.specs.Content.{entry_at, IsWellFormed};
-ghost use Rattle.triple_arena_chain.specs.Links.{with_next_of, with_prev_of, joined_to, AreNeighborsLive};
+ghost use Rattle.triple_arena_chain.specs.Links.{with_next_of, with_prev_of, joined_to};
+ghost use Rattle.triple_arena_chain.specs.Links.{AreNeighborsLive};
 
 use crate::place::Place;
 use crate::{ChainSlots, LinkNoGen};

@@ -1,13 +1,16 @@
 //! Copies of links, where the map sees the links of the source and gives the values alone.
-ghost use Rattle.std.specs.Prelude.{◌≡◌, ◌≤◌, ◌↔◌, ◌⊎◌, ◌<◌, ℕ, Ok, Err, List, IsTrue, IsOk, IfOk, IfErr, OnOk, IsErrOf, map as list_map, ⊤};
+ghost use Rattle.std.specs.Prelude.{◌≡◌, ◌≤◌, ◌↔◌, ◌⊎◌, ◌<◌, ℕ, Ok, Err, List, IsTrue, IsOk, IfOk};
+ghost use Rattle.std.specs.Prelude.{IfErr, OnOk, IsErrOf, map as list_map, ⊤};
 ghost use Rattle.std.specs.Option.{option_map};
 ghost use Rattle.triple_arena_ptr.specs.Generation.{next_generation};
 ghost use Rattle.triple_arena_stack.specs.Room.{capacity as capacity_of, IsBeyond};
 ghost use Rattle.triple_arena.specs.ArenaRoom.{room_with};
 ghost use Rattle.triple_arena.specs.Changes.{IsNew};
-ghost use Rattle.triple_arena.specs.Content.{entry_at, live_count, some_counter, arena_capacity, cleared, reallocated, IsWellFormed};
+ghost use Rattle.triple_arena.specs.Content.{entry_at, live_count, some_counter, arena_capacity};
+ghost use Rattle.triple_arena.specs.Content.{cleared, reallocated, IsWellFormed};
 ghost use Rattle.triple_arena.specs.LiveEntries.{live_entries};
-ghost use Rattle.triple_arena.specs.Copy.{last_listed, copied as copied_of, NeverRefuses, IsMappedCopy, IsRefusedCopy};
+ghost use Rattle.triple_arena.specs.Copy.{last_listed, copied as copied_of, NeverRefuses};
+ghost use Rattle.triple_arena.specs.Copy.{IsMappedCopy, IsRefusedCopy};
 ghost use Rattle.triple_arena_chain.specs.LinkCopies.{IsCopyMade, IsLinkedCopy};
 ghost use Rattle.triple_arena_chain.specs.Links.{prev_next_of};
 ghost use Rattle.triple_arena_chain.specs.Listed.{listed_value};

@@ -3,7 +3,8 @@ ghost use Rattle.std.specs.Prelude.{◌≡◌, None, map as list_map, ⊤};
 ghost use Rattle.std.specs.List.{AllZip};
 ghost use Rattle.triple_arena_ptr.specs.InvalidationOption.{overflowed};
 ghost use Rattle.triple_arena.specs.Changes.{IsCompressed};
-ghost use Rattle.triple_arena.specs.Compression.{compression_wraps, generation_of, value_of, IsMapped};
+ghost use Rattle.triple_arena.specs.Compression.{compression_wraps, generation_of, value_of};
+ghost use Rattle.triple_arena.specs.Compression.{IsMapped};
 ghost use Rattle.triple_arena_chain.specs.Listed.{listed_value};
 ghost use Rattle.triple_arena_chain.specs.Renaming.{IsLeftWithNext, IsLeftInPlace};
 

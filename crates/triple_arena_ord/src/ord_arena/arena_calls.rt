@@ -12,11 +12,14 @@ ghost use Rattle.triple_arena_ord.specs.Compressed.{IsCompressedInOrder};
 ghost use Rattle.triple_arena_ord.specs.EmptiedLaws.{drained-leaves};
 ghost use Rattle.triple_arena_ord.specs.Formed.{IsFormed};
 ghost use Rattle.triple_arena_ord.specs.Indexed.{indexed};
-ghost use Rattle.triple_arena_ord.specs.IndexedLaws.{entry-indexed, indexed-increase, indexed-length};
-ghost use Rattle.triple_arena_ord.specs.ItemLaws.{entry-with_item, size-with_item, counter-with_item, room-with_item};
+ghost use Rattle.triple_arena_ord.specs.IndexedLaws.{entry-indexed, indexed-increase};
+ghost use Rattle.triple_arena_ord.specs.IndexedLaws.{indexed-length};
+ghost use Rattle.triple_arena_ord.specs.ItemLaws.{entry-with_item, size-with_item};
+ghost use Rattle.triple_arena_ord.specs.ItemLaws.{counter-with_item, room-with_item};
 ghost use Rattle.triple_arena_ord.specs.Ordered.{entry_in, size_in, counter_in, room_in};
 ghost use Rattle.triple_arena_ord.specs.Removal.{IsEntryRemoved};
-ghost use Rattle.triple_arena_ord.specs.States.{empty_in, reallocated_in, with_item, invalidated_in, cleared_in, drained_in};
+ghost use Rattle.triple_arena_ord.specs.States.{empty_in, reallocated_in, with_item};
+ghost use Rattle.triple_arena_ord.specs.States.{invalidated_in, cleared_in, drained_in};
 
 use crate::ord_arena::compression::ends_of_list;
 use crate::ord_arena::mapping::compact_nodes;

@@ -6,7 +6,7 @@ ghost use Rattle.triple_arena_chain.specs.Chains.{IsLinear, On, first_or, last_o
 ghost use Rattle.triple_arena_chain.specs.Links.{ends_in};
 ghost use Rattle.triple_arena_ord.specs.Compressed.{end_noted};
 
-use crate::ord_arena::remove::neighbors;
+use crate::ord_arena::removal::neighbors;
 use crate::{OrdSlots, SimpleOrdArena, SimpleOrdArenaNode};
 use triple_arena::{Advancer, ArenaTrait, PtrCore, PtrInxCore};
 use triple_arena_chain::ChainArena;

@@ -4,8 +4,10 @@ ghost use Rattle.std.specs.Prelude.{◌≡◌, ℕ, ◌<◌, ◌≤◌, ◌↔�
 ghost use Rattle.triple_arena_ptr.specs.Generation.{second_generation};
 ghost use Rattle.triple_arena_stack.specs.Room.{capacity as capacity_of, IsBeyond};
 ghost use Rattle.triple_arena.specs.ArenaRoom.{room_of};
-ghost use Rattle.triple_arena.specs.Content.{entry_at, live_count, some_counter, empty, cleared, reallocated};
-ghost use Rattle.triple_arena.specs.Copy.{MayRefuse, NeverRefuses, IsMappedCopy, IsRefusedCopy, IsCopy, IsUnmadeCopy};
+ghost use Rattle.triple_arena.specs.Content.{entry_at, live_count, some_counter, empty, cleared};
+ghost use Rattle.triple_arena.specs.Content.{reallocated};
+ghost use Rattle.triple_arena.specs.Copy.{MayRefuse, NeverRefuses, IsMappedCopy, IsRefusedCopy};
+ghost use Rattle.triple_arena.specs.Copy.{IsCopy, IsUnmadeCopy};
 ghost use Rattle.triple_arena.specs.LiveEntries.{live_entries};
 ghost use Rattle.triple_arena_chain.specs.Chains.{IsLinear};
 ghost use Rattle.triple_arena_chain.specs.Links.{ends_in, values_in, IsChained};
@@ -13,7 +15,8 @@ ghost use Rattle.triple_arena_chain.specs.Listed.{listed_values};
 ghost use Rattle.triple_arena_chain.specs.Values.{room_in as chain_room};
 ghost use Rattle.triple_arena_ord.specs.Copies.{last_inx, emptied_to, IsClone, IsChainCopy};
 ghost use Rattle.triple_arena_ord.specs.Indexed.{indexed};
-ghost use Rattle.triple_arena_ord.specs.Ordered.{IsOrdered, order_in, entry_in, size_in, counter_in, room_in};
+ghost use Rattle.triple_arena_ord.specs.Ordered.{IsOrdered, order_in, entry_in, size_in};
+ghost use Rattle.triple_arena_ord.specs.Ordered.{counter_in, room_in};
 
 use crate::ord_arena::link_copies::copy_items;
 use crate::{OrdSlots, SimpleOrdArena, SimpleOrdArenaNode};

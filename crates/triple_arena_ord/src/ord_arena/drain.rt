@@ -3,7 +3,9 @@ ghost use Rattle.std.specs.Prelude.{◌≡◌, Some, IfSome};
 ghost use Rattle.std.specs.Iterator.{item_count, UpTo};
 ghost use Rattle.std.specs.Iterator.SizeHint.{IsWithinCount};
 ghost use Rattle.triple_arena_ord.specs.Ordered.{IsOrdered, size_in};
-ghost use Rattle.triple_arena_ord.specs.OrderedDrains.{drain_arena, drain_lender, drain_rest, drain_leaves, TakesFirst, DrainSteps, DrainKeepsAlong};
+ghost use Rattle.triple_arena_ord.specs.OrderedDrains.{drain_arena, drain_lender, drain_rest};
+ghost use Rattle.triple_arena_ord.specs.OrderedDrains.{drain_leaves, TakesFirst, DrainSteps};
+ghost use Rattle.triple_arena_ord.specs.OrderedDrains.{DrainKeepsAlong};
 
 use crate::{OrdSlots, SimpleOrdArena};
 use std::iter::FusedIterator;

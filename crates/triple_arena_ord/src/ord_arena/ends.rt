@@ -6,7 +6,7 @@ ghost use Rattle.triple_arena_chain.specs.Chains.{first_or, last_or};
 ghost use Rattle.triple_arena_ord.specs.Ordered.{IsOrdered, order_in, entry_in};
 ghost use Rattle.triple_arena_ord.specs.OrderedWalks.{IsEnd};
 
-use crate::ord_arena::found::ptr_at;
+use crate::ord_arena::search::found::ptr_at;
 use crate::{OrdSlots, SimpleOrdArena};
 use triple_arena::PtrCore;
 

@@ -42,6 +42,9 @@ impl<P: PtrCore, T: Drop, S: OrdSlots<P, T>> IndexMut<P> for SimpleOrdArena<P, T
         ensures value { value_if (P.generation p) (entry_in self.old (P.index p))
             ≡ Some result.now }
     {
+        if !self.contains(p) {
+            unreached!();
+        }
         self.get_inx_mut_unwrap(p.inx())
     }
 }

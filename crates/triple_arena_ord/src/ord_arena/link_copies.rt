@@ -1,5 +1,6 @@
 //! Copies to a chain arena, where the map sees the items alone.
-ghost use Rattle.std.specs.Prelude.{◌≡◌, ◌<◌, ◌≤◌, ◌↔◌, ◌⊎◌, ℕ, List, IsTrue, IsOk, OnOk, IsErrOf, ⊤};
+ghost use Rattle.std.specs.Prelude.{◌≡◌, ◌<◌, ◌≤◌, ◌↔◌, ◌⊎◌, ℕ, List, IsTrue, IsOk, OnOk, IsErrOf};
+ghost use Rattle.std.specs.Prelude.{⊤};
 ghost use Rattle.std.specs.Borrow.{Bor};
 ghost use Rattle.std.specs.Option.{option_map};
 ghost use Rattle.triple_arena_ptr.specs.Generation.{next_generation};

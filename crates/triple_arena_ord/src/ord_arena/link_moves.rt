@@ -1,5 +1,6 @@
 //! Moves of links to a chain arena, where the map sees the items alone.
-ghost use Rattle.std.specs.Prelude.{◌≡◌, ◌≤◌, ◌↔◌, ℕ, List, Option, map as list_map, IsTrue, IsOk, OnOk, OnErr, IsErrOf, ⊤};
+ghost use Rattle.std.specs.Prelude.{◌≡◌, ◌≤◌, ◌↔◌, ℕ, List, Option, map as list_map, IsTrue, IsOk};
+ghost use Rattle.std.specs.Prelude.{OnOk, OnErr, IsErrOf, ⊤};
 ghost use Rattle.triple_arena_ptr.specs.declared.invalidation.InvalidationOption.{InvalidationOption as Removal};
 ghost use Rattle.triple_arena_ptr.specs.InvalidationOption.{value_of, overflowed};
 ghost use Rattle.triple_arena_stack.specs.Room.{IsBeyond};

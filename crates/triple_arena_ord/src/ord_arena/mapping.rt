@@ -2,7 +2,8 @@
 ghost use Rattle.std.specs.Prelude.{◌≡◌, map as list_map};
 ghost use Rattle.triple_arena_ptr.specs.InvalidationOption.{overflowed};
 ghost use Rattle.triple_arena.specs.Changes.{IsCompressed};
-ghost use Rattle.triple_arena.specs.Compression.{compression_wraps, generation_of, value_of, IsMapped};
+ghost use Rattle.triple_arena.specs.Compression.{compression_wraps, generation_of, value_of};
+ghost use Rattle.triple_arena.specs.Compression.{IsMapped};
 ghost use Rattle.triple_arena_ord.specs.Copies.{listed_items};
 
 use crate::ord_arena::link_moves::HoldsItem;

@@ -1,5 +1,6 @@
 //! The greatest capacity of an ordered arena, if it can be set.
-ghost use Rattle.triple_arena.specs.Content.{last_index as last_index_of, with_limit as with_limit_of};
+ghost use Rattle.triple_arena.specs.Content.{last_index as last_index_of};
+ghost use Rattle.triple_arena.specs.Content.{with_limit as with_limit_of};
 
 use crate::{SimpleOrdArena, SimpleOrdArenaNode};
 use triple_arena::{

@@ -1,5 +1,6 @@
 //! Renaming what the items of an ordered arena hold.
-ghost use Rattle.triple_arena_ord.specs.ItemRecasting.{node_items, node_recasted, items_of, recasted_in, items-recasted_in};
+ghost use Rattle.triple_arena_ord.specs.ItemRecasting.{node_items, node_recasted, items_of};
+ghost use Rattle.triple_arena_ord.specs.ItemRecasting.{recasted_in, items-recasted_in};
 
 use crate::{IndexNode, OrdSlots, SimpleOrdArena};
 use triple_arena::{PtrCore, PtrInxCore, Recast, Recaster};

@@ -2,15 +2,20 @@
 ghost use Rattle.std.specs.Prelude.{◌≡◌, ℕ, ◌+◌, ◌≤◌, IfSome, IsTrue};
 ghost use Rattle.std.specs.Option.{option_map};
 ghost use Rattle.std.specs.declared.cmp.Ordering.{Ordering as Way};
-ghost use Rattle.counted_search.specs.Searches.{most_comparisons};
+ghost use Rattle.rank_tree.specs.Comparisons.{most_comparisons};
 ghost use Rattle.rank_tree.specs.Tree.{rank_of};
 ghost use Rattle.triple_arena_ord.specs.Node.{knots_in};
 ghost use Rattle.rank_tree.specs.Search.{IsAnswer, IsFreeAt, asked_down};
-ghost use Rattle.triple_arena_ord.specs.Ordered.{IsOrdered, IsAscending, tree_in, size_in, asked_at};
+ghost use Rattle.triple_arena_ord.specs.Ordered.{IsOrdered, IsAscending, tree_in, size_in};
+ghost use Rattle.triple_arena_ord.specs.Ordered.{asked_at};
 ghost use Rattle.triple_arena_ord.specs.Found.{IsFound, IsSimilar};
 ghost use Rattle.triple_arena_ord.specs.Spared.{spares};
 
-use crate::ord_arena::found::{found_at, similar_at};
+mod closures;
+pub(crate) mod found;
+mod linear;
+
+use crate::ord_arena::search::found::{found_at, similar_at};
 use crate::{OrdSlots, SimpleOrdArena, SimpleOrdItem};
 use std::cmp::Ordering;
 use std::mem;

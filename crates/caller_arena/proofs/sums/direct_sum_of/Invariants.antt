@@ -7,4 +7,5 @@ use Rattle.caller_arena.proofs.sums.direct_sum_of.Given as goal
 -- what is added and what is left make up the sum
 abbrev pub invariant-loop-value : goal.invariant-loop-value
 invariant-loop-value g l =
-    (l.total + sum (map value_of l.value-iterator)) % 2 ^ 64 ≡ sum (map value_of (live_entries l.arena)) % 2 ^ 64
+    (l.total + sum (map value_of l.value-iterator)) % 2 ^ 64
+    ≡ sum (map value_of (live_entries l.arena)) % 2 ^ 64

@@ -3,7 +3,8 @@ use Rattle.triple_arena.specs.LiveEntries.{live_entries-length}
 use Rattle.caller_arena.proofs.sums.told_by_iter.Goals as goal
 
 pub returns-clause-len : goal.returns-clause-len
-returns-clause-len g c = c.len.ensures.value ∙ ap length c.iter-entries.ensures ∙ live_entries-length c.args.arena.now
+returns-clause-len g c = c.len.ensures.value ∙ ap length c.iter-entries.ensures
+    ∙ live_entries-length c.args.arena.now
 
 pub returns-clause-hint : goal.returns-clause-hint
 returns-clause-hint g c =

@@ -4,4 +4,5 @@ use Rattle.caller_arena.proofs.values.map_values.Goals as goal
 
 pub returns-clause-values : goal.returns-clause-values
 returns-clause-values g c =
-    values_related_same c.compress_with.ensures.mapped _ (λ from t to u k s. search (rules, of_calls))
+    values_related_same c.compress_with.ensures.mapped _
+    (λ from t to u k s. search (rules, of_calls))

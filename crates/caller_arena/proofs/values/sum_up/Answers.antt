@@ -4,4 +4,5 @@ use Rattle.caller_arena.proofs.values.sum_up.Goals as goal
 
 pub returns-clause-values : goal.returns-clause-values
 returns-clause-values g c =
-    values_in_turn c.compress_with.ensures.mapped (λ h. h.0.now) (λ sum v. (sum + v) % 2 ^ 64) (λ sum v. (sum + v) % 2 ^ 64) (λ h from t to u k s. search rules)
+    values_in_turn c.compress_with.ensures.mapped (λ h. h.0.now) (λ sum v. (sum + v) % 2 ^ 64)
+    (λ sum v. (sum + v) % 2 ^ 64) (λ h from t to u k s. search rules)

@@ -7,8 +7,10 @@ abbrev pub invariant-loop-p : goal.invariant-loop-p
 invariant-loop-p g l =
     record {
       rises : (g.A.ArenaTrait.walk l.advancer).falls ≡ false;
-      ahead : (j : ℕ) → IsSome (g.A.ArenaTrait.entry_at l.arena j) → IsAhead (g.A.ArenaTrait.walk l.advancer) j;
+      ahead : (j : ℕ) → IsSome (g.A.ArenaTrait.entry_at l.arena j)
+          → IsAhead (g.A.ArenaTrait.walk l.advancer) j;
     }
 
 abbrev pub decreases-loop-p : goal.decreases-loop-p
-decreases-loop-p g l = (g.A.ArenaTrait.walk l.advancer).high + 1 - (g.A.ArenaTrait.walk l.advancer).low
+decreases-loop-p g l =
+    (g.A.ArenaTrait.walk l.advancer).high + 1 - (g.A.ArenaTrait.walk l.advancer).low

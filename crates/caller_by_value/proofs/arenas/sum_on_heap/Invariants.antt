@@ -6,4 +6,5 @@ use Rattle.caller_by_value.proofs.arenas.sum_on_heap.Given as goal
 
 abbrev pub invariant-loop-value : goal.invariant-loop-value
 invariant-loop-value l =
-    (l.total + sum (map value_of l.value-iterator)) % 2 ^ 64 ≡ sum (map value_of (live_entries l.fn.arena)) % 2 ^ 64
+    (l.total + sum (map value_of l.value-iterator)) % 2 ^ 64
+    ≡ sum (map value_of (live_entries l.fn.arena)) % 2 ^ 64

@@ -5,5 +5,6 @@ use Rattle.caller_by_value.proofs.chains.find.Given as goal
 
 abbrev pub invariant-loop-p : goal.invariant-loop-p
 invariant-loop-p g l =
-    (All (λ e. value_of e < l.least) l.p-iterator → All (λ e. value_of e < l.least) (listed_values l.fn.chains))
+    (All (λ e. value_of e < l.least) l.p-iterator
+    → All (λ e. value_of e < l.least) (listed_values l.fn.chains))
     × ((e : ℕ × (ℕ × ℕ)) → Contains l.p-iterator e → Contains (listed_values l.fn.chains) e)

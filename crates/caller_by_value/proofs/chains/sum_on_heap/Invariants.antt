@@ -6,4 +6,5 @@ use Rattle.caller_by_value.proofs.chains.sum_on_heap.Given as goal
 
 abbrev pub invariant-loop-value : goal.invariant-loop-value
 invariant-loop-value l =
-    (l.total + sum (map value_of l.value-iterator)) % 2 ^ 64 ≡ sum (map value_of (listed_values l.fn.chains)) % 2 ^ 64
+    (l.total + sum (map value_of l.value-iterator)) % 2 ^ 64
+    ≡ sum (map value_of (listed_values l.fn.chains)) % 2 ^ 64

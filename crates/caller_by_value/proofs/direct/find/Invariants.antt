@@ -5,5 +5,6 @@ use Rattle.caller_by_value.proofs.direct.find.Given as goal
 
 abbrev pub invariant-loop-p : goal.invariant-loop-p
 invariant-loop-p g l =
-    (All (λ e. value_of e < l.least) l.p-iterator → All (λ e. value_of e < l.least) (live_entries l.fn.arena))
+    (All (λ e. value_of e < l.least) l.p-iterator
+    → All (λ e. value_of e < l.least) (live_entries l.fn.arena))
     × ((e : ℕ × (ℕ × ℕ)) → Contains l.p-iterator e → Contains (live_entries l.fn.arena) e)

@@ -6,4 +6,5 @@ use Rattle.caller_by_value.proofs.made.sum_links.Given as goal
 
 abbrev pub invariant-loop-link : goal.invariant-loop-link
 invariant-loop-link g l =
-    (l.total + sum (map value_of (map listed_value l.link-iterator))) % 2 ^ 64 ≡ sum (map value_of (listed_values l.fn.links)) % 2 ^ 64
+    (l.total + sum (map value_of (map listed_value l.link-iterator))) % 2 ^ 64
+    ≡ sum (map value_of (listed_values l.fn.links)) % 2 ^ 64

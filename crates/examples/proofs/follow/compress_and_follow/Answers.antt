@@ -9,7 +9,8 @@ returns g c =
     let live = g.A.ArenaTrait.live_entries in
     let laws = g.met.A.ArenaTrait in
     let told =
-    followed g.P.PtrCore.index g.P.PtrCore.generation (λ m. m.was) (λ m. m.value) g.met.P.PtrCore.determined (entries old) (entries new) (live old) (live new)
+    followed g.P.PtrCore.index g.P.PtrCore.generation (λ m. m.was) (λ m. m.value)
+    g.met.P.PtrCore.determined (entries old) (entries new) (live old) (live new)
     record {
       kept = c.remember.ensures.kept;
       old_listed = laws.entry_listed old;

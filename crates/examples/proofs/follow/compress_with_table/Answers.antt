@@ -8,7 +8,8 @@ returns-clause-table g c k =
     let entries = g.A.ArenaTrait.entry_at in
     let live = g.A.ArenaTrait.live_entries in
     let laws = g.met.A.ArenaTrait in
-    pointer_followed g.P.PtrCore.index g.P.PtrCore.generation (λ m. m.was) (λ m. m.value) g.met.P.PtrCore.determined (entries old) (entries new) (live old) (live new)
+    pointer_followed g.P.PtrCore.index g.P.PtrCore.generation (λ m. m.was) (λ m. m.value)
+    g.met.P.PtrCore.determined (entries old) (entries new) (live old) (live new)
     record {
       kept = c.remember.ensures.kept;
       old_listed = laws.entry_listed old;

@@ -7,6 +7,8 @@ abbrev pub invariant-loop-at : goal.invariant-loop-at
 invariant-loop-at g l =
     record {
       passed : (k : ℕ) → k < l.at
-          → IsNamedBy (λ m. m.was) g.P.PtrCore.index g.P.PtrCore.generation (g.A.ArenaTrait.entry_at l.arena) (slice_index_or l.fn.table k None) (slice_index_or l.table k None);
+          → IsNamedBy (λ m. m.was) g.P.PtrCore.index g.P.PtrCore.generation
+          (g.A.ArenaTrait.entry_at l.arena) (slice_index_or l.fn.table k None)
+          (slice_index_or l.table k None);
       ahead : (k : ℕ) → l.at ≤ k → slice_index_or l.table k None ≡ slice_index_or l.fn.table k None;
     }

@@ -4,8 +4,10 @@ use Rattle.examples.proofs.follow.remember.Goals as goal
 
 pub returns-clause-kept : goal.returns-clause-kept
 returns-clause-kept g c =
-    kept_by g.P.PtrCore.index g.P.PtrCore.generation (λ m. m.was) (λ m. m.value) c.compress_with.ensures.mapped (λ h from t to u k s. search rules)
+    kept_by g.P.PtrCore.index g.P.PtrCore.generation (λ m. m.was) (λ m. m.value)
+    c.compress_with.ensures.mapped (λ h from t to u k s. search rules)
 
 pub returns-clause-values : goal.returns-clause-values
 returns-clause-values g c =
-    values_kept g.P.PtrCore.index g.P.PtrCore.generation (λ m. m.was) (λ m. m.value) _ _ (returns-clause-kept g c)
+    values_kept g.P.PtrCore.index g.P.PtrCore.generation (λ m. m.was) (λ m. m.value) _ _
+    (returns-clause-kept g c)

@@ -3,11 +3,15 @@ use Rattle.examples.proofs.playlist.add_after.Given.{Over}
 use Rattle.examples.proofs.playlist.add_after.Goals as goal
 
 lists : (g : Over) (c : goal.After-insert_within_capacity g)
-    → Added g.P.PtrCore.index g.P.PtrCore.generation g.P.Inx.PtrInxCore.number c.args.songs.now c.insert_within_capacity.new.self c.args.p c.args.song
+    → Added g.P.PtrCore.index g.P.PtrCore.generation g.P.Inx.PtrInxCore.number c.args.songs.now
+    c.insert_within_capacity.new.self c.args.p c.args.song
     c.insert_within_capacity.result
 lists g c =
-    added g.P.PtrCore.index g.P.PtrCore.generation g.P.Inx.PtrInxCore.number c.args.songs.now c.insert_within_capacity.new.self c.args.p c.args.song
-    c.insert_within_capacity.result c.len.ensures.formed (λ ok. (c.insert_within_capacity.ensures.answer.succeeds.0 ok).0) c.insert_within_capacity.ensures.placed
+    added g.P.PtrCore.index g.P.PtrCore.generation g.P.Inx.PtrInxCore.number c.args.songs.now
+    c.insert_within_capacity.new.self c.args.p c.args.song
+    c.insert_within_capacity.result c.len.ensures.formed
+    (λ ok. (c.insert_within_capacity.ensures.answer.succeeds.0 ok).0)
+    c.insert_within_capacity.ensures.placed
     c.insert_within_capacity.ensures.err
 
 pub returns-clause-linear : goal.returns-clause-linear

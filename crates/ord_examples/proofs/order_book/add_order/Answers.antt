@@ -7,9 +7,12 @@ returns g c =
     let new = c.insert_within_capacity.new.self in
     let made = c.insert_within_capacity.ensures in
     let number = g.P.Inx.PtrInxCore.number in
-    let now = answered_as g.P.PtrCore.index g.P.PtrCore.generation number old new c.new.result c.args.price c.args.order c.as_order.result
-    c.insert_within_capacity.result c.new.ensures.key c.new.ensures.value c.as_order.ensures made.inserted
-    (λ j live. c.entries_stand_in_the_list.ensures old j c.len.ensures.formed.ordered live) made.ascending c.requires in
+    let now = answered_as g.P.PtrCore.index g.P.PtrCore.generation number old new c.new.result
+    c.args.price c.args.order c.as_order.result
+    c.insert_within_capacity.result c.new.ensures.key c.new.ensures.value c.as_order.ensures
+    made.inserted
+    (λ j live. c.entries_stand_in_the_list.ensures old j c.len.ensures.formed.ordered live)
+    made.ascending c.requires in
     record {
       added = now.added;
       replaced = now.replaced;

@@ -13,5 +13,7 @@ returns-clause-book g c =
     let old = c.args.book.now in
     let new = c.remove.new.self in
     let removed : IsEntryRemoved number last i old new =
-    where_some value_of (answer_of c.remove.result) c.in_ok-pair.pair (sym c.allow.ensures ∙ c.in_ok-pair.was) c.remove.ensures.exact in
-    removed_book number old new last i c.requires removed (λ ascending. c.removals_keep_keys_ascending.ensures last i old new removed ascending)
+    where_some value_of (answer_of c.remove.result) c.in_ok-pair.pair
+    (sym c.allow.ensures ∙ c.in_ok-pair.was) c.remove.ensures.exact in
+    removed_book number old new last i c.requires removed
+    (λ ascending. c.removals_keep_keys_ascending.ensures last i old new removed ascending)

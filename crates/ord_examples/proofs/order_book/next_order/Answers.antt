@@ -17,14 +17,19 @@ returns-clause-next g c =
     let ordered = c.in_ok-walk.ensures.ordered in
     let compared : Compared index generation number o = record {
       listed = λ k live. c.entries_stand_in_the_list.ensures o k ordered live;
-      before = λ front back i entry is stands. c.keys_ascend_along_the_list.ensures.before o front back i entry ordered c.requires.ascending is stands;
-      after = λ front back i entry is stands. c.keys_ascend_along_the_list.ensures.after o front back i entry ordered c.requires.ascending is stands;
+      before = λ front back i entry is stands. c.keys_ascend_along_the_list.ensures.before o front
+          back i entry ordered c.requires.ascending is stands;
+      after = λ front back i entry is stands. c.keys_ascend_along_the_list.ensures.after o front
+          back i entry ordered c.requires.ascending is stands;
     } in
-    let left = stepped index generation number o c.in_ok-walk.walk c.advance.new.self c.advance.result (index c.args.p) from.after
+    let left = stepped index generation number o c.in_ok-walk.walk c.advance.new.self
+    c.advance.result (index c.args.p) from.after
     c.advance.ensures.given from.left_is in
-    (next_given index generation number o (IsSome (value_if (generation c.args.p) (orders_in o (index c.args.p)))) compared
+    (next_given index generation number o
+    (IsSome (value_if (generation c.args.p) (orders_in o (index c.args.p)))) compared
     (linear_apart (ends_in number o.chains) None (order_in number o) ordered.linear)
-    c.requires.apart from.before from.after (index c.args.p) from.is c.advance.new.self c.advance-2.new.self c.advance-2.result
+    c.requires.apart from.before from.after (index c.args.p) from.is c.advance.new.self
+    c.advance-2.new.self c.advance-2.result
     c.advance-2.ensures.given left).0
 
 pub returns-clause-none : goal.returns-clause-none
@@ -37,12 +42,17 @@ returns-clause-none g c =
     let ordered = c.in_ok-walk.ensures.ordered in
     let compared : Compared index generation number o = record {
       listed = λ k live. c.entries_stand_in_the_list.ensures o k ordered live;
-      before = λ front back i entry is stands. c.keys_ascend_along_the_list.ensures.before o front back i entry ordered c.requires.ascending is stands;
-      after = λ front back i entry is stands. c.keys_ascend_along_the_list.ensures.after o front back i entry ordered c.requires.ascending is stands;
+      before = λ front back i entry is stands. c.keys_ascend_along_the_list.ensures.before o front
+          back i entry ordered c.requires.ascending is stands;
+      after = λ front back i entry is stands. c.keys_ascend_along_the_list.ensures.after o front
+          back i entry ordered c.requires.ascending is stands;
     } in
-    let left = stepped index generation number o c.in_ok-walk.walk c.advance.new.self c.advance.result (index c.args.p) from.after
+    let left = stepped index generation number o c.in_ok-walk.walk c.advance.new.self
+    c.advance.result (index c.args.p) from.after
     c.advance.ensures.given from.left_is in
-    (next_given index generation number o (IsSome (value_if (generation c.args.p) (orders_in o (index c.args.p)))) compared
+    (next_given index generation number o
+    (IsSome (value_if (generation c.args.p) (orders_in o (index c.args.p)))) compared
     (linear_apart (ends_in number o.chains) None (order_in number o) ordered.linear)
-    c.requires.apart from.before from.after (index c.args.p) from.is c.advance.new.self c.advance-2.new.self c.advance-2.result
+    c.requires.apart from.before from.after (index c.args.p) from.is c.advance.new.self
+    c.advance-2.new.self c.advance-2.result
     c.advance-2.ensures.given left).1

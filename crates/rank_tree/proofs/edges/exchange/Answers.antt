@@ -10,14 +10,20 @@ use Rattle.rank_tree.proofs.edges.exchange.Goals as goal
 
 -- the four changes, one after another
 works : (g : _) (c : After-relink g)
-    (h : Exchange (g.K.Knots.knots c.args.knots.now) (option_map g.P.Inx.PtrInxCore.number c.args.root.now) (g.P.Inx.PtrInxCore.number c.args.old)
+    (h : Exchange (g.K.Knots.knots c.args.knots.now)
+    (option_map g.P.Inx.PtrInxCore.number c.args.root.now)
+    (g.P.Inx.PtrInxCore.number c.args.old)
     (g.P.Inx.PtrInxCore.number c.args.new))
-    → Stands (g.K.Knots.knots c.relink.new.knots) (option_map g.P.Inx.PtrInxCore.number c.relink.new.root)
+    → Stands (g.K.Knots.knots c.relink.new.knots)
+    (option_map g.P.Inx.PtrInxCore.number c.relink.new.root)
     (plug h.context (node h.left (g.P.Inx.PtrInxCore.number c.args.new) h.rank h.right))
-    × KeptOff (walk (plug h.context (node h.left (g.P.Inx.PtrInxCore.number c.args.new) h.rank h.right))) (g.K.Knots.knots c.args.knots.now)
+    × KeptOff (walk (plug h.context
+    (node h.left (g.P.Inx.PtrInxCore.number c.args.new) h.rank h.right)))
+    (g.K.Knots.knots c.args.knots.now)
     (g.K.Knots.knots c.relink.new.knots)
 works g c h =
-    exchange_works _ _ _ _ _ _ _ _ _ _ c.read-knot.ensures c.write.ensures.written c.reparent.ensures.does c.reparent-2.ensures.does c.relink.ensures.does h
+    exchange_works _ _ _ _ _ _ _ _ _ _ c.read-knot.ensures c.write.ensures.written
+    c.reparent.ensures.does c.reparent-2.ensures.does c.relink.ensures.does h
 
 pub read-knot-requires-clause-live : goal.read-knot-requires-clause-live
 read-knot-requires-clause-live g c = exchange_lives _ _ _ _ c.requires.place
@@ -31,18 +37,23 @@ reparent-requires-clause-live g c =
 pub reparent-requires-2-clause-live : goal.reparent-requires-2-clause-live
 reparent-requires-2-clause-live g c =
     let links = exchange_links _ _ _ _ c.requires.place _ c.read-knot.ensures in
-    if_live g.P.Inx.PtrInxCore.number (g.K.Knots.knots c.reparent.new.knots) c.read-knot.result.right
-    (λ i e. reparent-lives _ _ _ _ c.reparent.ensures.does i (write-lives _ _ _ _ c.write.ensures.written i (links.right i e)))
+    if_live g.P.Inx.PtrInxCore.number (g.K.Knots.knots c.reparent.new.knots)
+    c.read-knot.result.right
+    (λ i e. reparent-lives _ _ _ _ c.reparent.ensures.does i
+    (write-lives _ _ _ _ c.write.ensures.written i (links.right i e)))
 
 pub relink-requires-clause-live : goal.relink-requires-clause-live
 relink-requires-clause-live g c =
     let links = exchange_links _ _ _ _ c.requires.place _ c.read-knot.ensures in
-    if_live g.P.Inx.PtrInxCore.number (g.K.Knots.knots c.reparent-2.new.knots) c.read-knot.result.parent
+    if_live g.P.Inx.PtrInxCore.number (g.K.Knots.knots c.reparent-2.new.knots)
+    c.read-knot.result.parent
     (λ i e. reparent-lives _ _ _ _ c.reparent-2.ensures.does i
-    (reparent-lives _ _ _ _ c.reparent.ensures.does i (write-lives _ _ _ _ c.write.ensures.written i (links.parent i e))))
+    (reparent-lives _ _ _ _ c.reparent.ensures.does i
+    (write-lives _ _ _ _ c.write.ensures.written i (links.parent i e))))
 
 pub returns-clause-does : goal.returns-clause-does
 returns-clause-does g c = λ place. (works g (goal.at.returns-clause-does g c).After-relink place).0
 
 pub returns-clause-elsewhere : goal.returns-clause-elsewhere
-returns-clause-elsewhere g c = λ place. (works g (goal.at.returns-clause-elsewhere g c).After-relink place).1
+returns-clause-elsewhere g c =
+    λ place. (works g (goal.at.returns-clause-elsewhere g c).After-relink place).1

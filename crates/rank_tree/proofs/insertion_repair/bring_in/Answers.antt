@@ -42,8 +42,7 @@ read-above-requires-clause-live g c =
 pub repair_inserted-requires-clause-grown : goal.repair_inserted-requires-clause-grown
 repair_inserted-requires-clause-grown g c = (
   walk (filled c.requires.gap),
-  risen g (goal.at.repair_inserted-requires-clause-grown g
-      c).After-set_rank c.requires.gap,
+  risen g (goal.at.repair_inserted-requires-clause-grown g c).After-set_rank c.requires.gap,
 )
 
 pub returns-then-above-eq1-clause-does : goal.returns-then-above-eq1-clause-does

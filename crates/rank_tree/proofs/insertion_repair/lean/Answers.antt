@@ -11,33 +11,44 @@ use Rattle.rank_tree.proofs.insertion_repair.lean.Goals as goal
 
 -- what was read is what stands there
 read : (g : _) (c : After-rank_at g) (w : List ℕ)
-    (h : Leaning (g.K.Knots.knots c.args.knots.now) (option_map g.P.Inx.PtrInxCore.number c.args.root.now)
+    (h : Leaning (g.K.Knots.knots c.args.knots.now)
+    (option_map g.P.Inx.PtrInxCore.number c.args.root.now)
     (g.P.Inx.PtrInxCore.number c.args.low) w)
-    → LeanReads _ _ _ w h c.read-below.result.rank (option_map g.P.Inx.PtrInxCore.number c.child-inner.result) c.rank_at.result
+    → LeanReads _ _ _ w h c.read-below.result.rank
+    (option_map g.P.Inx.PtrInxCore.number c.child-inner.result) c.rank_at.result
 read g c w h =
-    lean_reads _ _ _ _ _ _ _ _ _ _ c.read-below.ensures (ap (option_map g.P.Inx.PtrInxCore.number) c.in-Some.is) c.read-above.ensures
+    lean_reads _ _ _ _ _ _ _ _ _ _ c.read-below.ensures
+    (ap (option_map g.P.Inx.PtrInxCore.number) c.in-Some.is) c.read-above.ensures
     c.side_of-side.ensures.left c.side_of-side.ensures.right c.other.ensures c.child-inner.ensures
     c.rank_at.ensures.some c.rank_at.ensures.none w h
 
 -- the node turns up
 once : (g : _) (c : After-turn g) (w : List ℕ)
-    (h : Leaning (g.K.Knots.knots c.args.knots.now) (option_map g.P.Inx.PtrInxCore.number c.args.root.now)
+    (h : Leaning (g.K.Knots.knots c.args.knots.now)
+    (option_map g.P.Inx.PtrInxCore.number c.args.root.now)
     (g.P.Inx.PtrInxCore.number c.args.low) w)
-    → Turns (g.K.Knots.knots c.args.knots.now) (option_map g.P.Inx.PtrInxCore.number c.args.root.now)
-    (g.P.Inx.PtrInxCore.number c.args.low) c.read-below.result.rank (c.read-below.result.rank - 1) w (λ m r. Restored m r w)
+    → Turns (g.K.Knots.knots c.args.knots.now)
+    (option_map g.P.Inx.PtrInxCore.number c.args.root.now)
+    (g.P.Inx.PtrInxCore.number c.args.low) c.read-below.result.rank (c.read-below.result.rank - 1) w
+    (λ m r. Restored m r w)
 once g c w h =
     let r = read g (goal.at.After-turn g c).After-rank_at w h in
     lean_once _ _ _ _ _ w h (omega arith) r.rank_is (ap (λ z. z - 1) r.rank_is)
 
 -- the inner child turns up, twice
 twice : (g : _) (c : In-Some-inner g) (w : List ℕ)
-    (h : Leaning (g.K.Knots.knots c.args.knots.now) (option_map g.P.Inx.PtrInxCore.number c.args.root.now)
+    (h : Leaning (g.K.Knots.knots c.args.knots.now)
+    (option_map g.P.Inx.PtrInxCore.number c.args.root.now)
     (g.P.Inx.PtrInxCore.number c.args.low) w)
-    → TurnsTwice (g.K.Knots.knots c.args.knots.now) (option_map g.P.Inx.PtrInxCore.number c.args.root.now)
-    (g.P.Inx.PtrInxCore.number c.in-Some-inner.middle) c.read-below.result.rank (c.read-below.result.rank - 1) w
+    → TurnsTwice (g.K.Knots.knots c.args.knots.now)
+    (option_map g.P.Inx.PtrInxCore.number c.args.root.now)
+    (g.P.Inx.PtrInxCore.number c.in-Some-inner.middle) c.read-below.result.rank
+    (c.read-below.result.rank - 1) w
 twice g c w h =
     let r = read g (goal.at.In-Some-inner g c).After-rank_at w h in
-    lean_twice _ _ _ _ _ _ w h (sym r.inner_is ∙ ap (option_map g.P.Inx.PtrInxCore.number) c.in-Some-inner.is) (omega arith) r.rank_is
+    lean_twice _ _ _ _ _ _ w h
+    (sym r.inner_is ∙ ap (option_map g.P.Inx.PtrInxCore.number) c.in-Some-inner.is)
+    (omega arith) r.rank_is
     (ap (λ z. z - 1) r.rank_is)
 
 pub read-below-requires-clause-live : goal.read-below-requires-clause-live
@@ -46,11 +57,14 @@ read-below-requires-clause-live g c = spot_low _ _ _ (lean_spot _ _ _ _ c.requir
 pub unreached-unreachable-requires : goal.unreached-unreachable-requires
 unreached-unreachable-requires g c =
     not_some g.P.Inx.PtrInxCore.number c.read-below.result.parent _
-    (spot_parent _ _ _ _ c.read-below.ensures (lean_spot _ _ _ _ c.requires.leaning.1)) c.in_default.not-Some
+    (spot_parent _ _ _ _ c.read-below.ensures (lean_spot _ _ _ _ c.requires.leaning.1))
+    c.in_default.not-Some
 
 pub read-above-requires-clause-live : goal.read-above-requires-clause-live
 read-above-requires-clause-live g c =
-    spot_high _ _ _ _ _ c.read-below.ensures (ap (option_map g.P.Inx.PtrInxCore.number) c.in-Some.is) (lean_spot _ _ _ _ c.requires.leaning.1)
+    spot_high _ _ _ _ _ c.read-below.ensures
+    (ap (option_map g.P.Inx.PtrInxCore.number) c.in-Some.is)
+    (lean_spot _ _ _ _ c.requires.leaning.1)
 
 pub rank_at-requires-clause-live : goal.rank_at-requires-clause-live
 rank_at-requires-clause-live g c =
@@ -66,8 +80,10 @@ overflow_add-rank_at g c =
 pub unreached-unreachable-requires-in_default-inner : goal.unreached-unreachable-requires-in_default-inner
 unreached-unreachable-requires-in_default-inner g c =
     let h = c.requires.leaning.1 in
-    let r = read g (goal.at.unreached-unreachable-requires-in_default-inner g c).After-rank_at _ h in
-    root-some h.inner (omega arith) (sym r.inner_is ∙ ap (option_map g.P.Inx.PtrInxCore.number) c.in_default-inner.is)
+    let r = read g (goal.at.unreached-unreachable-requires-in_default-inner g c).After-rank_at _ h
+    in
+    root-some h.inner (omega arith)
+    (sym r.inner_is ∙ ap (option_map g.P.Inx.PtrInxCore.number) c.in_default-inner.is)
 
 pub overflow_sub-rank-else-rank_at-rank : goal.overflow_sub-rank-else-rank_at-rank
 overflow_sub-rank-else-rank_at-rank g c =
@@ -75,7 +91,9 @@ overflow_sub-rank-else-rank_at-rank g c =
     omega (arith, h, read g (goal.at.overflow_sub-rank-else-rank_at-rank g c).After-rank_at _ h)
 
 pub turn-requires-else-rank_at-rank-clause-spot : goal.turn-requires-else-rank_at-rank-clause-spot
-turn-requires-else-rank_at-rank-clause-spot g c = (twice g (goal.at.turn-requires-else-rank_at-rank-clause-spot g c).In-Some-inner _ c.requires.leaning.1).spot
+turn-requires-else-rank_at-rank-clause-spot g c =
+    (twice g (goal.at.turn-requires-else-rank_at-rank-clause-spot g c).In-Some-inner _
+    c.requires.leaning.1).spot
 
 pub overflow_sub-rank-else-rank_at-rank-2 : goal.overflow_sub-rank-else-rank_at-rank-2
 overflow_sub-rank-else-rank_at-rank-2 g c =
@@ -84,7 +102,8 @@ overflow_sub-rank-else-rank_at-rank-2 g c =
 
 pub turn-requires-else-rank_at-rank-2-clause-spot : goal.turn-requires-else-rank_at-rank-2-clause-spot
 turn-requires-else-rank_at-rank-2-clause-spot g c =
-    let one = twice g (goal.at.turn-requires-else-rank_at-rank-2-clause-spot g c).In-Some-inner _ c.requires.leaning.1 in
+    let one = twice g (goal.at.turn-requires-else-rank_at-rank-2-clause-spot g c).In-Some-inner _
+    c.requires.leaning.1 in
     (one.after _ _ (c.turn-else-rank_at-rank.ensures.does one.spot)).spot
 
 pub returns-then-rank_at-rank-clause-does : goal.returns-then-rank_at-rank-clause-does
@@ -107,5 +126,6 @@ pub returns-in-Some-inner-clause-elsewhere : goal.returns-in-Some-inner-clause-e
 returns-in-Some-inner-clause-elsewhere g c = λ w h.
     let one = twice g (goal.at.returns-in-Some-inner-clause-elsewhere g c).In-Some-inner w h in
     let two = one.after _ _ (c.turn-else-rank_at-rank.ensures.does one.spot) in
-    both_kept w _ _ _ (turns_kept _ _ _ _ _ _ w _ one (c.turn-else-rank_at-rank.ensures.elsewhere one.spot))
+    both_kept w _ _ _ (turns_kept _ _ _ _ _ _ w _ one
+    (c.turn-else-rank_at-rank.ensures.elsewhere one.spot))
     (turns_kept _ _ _ _ _ _ w _ two (c.turn-else-rank_at-rank-2.ensures.elsewhere two.spot))

@@ -38,7 +38,8 @@ read g c w h =
     c.rank_at-left.ensures.none c.rank_at-right.ensures.some c.rank_at-right.ensures.none w h
 
 pub read-below-requires-clause-live : goal.read-below-requires-clause-live
-read-below-requires-clause-live g c = grown_lives _ _ _ _ (c.climb.invariant.0 c.requires.grown.0 c.requires.grown.1)
+read-below-requires-clause-live g c =
+    grown_lives _ _ _ _ (c.climb.invariant.0 c.requires.grown.0 c.requires.grown.1)
 
 pub read-above-requires-clause-live : goal.read-above-requires-clause-live
 read-above-requires-clause-live g c =
@@ -103,7 +104,8 @@ climb-smaller g c =
     let h = under g at.In-Some _ c.requires.grown.1 in
     let r = read g at.After-rank_at-right _ h in
     let b = climb_small _ _ _ _ _ h in
-    climb_falls _ _ _ _ _ _ c.read-below.ensures (c.set_rank.ensures.does _ c.read-above.ensures) (omega arith) (omega arith)
+    climb_falls _ _ _ _ _ _ c.read-below.ensures (c.set_rank.ensures.does _ c.read-above.ensures)
+    (omega arith) (omega arith)
 
 pub climb-preserved : goal.climb-preserved
 climb-preserved g c =

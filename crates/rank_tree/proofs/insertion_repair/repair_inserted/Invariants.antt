@@ -6,9 +6,15 @@ use Rattle.rank_tree.proofs.insertion_repair.repair_inserted.Given as goal
 
 abbrev pub invariant-climb : goal.invariant-climb
 invariant-climb g l =
-    ((w : List ℕ) → Grown (g.K.Knots.knots l.initial.knots) (option_map g.P.Inx.PtrInxCore.number l.initial.root) (g.P.Inx.PtrInxCore.number l.initial.low) w → Grown
-    (g.K.Knots.knots l.knots) (option_map g.P.Inx.PtrInxCore.number l.root) (g.P.Inx.PtrInxCore.number l.low) w) × (g.K.Knots.rest l.knots ≡ g.K.Knots.rest l.initial.knots)
-    × ((w : List ℕ) → Grown (g.K.Knots.knots l.initial.knots) (option_map g.P.Inx.PtrInxCore.number l.initial.root) (g.P.Inx.PtrInxCore.number l.initial.low) w
+    ((w : List ℕ) → Grown (g.K.Knots.knots l.initial.knots)
+    (option_map g.P.Inx.PtrInxCore.number l.initial.root)
+    (g.P.Inx.PtrInxCore.number l.initial.low) w → Grown
+    (g.K.Knots.knots l.knots) (option_map g.P.Inx.PtrInxCore.number l.root)
+    (g.P.Inx.PtrInxCore.number l.low) w)
+    × (g.K.Knots.rest l.knots ≡ g.K.Knots.rest l.initial.knots)
+    × ((w : List ℕ) → Grown (g.K.Knots.knots l.initial.knots)
+    (option_map g.P.Inx.PtrInxCore.number l.initial.root)
+    (g.P.Inx.PtrInxCore.number l.initial.low) w
     → KeptOff w (g.K.Knots.knots l.initial.knots) (g.K.Knots.knots l.knots))
 
 abbrev pub decreases-climb : goal.decreases-climb

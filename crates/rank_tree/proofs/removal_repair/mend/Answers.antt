@@ -17,41 +17,52 @@ use Rattle.rank_tree.proofs.removal_repair.mend.Goals as goal
 
 -- what was read is what stands there
 read : (g : _) (c : After-rank_at-right g) (w : List ℕ)
-    (h : Broken (g.K.Knots.knots c.args.knots.now) (option_map g.P.Inx.PtrInxCore.number c.args.root.now)
+    (h : Broken (g.K.Knots.knots c.args.knots.now)
+    (option_map g.P.Inx.PtrInxCore.number c.args.root.now)
     (g.P.Inx.PtrInxCore.number c.args.high) w)
-    → MendReads _ _ _ w h (named g.P.Inx.PtrInxCore.number c.read-above.result) c.rank_at-left.result c.rank_at-right.result
+    → MendReads _ _ _ w h (named g.P.Inx.PtrInxCore.number c.read-above.result)
+    c.rank_at-left.result c.rank_at-right.result
 read g c w h =
-    mend_reads _ _ _ _ _ _ c.read-above.ensures c.rank_at-left.ensures.some c.rank_at-left.ensures.none
+    mend_reads _ _ _ _ _ _ c.read-above.ensures c.rank_at-left.ensures.some
+    c.rank_at-left.ensures.none
     c.rank_at-right.ensures.some c.rank_at-right.ensures.none w h
 
 -- both children are two lower, and the node loses one rank
 falls : (g : _) (c : After-set_rank g) (w : List ℕ)
-    → Broken (g.K.Knots.knots c.args.knots.now) (option_map g.P.Inx.PtrInxCore.number c.args.root.now)
+    → Broken (g.K.Knots.knots c.args.knots.now)
+    (option_map g.P.Inx.PtrInxCore.number c.args.root.now)
     (g.P.Inx.PtrInxCore.number c.args.high) w
-    → Lowered (g.K.Knots.knots c.set_rank.new.self) (option_map g.P.Inx.PtrInxCore.number c.args.root.now)
+    → Lowered (g.K.Knots.knots c.set_rank.new.self)
+    (option_map g.P.Inx.PtrInxCore.number c.args.root.now)
     (g.P.Inx.PtrInxCore.number c.args.high) (g.K.Knots.knots c.args.knots.now)
     (option_map g.P.Inx.PtrInxCore.number c.read-above.result.parent) w
 falls g c w h =
     let m = read g (goal.at.After-set_rank g c).After-rank_at-right w h in
-    broken_lower _ _ _ _ _ c.read-above.ensures (c.set_rank.ensures.does _ c.read-above.ensures) w h (omega arith) (omega arith)
+    broken_lower _ _ _ _ _ c.read-above.ensures (c.set_rank.ensures.does _ c.read-above.ensures) w h
+    (omega arith) (omega arith)
 
 -- the higher child is one lower, and the other three
 higher : (g : _) (c : After-child g) (w : List ℕ)
-    (h : Broken (g.K.Knots.knots c.args.knots.now) (option_map g.P.Inx.PtrInxCore.number c.args.root.now)
+    (h : Broken (g.K.Knots.knots c.args.knots.now)
+    (option_map g.P.Inx.PtrInxCore.number c.args.root.now)
     (g.P.Inx.PtrInxCore.number c.args.high) w)
     → Higher _ _ _ w h c.higher.result (option_map g.P.Inx.PtrInxCore.number c.child.result)
 higher g c w h =
     let m = read g (goal.at.After-child g c).After-rank_at-right w h in
-    mend_higher _ _ _ _ _ _ _ _ w h m c.read-above.ensures (not_fit _ _ _ _ c.is_fit.ensures c.if-is_fit.false) (omega arith)
+    mend_higher _ _ _ _ _ _ _ _ w h m c.read-above.ensures
+    (not_fit _ _ _ _ c.is_fit.ensures c.if-is_fit.false) (omega arith)
     c.higher.ensures.right c.higher.ensures.left c.child.ensures
 
 sibling : (g : _) (c : In-Some g) (w : List ℕ)
-    → Broken (g.K.Knots.knots c.args.knots.now) (option_map g.P.Inx.PtrInxCore.number c.args.root.now)
+    → Broken (g.K.Knots.knots c.args.knots.now)
+    (option_map g.P.Inx.PtrInxCore.number c.args.root.now)
     (g.P.Inx.PtrInxCore.number c.args.high) w
-    → Sibling (g.K.Knots.knots c.args.knots.now) (option_map g.P.Inx.PtrInxCore.number c.args.root.now)
+    → Sibling (g.K.Knots.knots c.args.knots.now)
+    (option_map g.P.Inx.PtrInxCore.number c.args.root.now)
     (g.P.Inx.PtrInxCore.number c.in-Some.low) w (g.P.Inx.PtrInxCore.number c.args.high)
 sibling g c w h =
-    broken_sibling _ _ _ _ _ _ w h (higher g (goal.at.In-Some g c).After-child w h) (ap (option_map g.P.Inx.PtrInxCore.number) c.in-Some.is)
+    broken_sibling _ _ _ _ _ _ w h (higher g (goal.at.In-Some g c).After-child w h)
+    (ap (option_map g.P.Inx.PtrInxCore.number) c.in-Some.is)
 
 -- what was read of the sibling is what stands there
 read_low : (g : _) (c : After-rank_at-low_right g) (w : List ℕ)
@@ -67,15 +78,18 @@ read_low g c w s =
 
 -- the sibling and the node lose one rank each
 both_fall : (g : _) (c : After-set_rank-3 g) (w : List ℕ)
-    → Broken (g.K.Knots.knots c.args.knots.now) (option_map g.P.Inx.PtrInxCore.number c.args.root.now)
+    → Broken (g.K.Knots.knots c.args.knots.now)
+    (option_map g.P.Inx.PtrInxCore.number c.args.root.now)
     (g.P.Inx.PtrInxCore.number c.args.high) w
-    → Lowered (g.K.Knots.knots c.set_rank-3.new.self) (option_map g.P.Inx.PtrInxCore.number c.args.root.now)
+    → Lowered (g.K.Knots.knots c.set_rank-3.new.self)
+    (option_map g.P.Inx.PtrInxCore.number c.args.root.now)
     (g.P.Inx.PtrInxCore.number c.args.high) (g.K.Knots.knots c.args.knots.now)
     (option_map g.P.Inx.PtrInxCore.number c.read-above.result.parent) w
 both_fall g c w h =
     let s = sibling g (goal.at.After-set_rank-3 g c).In-Some w h in
     let r = read_low g (goal.at.After-set_rank-3 g c).After-rank_at-low_right w s in
-    mend_lower _ _ _ _ _ _ _ _ _ w s c.read-above.ensures (omega (arith, s, s.fits, r)) (omega (arith, s, s.fits, r))
+    mend_lower _ _ _ _ _ _ _ _ _ w s c.read-above.ensures (omega (arith, s, s.fits, r))
+    (omega (arith, s, s.fits, r))
     (ap (λ z. z - 1) r.rank_is) refl c.set_rank-2.ensures.does c.set_rank-3.ensures.does
 
 pub read-above-requires-clause-live : goal.read-above-requires-clause-live
@@ -83,21 +97,29 @@ read-above-requires-clause-live g c = broken_lives _ _ _ _ c.requires.1
 
 pub rank_at-left-requires-clause-live : goal.rank_at-left-requires-clause-live
 rank_at-left-requires-clause-live g c =
-    if_named g.P.Inx.PtrInxCore.number (λ i. IsSome (g.K.Knots.knots c.args.knots.now i)) c.read-above.result.left
+    if_named g.P.Inx.PtrInxCore.number (λ i. IsSome (g.K.Knots.knots c.args.knots.now i))
+    c.read-above.result.left
     (broken_reads _ _ _ _ c.read-above.ensures _ c.requires.1).left_lives
 
 pub rank_at-right-requires-clause-live : goal.rank_at-right-requires-clause-live
 rank_at-right-requires-clause-live g c =
-    if_named g.P.Inx.PtrInxCore.number (λ i. IsSome (g.K.Knots.knots c.args.knots.now i)) c.read-above.result.right
+    if_named g.P.Inx.PtrInxCore.number (λ i. IsSome (g.K.Knots.knots c.args.knots.now i))
+    c.read-above.result.right
     (broken_reads _ _ _ _ c.read-above.ensures _ c.requires.1).right_lives
 
 pub is_fit-requires-clause-low_left : goal.is_fit-requires-clause-low_left
 is_fit-requires-clause-low_left g c =
-    omega (arith, read g (goal.at.is_fit-requires-clause-low_left g c).After-rank_at-right _ c.requires.1)
+    omega (
+      arith,
+      read g (goal.at.is_fit-requires-clause-low_left g c).After-rank_at-right _ c.requires.1,
+    )
 
 pub is_fit-requires-clause-low_right : goal.is_fit-requires-clause-low_right
 is_fit-requires-clause-low_right g c =
-    omega (arith, read g (goal.at.is_fit-requires-clause-low_right g c).After-rank_at-right _ c.requires.1)
+    omega (
+      arith,
+      read g (goal.at.is_fit-requires-clause-low_right g c).After-rank_at-right _ c.requires.1,
+    )
 
 pub returns-then-is_fit-clause-pending : goal.returns-then-is_fit-clause-pending
 returns-then-is_fit-clause-pending g c = λ w h.
@@ -106,22 +128,26 @@ returns-then-is_fit-clause-pending g c = λ w h.
     broken_ends _ _ _ w h (omega arith) (omega arith) (omega arith)
 
 pub overflow_add-max : goal.overflow_add-max
-overflow_add-max g c = omega (arith, read g (goal.at.overflow_add-max g c).After-rank_at-right _ c.requires.1)
+overflow_add-max g c =
+    omega (arith, read g (goal.at.overflow_add-max g c).After-rank_at-right _ c.requires.1)
 
 pub returns-then-max-rank-clause-pending : goal.returns-then-max-rank-clause-pending
-returns-then-max-rank-clause-pending g c = λ w h. (falls g (goal.at.returns-then-max-rank-clause-pending g c).After-set_rank w h).pending
+returns-then-max-rank-clause-pending g c =
+    λ w h. (falls g (goal.at.returns-then-max-rank-clause-pending g c).After-set_rank w h).pending
 
 pub returns-then-max-rank-clause-rises : goal.returns-then-max-rank-clause-rises
 returns-then-max-rank-clause-rises g c =
     let number = g.P.Inx.PtrInxCore.number in
     let old = g.K.Knots.knots c.args.knots.now in
-    if_named number (λ i. rank_in old (number c.args.high) < rank_in (g.K.Knots.knots c.set_rank.new.self) i) c.read-above.result.parent
+    if_named number (λ i. rank_in old (number c.args.high) < rank_in
+    (g.K.Knots.knots c.set_rank.new.self) i) c.read-above.result.parent
     (falls g (goal.at.returns-then-max-rank-clause-rises g c).After-set_rank _ c.requires.1).rises
 
 pub unreached-unreachable-requires : goal.unreached-unreachable-requires
 unreached-unreachable-requires g c =
     let h = c.requires.1 in
-    higher_some _ _ _ _ _ _ h (higher g (goal.at.unreached-unreachable-requires g c).After-child _ h)
+    higher_some _ _ _ _ _ _ h
+    (higher g (goal.at.unreached-unreachable-requires g c).After-child _ h)
     (ap (option_map g.P.Inx.PtrInxCore.number) c.in_default.is)
 
 pub read-below-requires-clause-live : goal.read-below-requires-clause-live
@@ -148,8 +174,7 @@ overflow_add-max-2 g c =
       arith,
       s,
       s.fits,
-      read_low g (goal.at.overflow_add-max-2 g c).After-rank_at-low_right _
-          s,
+      read_low g (goal.at.overflow_add-max-2 g c).After-rank_at-low_right _ s,
     )
 
 pub shorten-requires-clause-short : goal.shorten-requires-clause-short
@@ -160,8 +185,7 @@ shorten-requires-clause-short g c =
         arith,
         s,
         s.fits,
-        read_low g
-            (goal.at.shorten-requires-clause-short g c).After-rank_at-low_right _ s,
+        read_low g (goal.at.shorten-requires-clause-short g c).After-rank_at-low_right _ s,
       )),
     )
 
@@ -172,30 +196,35 @@ returns-then-below-max-clause-pending g c = λ w h.
       arith,
       s,
       s.fits,
-      read_low g
-          (goal.at.returns-then-below-max-clause-pending g c).After-rank_at-low_right w s,
+      read_low g (goal.at.returns-then-below-max-clause-pending g c).After-rank_at-low_right w s,
     )))
 
 pub set_rank-requires-2-clause-live : goal.set_rank-requires-2-clause-live
-set_rank-requires-2-clause-live g c = spot_low _ _ _ (sibling g (goal.at.set_rank-requires-2-clause-live g c).In-Some _ c.requires.1).spot
+set_rank-requires-2-clause-live g c =
+    spot_low _ _ _ (sibling g (goal.at.set_rank-requires-2-clause-live g c).In-Some _
+    c.requires.1).spot
 
 pub set_rank-requires-3-clause-live : goal.set_rank-requires-3-clause-live
 set_rank-requires-3-clause-live g c =
     let s = sibling g (goal.at.set_rank-requires-3-clause-live g c).In-Some _ c.requires.1 in
-    sets_lives _ _ _ _ (spot_low _ _ _ s.spot) c.set_rank-2.ensures.does _ (broken_lives _ _ _ _ c.requires.1)
+    sets_lives _ _ _ _ (spot_low _ _ _ s.spot) c.set_rank-2.ensures.does _
+    (broken_lives _ _ _ _ c.requires.1)
 
 pub returns-clause-pending : goal.returns-clause-pending
-returns-clause-pending g c = λ w h. (both_fall g (goal.at.returns-clause-pending g c).After-set_rank-3 w h).pending
+returns-clause-pending g c =
+    λ w h. (both_fall g (goal.at.returns-clause-pending g c).After-set_rank-3 w h).pending
 
 pub returns-clause-rises : goal.returns-clause-rises
 returns-clause-rises g c =
     let number = g.P.Inx.PtrInxCore.number in
     let old = g.K.Knots.knots c.args.knots.now in
-    if_named number (λ i. rank_in old (number c.args.high) < rank_in (g.K.Knots.knots c.set_rank-3.new.self) i) c.read-above.result.parent
+    if_named number (λ i. rank_in old (number c.args.high) < rank_in
+    (g.K.Knots.knots c.set_rank-3.new.self) i) c.read-above.result.parent
     (both_fall g (goal.at.returns-clause-rises g c).After-set_rank-3 _ c.requires.1).rises
 
 pub returns-then-max-rank-clause-elsewhere : goal.returns-then-max-rank-clause-elsewhere
-returns-then-max-rank-clause-elsewhere g c = λ w h. (falls g (goal.at.returns-then-max-rank-clause-elsewhere g c).After-set_rank w h).kept
+returns-then-max-rank-clause-elsewhere g c =
+    λ w h. (falls g (goal.at.returns-then-max-rank-clause-elsewhere g c).After-set_rank w h).kept
 
 pub returns-then-below-max-clause-elsewhere : goal.returns-then-below-max-clause-elsewhere
 returns-then-below-max-clause-elsewhere g c = λ w h.
@@ -204,9 +233,9 @@ returns-then-below-max-clause-elsewhere g c = λ w h.
       arith,
       s,
       s.fits,
-      read_low g
-          (goal.at.returns-then-below-max-clause-elsewhere g c).After-rank_at-low_right w s,
+      read_low g (goal.at.returns-then-below-max-clause-elsewhere g c).After-rank_at-low_right w s,
     )))
 
 pub returns-clause-elsewhere : goal.returns-clause-elsewhere
-returns-clause-elsewhere g c = λ w h. (both_fall g (goal.at.returns-clause-elsewhere g c).After-set_rank-3 w h).kept
+returns-clause-elsewhere g c =
+    λ w h. (both_fall g (goal.at.returns-clause-elsewhere g c).After-set_rank-3 w h).kept

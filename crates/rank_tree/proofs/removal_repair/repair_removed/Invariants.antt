@@ -7,13 +7,15 @@ use Rattle.rank_tree.proofs.removal_repair.repair_removed.Given as goal
 abbrev pub invariant-climb : goal.invariant-climb
 invariant-climb g l =
     ((w : List ℕ)
-    → Pending (g.K.Knots.knots l.initial.knots) (option_map g.P.Inx.PtrInxCore.number l.initial.root)
+    → Pending (g.K.Knots.knots l.initial.knots)
+    (option_map g.P.Inx.PtrInxCore.number l.initial.root)
     (option_map g.P.Inx.PtrInxCore.number l.initial.at) w
     → Pending (g.K.Knots.knots l.knots) (option_map g.P.Inx.PtrInxCore.number l.root)
     (option_map g.P.Inx.PtrInxCore.number l.at) w)
     × (g.K.Knots.rest l.knots ≡ g.K.Knots.rest l.initial.knots)
     × ((w : List ℕ)
-    → Pending (g.K.Knots.knots l.initial.knots) (option_map g.P.Inx.PtrInxCore.number l.initial.root)
+    → Pending (g.K.Knots.knots l.initial.knots)
+    (option_map g.P.Inx.PtrInxCore.number l.initial.root)
     (option_map g.P.Inx.PtrInxCore.number l.initial.at) w
     → KeptOff w (g.K.Knots.knots l.initial.knots) (g.K.Knots.knots l.knots))
 

@@ -9,23 +9,31 @@ use Rattle.rank_tree.proofs.removal_repair.shorten.Goals as goal
 
 -- the node turns up
 once : (g : _) (c : After-turn g) (w : List ℕ)
-    (h : Short (g.K.Knots.knots c.args.knots.now) (option_map g.P.Inx.PtrInxCore.number c.args.root.now)
+    (h : Short (g.K.Knots.knots c.args.knots.now)
+    (option_map g.P.Inx.PtrInxCore.number c.args.root.now)
     (g.P.Inx.PtrInxCore.number c.args.low) w)
-    → Turns (g.K.Knots.knots c.args.knots.now) (option_map g.P.Inx.PtrInxCore.number c.args.root.now)
-    (g.P.Inx.PtrInxCore.number c.args.low) c.look_around-near.result.high_rank (c.look_around-near.result.inner_rank + 1) w (λ m r. Restored m r w)
+    → Turns (g.K.Knots.knots c.args.knots.now)
+    (option_map g.P.Inx.PtrInxCore.number c.args.root.now)
+    (g.P.Inx.PtrInxCore.number c.args.low) c.look_around-near.result.high_rank
+    (c.look_around-near.result.inner_rank + 1) w (λ m r. Restored m r w)
 once g c w h =
     let r = c.look_around-near.ensures _ h.spot in
     short_once _ _ _ _ _ w h (omega arith) r.high_rank_is (ap (λ z. z + 1) r.inner_rank_is)
 
 -- the inner child turns up, twice
 twice : (g : _) (c : In-Some g) (w : List ℕ)
-    → Short (g.K.Knots.knots c.args.knots.now) (option_map g.P.Inx.PtrInxCore.number c.args.root.now)
+    → Short (g.K.Knots.knots c.args.knots.now)
+    (option_map g.P.Inx.PtrInxCore.number c.args.root.now)
     (g.P.Inx.PtrInxCore.number c.args.low) w
-    → TurnsTwice (g.K.Knots.knots c.args.knots.now) (option_map g.P.Inx.PtrInxCore.number c.args.root.now)
-    (g.P.Inx.PtrInxCore.number c.in-Some.middle) c.look_around-near.result.high_rank (c.look_around-near.result.high_rank - 2) w
+    → TurnsTwice (g.K.Knots.knots c.args.knots.now)
+    (option_map g.P.Inx.PtrInxCore.number c.args.root.now)
+    (g.P.Inx.PtrInxCore.number c.in-Some.middle) c.look_around-near.result.high_rank
+    (c.look_around-near.result.high_rank - 2) w
 twice g c w h =
     let r = c.look_around-near.ensures _ h.spot in
-    short_twice _ _ _ _ _ _ w h (sym r.inner_is ∙ ap (option_map g.P.Inx.PtrInxCore.number) c.in-Some.is) (omega arith) r.high_rank_is
+    short_twice _ _ _ _ _ _ w h
+    (sym r.inner_is ∙ ap (option_map g.P.Inx.PtrInxCore.number) c.in-Some.is) (omega arith)
+    r.high_rank_is
     (ap (λ z. z - 2) r.high_rank_is)
 
 pub overflow_add-near : goal.overflow_add-near
@@ -42,7 +50,8 @@ pub unreached-unreachable-requires : goal.unreached-unreachable-requires
 unreached-unreachable-requires g c =
     let h = c.requires.short.1 in
     let r = c.look_around-near.ensures _ h.spot in
-    root-some h.spot.inner (omega (arith, h, h.fits, r)) (sym r.inner_is ∙ ap (option_map g.P.Inx.PtrInxCore.number) c.in_default.is)
+    root-some h.spot.inner (omega (arith, h, h.fits, r))
+    (sym r.inner_is ∙ ap (option_map g.P.Inx.PtrInxCore.number) c.in_default.is)
 
 pub overflow_sub-rank : goal.overflow_sub-rank
 overflow_sub-rank g c =
@@ -50,7 +59,8 @@ overflow_sub-rank g c =
     omega (arith, h, c.look_around-near.ensures _ h.spot)
 
 pub turn-requires-else-near-clause-spot : goal.turn-requires-else-near-clause-spot
-turn-requires-else-near-clause-spot g c = (twice g (goal.at.turn-requires-else-near-clause-spot g c).In-Some _ c.requires.short.1).spot
+turn-requires-else-near-clause-spot g c =
+    (twice g (goal.at.turn-requires-else-near-clause-spot g c).In-Some _ c.requires.short.1).spot
 
 pub overflow_sub-rank-else-near : goal.overflow_sub-rank-else-near
 overflow_sub-rank-else-near g c =
@@ -59,7 +69,8 @@ overflow_sub-rank-else-near g c =
 
 pub turn-requires-else-near-2-clause-spot : goal.turn-requires-else-near-2-clause-spot
 turn-requires-else-near-2-clause-spot g c =
-    let one = twice g (goal.at.turn-requires-else-near-2-clause-spot g c).In-Some _ c.requires.short.1 in
+    let one = twice g (goal.at.turn-requires-else-near-2-clause-spot g c).In-Some _
+    c.requires.short.1 in
     (one.after _ _ (c.turn-else-near.ensures.does one.spot)).spot
 
 pub returns-then-near-clause-does : goal.returns-then-near-clause-does

@@ -2,8 +2,9 @@ use Rattle.std.proofs.Common.{◌∙◌, ◌++◌, refl}
 use Rattle.std.proofs.KnownBytes.{Appends-trans}
 use Rattle.std.proofs.lemmas.Result.{on_err_weaker, on_ok_weaker}
 use Rattle.route_lines.specs.Reply.{stop_line}
-use Rattle.route_lines.proofs.WrittenLemmas.{on_err}
-use Rattle.route_book.proofs.ListedLemmas.{none_yet, line_more, broken_off, broken_off_last, written_last}
+use Rattle.route_lines.specs.WrittenLaws.{on_err}
+use Rattle.route_book.proofs.ListedLemmas.{none_yet, line_more, broken_off, broken_off_last}
+use Rattle.route_book.proofs.ListedLemmas.{written_last}
 use Rattle.route_book.proofs.answer.write_stops.Goals as goal
 
 pub loop-ticket-init : goal.loop-ticket-init
@@ -15,7 +16,9 @@ loop-ticket-init g c = record {
 pub returns-in_err-make_room-clause-err : goal.returns-in_err-make_room-clause-err
 returns-in_err-make_room-clause-err g c =
     let before = c.loop-ticket.invariant.gathered in
-    on_err c.from_residual.result (broken_off stop_line _ _ _ c.args.stops c.loop-ticket.stops before.0 _ before.1 before.2 c.in_err-make_room.ensures.err)
+    on_err c.from_residual.result
+    (broken_off stop_line _ _ _ c.args.stops c.loop-ticket.stops before.0 _ before.1 before.2
+    c.in_err-make_room.ensures.err)
 
 pub loop-ticket-preserved : goal.loop-ticket-preserved
 loop-ticket-preserved g c =
@@ -24,7 +27,8 @@ loop-ticket-preserved g c =
     record {
       gathered = (
         before.0 ++ room.0,
-        line_more stop_line c.args.stops c.loop-ticket.stops c.next.new.self _ before.0 _ room.0 _ _ before.1 c.in-Some.ensures.steps room.1 c.push_stop.ensures,
+        line_more stop_line c.args.stops c.loop-ticket.stops c.next.new.self _ before.0 _ room.0 _ _
+            before.1 c.in-Some.ensures.steps room.1 c.push_stop.ensures,
         Appends-trans _ _ _ _ _ before.2 room.2,
       );
       failed = c.in_ok-make_room.ensures.ok_failed ∙ c.loop-ticket.invariant.failed;
@@ -33,14 +37,18 @@ loop-ticket-preserved g c =
 pub returns-in_err-make_room-2-clause-err : goal.returns-in_err-make_room-2-clause-err
 returns-in_err-make_room-2-clause-err g c =
     let before = c.loop-ticket.invariant.gathered in
-    on_err c.from_residual-in_err-make_room-2.result (broken_off stop_line _ _ _ c.args.stops c.loop-ticket.stops before.0 _ before.1 before.2 c.in_err-make_room-2.ensures.err)
+    on_err c.from_residual-in_err-make_room-2.result
+    (broken_off stop_line _ _ _ c.args.stops c.loop-ticket.stops before.0 _ before.1 before.2
+    c.in_err-make_room-2.ensures.err)
 
 pub returns-clause-err : goal.returns-clause-err
 returns-clause-err g c =
     let before = c.loop-ticket.invariant.gathered in
     let room = c.in_ok-make_room-2.ensures.ok in
     on_err_weaker c.send.result
-    (broken_off_last stop_line _ _ _ _ c.args.stops c.loop-ticket.stops before.0 _ room.0 _ _ before.1 c.in_default.ensures.steps.0 room.1 (c.as_slice.ensures ∙ c.push_line.ensures) before.2
+    (broken_off_last stop_line _ _ _ _ c.args.stops c.loop-ticket.stops before.0 _ room.0 _ _
+    before.1 c.in_default.ensures.steps.0 room.1 (c.as_slice.ensures ∙ c.push_line.ensures)
+    before.2
     room.2) c.send.ensures.err
 
 pub returns-clause-ok : goal.returns-clause-ok
@@ -48,5 +56,7 @@ returns-clause-ok g c =
     let before = c.loop-ticket.invariant.gathered in
     let room = c.in_ok-make_room-2.ensures.ok in
     on_ok_weaker c.send.result
-    (written_last stop_line _ _ _ _ c.args.stops c.loop-ticket.stops before.0 _ room.0 _ _ before.1 c.in_default.ensures.steps.0 room.1 (c.as_slice.ensures ∙ c.push_line.ensures) before.2 room.2)
+    (written_last stop_line _ _ _ _ c.args.stops c.loop-ticket.stops before.0 _ room.0 _ _ before.1
+    c.in_default.ensures.steps.0 room.1 (c.as_slice.ensures ∙ c.push_line.ensures) before.2
+    room.2)
     c.send.ensures.ok

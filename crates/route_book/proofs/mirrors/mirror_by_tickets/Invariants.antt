@@ -9,8 +9,10 @@ abbrev pub invariant-loop-p : goal.invariant-loop-p
 invariant-loop-p g l =
     record {
       rises : (g.A.ArenaTrait.walk l.walk).falls ≡ false;
-      reaches : (j : ℕ) → IsSome (g.A.ArenaTrait.entry_at l.arena j) → j ≤ (g.A.ArenaTrait.walk l.walk).high;
-      mirrored : IsMirrored g.T.Ticketed.ticket_of l.book.entries (g.A.ArenaTrait.entry_at l.arena) (g.A.ArenaTrait.walk l.walk).low
+      reaches : (j : ℕ) → IsSome (g.A.ArenaTrait.entry_at l.arena j)
+          → j ≤ (g.A.ArenaTrait.walk l.walk).high;
+      mirrored : IsMirrored g.T.Ticketed.ticket_of l.book.entries (g.A.ArenaTrait.entry_at l.arena)
+          (g.A.ArenaTrait.walk l.walk).low
           (numbers g.P.PtrCore.index g.P.PtrCore.generation (entry_at l.mirror));
       room : l.mirror.room ≡ l.fn.mirror.room;
     }

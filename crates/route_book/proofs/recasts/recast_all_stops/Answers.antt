@@ -3,4 +3,6 @@ use Rattle.triple_arena_chain.specs.LinkLaws.{ends-with_value_in}
 use Rattle.route_book.proofs.recasts.recast_all_stops.Goals as goal
 
 pub returns-clause-ends : goal.returns-clause-ends
-returns-clause-ends g c = λ j. c.recast_stops.ensures.kept (λ s. ends_in g.P.Inx.PtrInxCore.number s j) (λ s i t. ends-with_value_in g.P.Inx.PtrInxCore.number s i t j)
+returns-clause-ends g c =
+    λ j. c.recast_stops.ensures.kept (λ s. ends_in g.P.Inx.PtrInxCore.number s j)
+    (λ s i t. ends-with_value_in g.P.Inx.PtrInxCore.number s i t j)

@@ -8,8 +8,8 @@ use Rattle.route_lines.specs.Run.{Carries}
 use Rattle.route_lines.specs.Searches.{CountsFor, LooksWithin}
 use Rattle.route_lines.specs.Text.{unended, unended_line}
 use Rattle.route_lines.specs.declared.counts.Counts.{Counts}
-use Rattle.route_lines.proofs.RunLemmas.{Carries-one}
-use Rattle.route_lines.proofs.WrittenLemmas.{on_err}
+use Rattle.route_lines.specs.RunLaws.{Carries-one}
+use Rattle.route_lines.specs.WrittenLaws.{on_err}
 use Rattle.route_book.proofs.running.end.Goals as goal
 
 -- a rest that is not empty is answered as a line that spells no command
@@ -30,6 +30,8 @@ pub returns-clause-err : goal.returns-clause-err
 returns-clause-err g c =
     let done = c.in_ok-carry_out.ensures in
     on_err c.flush-2.result (λ line stands.
-    let some : line ≡ [] → ⊥ = λ none. true≢false (sym ((c.is_empty.ensures.is line stands).1 none) ∙ c.if-is_empty.false) in
+    let some : line ≡ [] → ⊥ =
+    λ none. true≢false (sym ((c.is_empty.ensures.is line stands).1 none) ∙ c.if-is_empty.false)
+    in
     inr (rest_answered _ _ line _ _ _ _ _ some done.state done.ok c.flush-2.ensures.bytes
     done.counts done.steps.1))

@@ -1,5 +1,6 @@
 //! Callers that know a stack by its bound alone. None of them needs a proof file.
-ghost use Rattle.std.specs.Prelude.{◌≡◌, ◌≤◌, ◌↔◌, Some, length, IsTrue, OnOk, OnErr, false, [], ◌∷◌, ◌++◌};
+ghost use Rattle.std.specs.Prelude.{◌≡◌, ◌≤◌, ◌↔◌, Some, length, IsTrue, OnOk, OnErr, false, []};
+ghost use Rattle.std.specs.Prelude.{◌∷◌, ◌++◌};
 ghost use Rattle.std.specs.Int.NonZero.{non_zero_usize_get};
 ghost use Rattle.triple_arena_stack.specs.Room.{limited};
 ghost use Rattle.triple_arena_stack.specs.Stack.{item_at, with_item};

@@ -14,11 +14,15 @@ invariant-loop-p g l =
           → entry_in l.arena j
           ≡ option_map (λ e. (
             e.0,
-            renewed_entry (numbers g.P.PtrCore.index g.P.PtrCore.generation (g.M.ArenaTrait.entry_at l.places))
-                (numbers g.P.PtrCore.index g.P.PtrCore.generation (g.N.ArenaTrait.entry_at l.stops)) (numbers g.P.PtrCore.index g.P.PtrCore.generation (g.O.ArenaTrait.entry_at l.marks)) e.1,
+            renewed_entry (numbers g.P.PtrCore.index g.P.PtrCore.generation
+                (g.M.ArenaTrait.entry_at l.places))
+                (numbers g.P.PtrCore.index g.P.PtrCore.generation (g.N.ArenaTrait.entry_at l.stops))
+                (numbers g.P.PtrCore.index g.P.PtrCore.generation
+                (g.O.ArenaTrait.entry_at l.marks)) e.1,
           )) (entry_in l.fn.arena j);
       ahead : (j : ℕ) → l.walk.low ≤ j → entry_in l.arena j ≡ entry_in l.fn.arena j;
-      order : order_in g.P.Inx.PtrInxCore.number l.arena ≡ order_in g.P.Inx.PtrInxCore.number l.fn.arena;
+      order : order_in g.P.Inx.PtrInxCore.number l.arena
+          ≡ order_in g.P.Inx.PtrInxCore.number l.fn.arena;
       room : l.arena.chains.room ≡ l.fn.arena.chains.room;
       ordered : IsOrdered g.P.Inx.PtrInxCore.number l.arena;
     }

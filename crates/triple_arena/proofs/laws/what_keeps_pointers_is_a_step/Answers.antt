@@ -7,12 +7,16 @@ use Rattle.std.proofs.Common.{Some}
 use Rattle.triple_arena.proofs.laws.what_keeps_pointers_is_a_step.Goals as goal
 
 pub returns-clause-recast : goal.returns-clause-recast
-returns-clause-recast g c items image recasted arena = (generation-recasted items image recasted arena, refl)
+returns-clause-recast g c items image recasted arena =
+    (generation-recasted items image recasted arena, refl)
 
 pub returns-clause-free_end : goal.returns-clause-free_end
-returns-clause-free_end g c arena = (λ j. ap (option_map (λ entry. entry.0)) (entry-without_free_end arena j), refl)
+returns-clause-free_end g c arena =
+    (λ j. ap (option_map (λ entry. entry.0)) (entry-without_free_end arena j), refl)
 
 pub returns-clause-limit : goal.returns-clause-limit
 returns-clause-limit g c arena max =
-    let greatest = g.P.Inx.PtrInxCore.greatest in
-    (λ j. ap (option_map (λ entry. entry.0)) (entry-with_limit greatest arena max j), ap Some (counter-with_limit greatest arena max))
+    let greatest = g.P.Inx.PtrInxCore.greatest in (
+      λ j. ap (option_map (λ entry. entry.0)) (entry-with_limit greatest arena max j),
+      ap Some (counter-with_limit greatest arena max),
+    )

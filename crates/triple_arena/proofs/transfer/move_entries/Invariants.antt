@@ -6,7 +6,8 @@ use Rattle.triple_arena.proofs.transfer.move_entries.Given as goal
 abbrev pub invariant-loop-at : goal.invariant-loop-at
 invariant-loop-at g l =
     goal.F-IsAlwaysCallable g l.map
-    × Partly g.Q.PtrCore.index g.Q.PtrCore.generation g.P.PtrCore.index g.P.PtrCore.generation (goal.F-step g) l.fn.map g.Q.Gen.PtrGenCore.last
+    × Partly g.Q.PtrCore.index g.Q.PtrCore.generation g.P.PtrCore.index g.P.PtrCore.generation
+    (goal.F-step g) l.fn.map g.Q.Gen.PtrGenCore.last
     (option_map g.Q.Gen.PtrGenCore.number l.fn.counter) (g.P.Gen.PtrGenCore.number l.generation)
     (map g.K.EntrySlot.entry (g.R.NonZeroInxGenericStack.items l.fn.from)) l.map
     (map g.K.EntrySlot.entry (g.R.NonZeroInxGenericStack.items l.from))

@@ -3,8 +3,10 @@ use Rattle.triple_arena_chain.proofs.laws.removals_take_insertions_back.Goals as
 
 pub returns-clause-after : goal.returns-clause-after
 returns-clause-after g c before between after p i n t chained formed there placed taken =
-    restored_after g.P.PtrCore.index g.P.PtrCore.generation g.P.Inx.PtrInxCore.number before between after p i n t g.P.Gen.PtrGenCore.last chained formed there placed taken
+    restored_after g.P.PtrCore.index g.P.PtrCore.generation g.P.Inx.PtrInxCore.number before between
+    after p i n t g.P.Gen.PtrGenCore.last chained formed there placed taken
 
 pub returns-clause-before : goal.returns-clause-before
 returns-clause-before g c before between after p i n t chained formed there placed taken =
-    restored_before g.P.PtrCore.index g.P.PtrCore.generation g.P.Inx.PtrInxCore.number before between after p i n t g.P.Gen.PtrGenCore.last chained formed there placed taken
+    restored_before g.P.PtrCore.index g.P.PtrCore.generation g.P.Inx.PtrInxCore.number before
+    between after p i n t g.P.Gen.PtrGenCore.last chained formed there placed taken

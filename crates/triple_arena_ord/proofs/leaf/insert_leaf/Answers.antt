@@ -5,22 +5,34 @@ use Rattle.triple_arena_chain.specs.Links.{IsPlaced}
 use Rattle.triple_arena_ord.proofs.RestLemmas.{rested}
 use Rattle.triple_arena_ord.proofs.LeafLemmas.{Cut, Linked, Leaf, cut_found}
 use Rattle.triple_arena_ord.proofs.LeafLemmas.{leaf_slot, leaf_gap, leaf_works}
-use Rattle.triple_arena_ord.proofs.leaf.insert_leaf.Goals.{After-gap_beside-prev, After-inx, After-bring_in}
+use Rattle.triple_arena_ord.proofs.leaf.insert_leaf.Goals.{After-gap_beside-prev, After-inx}
+use Rattle.triple_arena_ord.proofs.leaf.insert_leaf.Goals.{After-bring_in}
 use Rattle.triple_arena_ord.proofs.leaf.insert_leaf.Goals as goal
 
 -- the list is cut beside the holder
 cut : (g : _) (c : After-gap_beside-prev g)
-    → Cut g.P.Inx.PtrInxCore.number (record { chains = c.args.chains.now; root = option_map g.P.Inx.PtrInxCore.number c.args.root.now })
-    (g.P.Inx.PtrInxCore.number c.args.holder) c.args.side (option_map g.P.Inx.PtrInxCore.number c.gap_beside-prev.result.0)
+    → Cut g.P.Inx.PtrInxCore.number
+    (record {
+      chains = c.args.chains.now;
+      root = option_map g.P.Inx.PtrInxCore.number c.args.root.now;
+    })
+    (g.P.Inx.PtrInxCore.number c.args.holder) c.args.side
+    (option_map g.P.Inx.PtrInxCore.number c.gap_beside-prev.result.0)
     (option_map g.P.Inx.PtrInxCore.number c.gap_beside-prev.result.1)
 cut g c =
-    cut_found g.P.Inx.PtrInxCore.number _ c.requires.ordered _ _ _ _ c.requires.lives c.requires.free
+    cut_found g.P.Inx.PtrInxCore.number _ c.requires.ordered _ _ _ _ c.requires.lives
+    c.requires.free
     c.gap_beside-prev.ensures.prev c.gap_beside-prev.ensures.next
 
 -- the chain has one more link there
 linked : (g : _) (c : After-inx g)
-    → Linked g.P.Inx.PtrInxCore.number (record { chains = c.args.chains.now; root = option_map g.P.Inx.PtrInxCore.number c.args.root.now })
-    c.insert_in_gap_within_capacity.new.self (g.P.Inx.PtrInxCore.number c.args.holder) (g.P.Inx.PtrInxCore.number c.inx.result)
+    → Linked g.P.Inx.PtrInxCore.number
+    (record {
+      chains = c.args.chains.now;
+      root = option_map g.P.Inx.PtrInxCore.number c.args.root.now;
+    })
+    c.insert_in_gap_within_capacity.new.self (g.P.Inx.PtrInxCore.number c.args.holder)
+    (g.P.Inx.PtrInxCore.number c.inx.result)
     (g.P.PtrCore.index c.in-Ok.p) (g.P.PtrCore.generation c.in-Ok.p) c.args.side
     (record { t = c.args.t; p_back = Some c.args.holder; p_tree0 = None; p_tree1 = None; rank = 1 })
 linked g c =
@@ -32,23 +44,30 @@ linked g c =
       prev = option_map g.P.Inx.PtrInxCore.number c.gap_beside-prev.result.0;
       next = option_map g.P.Inx.PtrInxCore.number c.gap_beside-prev.result.1;
       cut = cut g (goal.at.After-inx g c).After-gap_beside-prev;
-      placed = subst (λ n. IsPlaced g.P.Inx.PtrInxCore.number (Between (option_map g.P.Inx.PtrInxCore.number c.gap_beside-prev.result.0)
-          (option_map g.P.Inx.PtrInxCore.number c.gap_beside-prev.result.1)) (g.P.PtrCore.index c.in-Ok.p) (g.P.PtrCore.generation c.in-Ok.p) n
-          c.args.chains.now c.insert_in_gap_within_capacity.new.self) c.under-node.ensures c.in-Ok.ensures.placed;
+      placed = subst (λ n. IsPlaced g.P.Inx.PtrInxCore.number
+          (Between (option_map g.P.Inx.PtrInxCore.number c.gap_beside-prev.result.0)
+          (option_map g.P.Inx.PtrInxCore.number c.gap_beside-prev.result.1))
+          (g.P.PtrCore.index c.in-Ok.p) (g.P.PtrCore.generation c.in-Ok.p) n
+          c.args.chains.now c.insert_in_gap_within_capacity.new.self) c.under-node.ensures
+          c.in-Ok.ensures.placed;
       index_is = c.inx.ensures;
       small = omega arith;
     }
 
 -- and the tree one more leaf
 leaf : (g : _) (c : After-bring_in g)
-    → Leaf g.P.Inx.PtrInxCore.number (linked g (goal.at.After-bring_in g c).After-inx) c.bring_in.new.knots
+    → Leaf g.P.Inx.PtrInxCore.number (linked g (goal.at.After-bring_in g c).After-inx)
+    c.bring_in.new.knots
     (option_map g.P.Inx.PtrInxCore.number c.bring_in.new.root)
 leaf g c =
     let link = linked g (goal.at.After-bring_in g c).After-inx in
-    leaf_works g.P.Inx.PtrInxCore.number link _ _ (c.bring_in.ensures.does (leaf_gap g.P.Inx.PtrInxCore.number link)) c.bring_in.ensures.keeps
+    leaf_works g.P.Inx.PtrInxCore.number link _ _
+    (c.bring_in.ensures.does (leaf_gap g.P.Inx.PtrInxCore.number link)) c.bring_in.ensures.keeps
 
 pub bring_in-requires-clause-gap : goal.bring_in-requires-clause-gap
-bring_in-requires-clause-gap g c = leaf_gap g.P.Inx.PtrInxCore.number (linked g (goal.at.bring_in-requires-clause-gap g c).After-inx)
+bring_in-requires-clause-gap g c =
+    leaf_gap g.P.Inx.PtrInxCore.number
+    (linked g (goal.at.bring_in-requires-clause-gap g c).After-inx)
 
 pub bring_in-requires-clause-slot : goal.bring_in-requires-clause-slot
 bring_in-requires-clause-slot g c =
@@ -66,10 +85,12 @@ returns-clause-added g c = (leaf g (goal.at.returns-clause-added g c).After-brin
 
 pub returns-clause-counter : goal.returns-clause-counter
 returns-clause-counter g c =
-    (rested g.P.Inx.PtrInxCore.number c.insert_in_gap_within_capacity.new.self c.bring_in.new.knots c.bring_in.ensures.keeps).kept.counter
+    (rested g.P.Inx.PtrInxCore.number c.insert_in_gap_within_capacity.new.self c.bring_in.new.knots
+    c.bring_in.ensures.keeps).kept.counter
     ∙ c.in-Ok.ensures.placed.counter
 
 pub returns-clause-room : goal.returns-clause-room
 returns-clause-room g c =
-    (rested g.P.Inx.PtrInxCore.number c.insert_in_gap_within_capacity.new.self c.bring_in.new.knots c.bring_in.ensures.keeps).kept.room
+    (rested g.P.Inx.PtrInxCore.number c.insert_in_gap_within_capacity.new.self c.bring_in.new.knots
+    c.bring_in.ensures.keeps).kept.room
     ∙ c.in-Ok.ensures.room

@@ -3,14 +3,16 @@ use Rattle.std.specs.Option.{option_map}
 use Rattle.triple_arena_ord.specs.Node.{items_in}
 use Rattle.triple_arena_ord.specs.Near.{asked_in}
 use Rattle.triple_arena_ord.proofs.NearLemmas.{walking_begins}
-use Rattle.triple_arena_ord.proofs.WalkLemmas.{link_seen, none_seen, walk_lives, walk_step, walk_stops, walk_ended, walk_on, walk_passes}
+use Rattle.triple_arena_ord.proofs.WalkLemmas.{link_seen, none_seen, walk_lives, walk_step}
+use Rattle.triple_arena_ord.proofs.WalkLemmas.{walk_stops, walk_ended, walk_on, walk_passes}
 use Rattle.triple_arena_ord.proofs.list_searches.walk_from.Goals as goal
 
 pub along-init : goal.along-init
 along-init g c = (
   omega arith,
   λ w linear on.
-      walking_begins (asked_in g.T.Key.Ord.cmp g.T.SimpleOrdItem.key_of c.args.k.now (items_in (g.A.Links.links c.args.arena.now))) w
+      walking_begins (asked_in g.T.Key.Ord.cmp g.T.SimpleOrdItem.key_of c.args.k.now
+      (items_in (g.A.Links.links c.args.arena.now))) w
       (g.P.Inx.PtrInxCore.number c.args.start) on,
 )
 
@@ -18,17 +20,21 @@ pub unreached-unreachable-requires : goal.unreached-unreachable-requires
 unreached-unreachable-requires g c =
     let number = g.P.Inx.PtrInxCore.number in
     let links = g.A.Links.links c.args.arena.now in
-    walk_lives number g.T.Key.Ord.cmp g.T.SimpleOrdItem.key_of c.args.k.now links c.requires.place.0 (number c.args.start) _ c.requires.place.1 c.along.way (number c.along.i) c.along._made
+    walk_lives number g.T.Key.Ord.cmp g.T.SimpleOrdItem.key_of c.args.k.now links c.requires.place.0
+    (number c.args.start) _ c.requires.place.1 c.along.way (number c.along.i) c.along._made
     (c.along.invariant.1 c.requires.place.0 c.requires.place.1 c.requires.place.2)
-    (none_seen g.P.Gen.PtrGenCore.number (λ b. b.now) links (number c.along.i) _ c.in-None.is c.link_entry.ensures)
+    (none_seen g.P.Gen.PtrGenCore.number (λ b. b.now) links (number c.along.i) _ c.in-None.is
+    c.link_entry.ensures)
 
 pub returns-in-None-onward-clause-stops : goal.returns-in-None-onward-clause-stops
 returns-in-None-onward-clause-stops g c = λ w linear on.
     let number = g.P.Inx.PtrInxCore.number in
     let links = g.A.Links.links c.args.arena.now in
-    walk_stops number g.T.Key.Ord.cmp g.T.SimpleOrdItem.key_of c.args.k.now links w (number c.args.start) _ linear c.along.way (number c.along.i) c.along._made
+    walk_stops number g.T.Key.Ord.cmp g.T.SimpleOrdItem.key_of c.args.k.now links w
+    (number c.args.start) _ linear c.along.way (number c.along.i) c.along._made
     (c.along.invariant.1 w linear on) _ c.in-Some.link.now
-    (link_seen g.P.Gen.PtrGenCore.number (λ b. b.now) links (number c.along.i) _ _ c.in-Some.link c.in-Some.is c.link_entry.ensures)
+    (link_seen g.P.Gen.PtrGenCore.number (λ b. b.now) links (number c.along.i) _ _ c.in-Some.link
+    c.in-Some.is c.link_entry.ensures)
     c.cmp-answer.result (c.cmp-answer.ensures ∙ ap (g.T.Key.Ord.cmp c.args.k.now) c.key.ensures)
     (sym c.onward.ensures ∙ ap (option_map number) c.in-None-onward.is)
 
@@ -36,9 +42,11 @@ pub returns-in-None-onward-clause-walked : goal.returns-in-None-onward-clause-wa
 returns-in-None-onward-clause-walked g c = λ w linear on.
     let number = g.P.Inx.PtrInxCore.number in
     let links = g.A.Links.links c.args.arena.now in
-    let there = walk_ended number g.T.Key.Ord.cmp g.T.SimpleOrdItem.key_of c.args.k.now links w (number c.args.start) _ linear c.along.way (number c.along.i) c.along._made
+    let there = walk_ended number g.T.Key.Ord.cmp g.T.SimpleOrdItem.key_of c.args.k.now links w
+    (number c.args.start) _ linear c.along.way (number c.along.i) c.along._made
     (c.along.invariant.1 w linear on) _ c.in-Some.link.now
-    (link_seen g.P.Gen.PtrGenCore.number (λ b. b.now) links (number c.along.i) _ _ c.in-Some.link c.in-Some.is c.link_entry.ensures)
+    (link_seen g.P.Gen.PtrGenCore.number (λ b. b.now) links (number c.along.i) _ _ c.in-Some.link
+    c.in-Some.is c.link_entry.ensures)
     c.cmp-answer.result (c.cmp-answer.ensures ∙ ap (g.T.Key.Ord.cmp c.args.k.now) c.key.ensures)
     (sym c.onward.ensures ∙ ap (option_map number) c.in-None-onward.is) in
     let many = there.1 in
@@ -53,25 +61,32 @@ along-preserved g c =
     let ticked = c.tick.ensures in (
       omega (arith, ticks, ticked),
       λ w linear on.
-          walk_step number g.T.Key.Ord.cmp g.T.SimpleOrdItem.key_of c.args.k.now links w (number c.args.start) _ linear c.along.way (number c.along.i) c.along._made
+          walk_step number g.T.Key.Ord.cmp g.T.SimpleOrdItem.key_of c.args.k.now links w
+          (number c.args.start) _ linear c.along.way (number c.along.i) c.along._made
           (c.along.invariant.1 w linear on) _ c.in-Some.link.now
-          (link_seen g.P.Gen.PtrGenCore.number (λ b. b.now) links (number c.along.i) _ _ c.in-Some.link c.in-Some.is c.link_entry.ensures)
-          c.cmp-answer.result (c.cmp-answer.ensures ∙ ap (g.T.Key.Ord.cmp c.args.k.now) c.key.ensures)
-          (number c.in-Some-onward.next) (sym c.onward.ensures ∙ ap (option_map number) c.in-Some-onward.is),
+          (link_seen g.P.Gen.PtrGenCore.number (λ b. b.now) links (number c.along.i) _ _
+          c.in-Some.link c.in-Some.is c.link_entry.ensures)
+          c.cmp-answer.result (c.cmp-answer.ensures
+          ∙ ap (g.T.Key.Ord.cmp c.args.k.now) c.key.ensures)
+          (number c.in-Some-onward.next)
+          (sym c.onward.ensures ∙ ap (option_map number) c.in-Some-onward.is),
     )
 
 pub returns-clause-near : goal.returns-clause-near
 returns-clause-near g c = λ w linear on parted hand none.
     let number = g.P.Inx.PtrInxCore.number in
     let links = g.A.Links.links c.args.arena.now in
-    walk_passes number g.T.Key.Ord.cmp g.T.SimpleOrdItem.key_of c.args.k.now links w (number c.args.start) _ linear on c.along.way (number c.along.i) c.along._made c.args.num (omega arith)
+    walk_passes number g.T.Key.Ord.cmp g.T.SimpleOrdItem.key_of c.args.k.now links w
+    (number c.args.start) _ linear on c.along.way (number c.along.i) c.along._made c.args.num
+    (omega arith)
     (c.along.invariant.1 w linear on) parted hand
 
 pub returns-clause-walked : goal.returns-clause-walked
 returns-clause-walked g c = λ w linear on.
     let number = g.P.Inx.PtrInxCore.number in
     let links = g.A.Links.links c.args.arena.now in
-    let more = walk_on number g.T.Key.Ord.cmp g.T.SimpleOrdItem.key_of c.args.k.now links w (number c.args.start) _ linear c.along.way (number c.along.i) c.along._made
+    let more = walk_on number g.T.Key.Ord.cmp g.T.SimpleOrdItem.key_of c.args.k.now links w
+    (number c.args.start) _ linear c.along.way (number c.along.i) c.along._made
     (c.along.invariant.1 w linear on) in
     let ticks = c.along.invariant.0 in
     (omega (arith, more), omega (arith, ticks))

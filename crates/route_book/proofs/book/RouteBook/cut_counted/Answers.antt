@@ -1,7 +1,8 @@
 use Rattle.std.proofs.Common.{refl, sym, subst, true≢false}
 use Rattle.route_lines.specs.Sound.{IsSound}
 use Rattle.route_lines.specs.declared.change.Change.TheVariants.{Cut}
-use Rattle.route_book.proofs.RelinkLemmas.{cut_leaves, parted_links, refused_keeps, relinked_keeps, still_mirrored, told_parted, told_whole}
+use Rattle.route_book.proofs.RelinkLemmas.{cut_leaves, parted_links, refused_keeps, relinked_keeps}
+use Rattle.route_book.proofs.RelinkLemmas.{still_mirrored, told_parted, told_whole}
 use Rattle.route_book.proofs.book.RouteBook.cut_counted.Goals as goal
 
 pub invariant_of-self : goal.invariant_of-self
@@ -11,13 +12,20 @@ invariant_of-self g c =
     let law = c.cuts_part_one_stop.ensures in
     let stay = c.stops_stay_as_routes_change.ensures in
     let sound = c.self.invariant.sound in
-    let re = parted_links _ _ _ _ _ _ _ _ c.self.invariant.book _ c.self.view_is c.len.ensures.formed.agreed t _ _ c.in_ok-from.ensures.found _ (c.in-Some.ensures.variant.0 refl)
+    let re = parted_links _ _ _ _ _ _ _ _ c.self.invariant.book _ c.self.view_is
+    c.len.ensures.formed.agreed t _ _ c.in_ok-from.ensures.found _
+    (c.in-Some.ensures.variant.0 refl)
     c.in-Some.ensures.relinked in
     record {
-      book = cut_leaves _ _ _ _ _ _ _ _ c.self.invariant.book _ c.self.view_is c.len.ensures.formed.agreed t _ _ c.in_ok-from.ensures.found _ _ c.changed-self-inside.ensures
-          (c.in-Some.ensures.variant.0 refl) c.in-Some.ensures.relinked (λ ok. law.next s t sound ok) (λ x ok apart. law.others s t x sound ok apart) (λ x. stay.parted s t x sound)
+      book = cut_leaves _ _ _ _ _ _ _ _ c.self.invariant.book _ c.self.view_is
+          c.len.ensures.formed.agreed t _ _ c.in_ok-from.ensures.found _ _
+          c.changed-self-inside.ensures
+          (c.in-Some.ensures.variant.0 refl) c.in-Some.ensures.relinked
+          (λ ok. law.next s t sound ok) (λ x ok apart. law.others s t x sound ok apart)
+          (λ x. stay.parted s t x sound)
           (stay.parted_count s t sound);
-      sound = subst IsSound (sym c.changed-self-inside.ensures) (c.changes_keep_states_sound.ensures.sound s (Cut t) tt sound);
+      sound = subst IsSound (sym c.changed-self-inside.ensures)
+          (c.changes_keep_states_sound.ensures.sound s (Cut t) tt sound);
       counts = c.self.invariant.counts;
       room = c.self.invariant.room;
       place_mirror = c.self.invariant.place_mirror;
@@ -27,23 +35,29 @@ invariant_of-self g c =
 
 pub returns-in-Some-clause-result : goal.returns-in-Some-clause-result
 returns-in-Some-clause-result g c =
-    told_parted _ _ _ _ _ _ _ _ c.self.invariant.book _ c.self.view_is c.len.ensures.formed.agreed c.args.stop _ _ c.in_ok-from.ensures.found (c.in-Some.ensures.variant.0 refl)
+    told_parted _ _ _ _ _ _ _ _ c.self.invariant.book _ c.self.view_is c.len.ensures.formed.agreed
+    c.args.stop _ _ c.in_ok-from.ensures.found (c.in-Some.ensures.variant.0 refl)
 
 pub returns-in-Some-clause-kept : goal.returns-in-Some-clause-kept
 returns-in-Some-clause-kept g c =
-    let re = parted_links _ _ _ _ _ _ _ _ c.self.invariant.book _ c.self.view_is c.len.ensures.formed.agreed c.args.stop _ _ c.in_ok-from.ensures.found _ (c.in-Some.ensures.variant.0 refl)
+    let re = parted_links _ _ _ _ _ _ _ _ c.self.invariant.book _ c.self.view_is
+    c.len.ensures.formed.agreed c.args.stop _ _ c.in_ok-from.ensures.found _
+    (c.in-Some.ensures.variant.0 refl)
     c.in-Some.ensures.relinked in
     relinked_keeps _ _ _ _ _ _ _ _ c.self.invariant.book _ c.self.view_is _ _ _ re.1
 
 pub returns-in-None-clause-result : goal.returns-in-None-clause-result
 returns-in-None-clause-result g c =
-    (told_whole _ _ _ _ _ _ _ _ c.self.invariant.book _ c.self.view_is c.len.ensures.formed.agreed c.args.stop _ _ c.in_ok-from.ensures.found
+    (told_whole _ _ _ _ _ _ _ _ c.self.invariant.book _ c.self.view_is c.len.ensures.formed.agreed
+    c.args.stop _ _ c.in_ok-from.ensures.found
     (λ some. true≢false (sym (c.in-None.ensures.variant.1 some)))).0
 
 pub returns-in-None-clause-state : goal.returns-in-None-clause-state
 returns-in-None-clause-state g c =
-    (told_whole _ _ _ _ _ _ _ _ c.self.invariant.book _ c.self.view_is c.len.ensures.formed.agreed c.args.stop _ _ c.in_ok-from.ensures.found
+    (told_whole _ _ _ _ _ _ _ _ c.self.invariant.book _ c.self.view_is c.len.ensures.formed.agreed
+    c.args.stop _ _ c.in_ok-from.ensures.found
     (λ some. true≢false (sym (c.in-None.ensures.variant.1 some)))).1
 
 pub returns-in-None-clause-kept : goal.returns-in-None-clause-kept
-returns-in-None-clause-kept g c = refused_keeps _ _ _ _ _ _ _ _ c.self.invariant.book _ c.self.view_is _ c.in-None.ensures.none
+returns-in-None-clause-kept g c =
+    refused_keeps _ _ _ _ _ _ _ _ c.self.invariant.book _ c.self.view_is _ c.in-None.ensures.none

@@ -19,21 +19,32 @@ invariant_of-self g c =
     let room = c.self.invariant.room in
     let same = c.add.ensures.capacity in
     record {
-      book = extend_leaves _ _ _ s _ _ _ _ c.self.invariant.book _ c.self.view_is t _ _ c.in_ok-behind.ensures.found pt _ _ c.in_ok-at.ensures.found c.if-is_full_of_stops.ensures.is
+      book = extend_leaves _ _ _ s _ _ _ _ c.self.invariant.book _ c.self.view_is t _ _
+          c.in_ok-behind.ensures.found pt _ _ c.in_ok-at.ensures.found
+          c.if-is_full_of_stops.ensures.is
           c.is_full_of_stops.ensures.chained
-          _ _ _ c.new-new.ensures.ticket c.new-new.ensures.place _ c.in-Ok.ensures.placed c.in-Ok.ensures.room _ _ c.changed-self-inside.ensures c.add.ensures.entries
-          (λ m ok. law.next s t pt m sound ok) (λ m ok. law.new s t pt m sound ok) (λ m x ok apart off. law.others s t pt m x sound ok apart off)
-          (λ m ok. stay.new s t pt m sound ok) (λ m x ok apart. stay.others s t pt m x sound ok apart) (λ m ok. stay.count s t pt m sound ok);
-      sound = subst IsSound (sym c.changed-self-inside.ensures) (c.changes_keep_states_sound.ensures.sound s (Extend t pt) tt sound);
+          _ _ _ c.new-new.ensures.ticket c.new-new.ensures.place _ c.in-Ok.ensures.placed
+          c.in-Ok.ensures.room _ _ c.changed-self-inside.ensures c.add.ensures.entries
+          (λ m ok. law.next s t pt m sound ok) (λ m ok. law.new s t pt m sound ok)
+          (λ m x ok apart off. law.others s t pt m x sound ok apart off)
+          (λ m ok. stay.new s t pt m sound ok)
+          (λ m x ok apart. stay.others s t pt m x sound ok apart)
+          (λ m ok. stay.count s t pt m sound ok);
+      sound = subst IsSound (sym c.changed-self-inside.ensures)
+          (c.changes_keep_states_sound.ensures.sound s (Extend t pt) tt sound);
       counts = c.self.invariant.counts;
       room = omega (arith, room, same);
       place_mirror = c.self.invariant.place_mirror;
-      stop_mirror = roomy c.self.inside.stops c.insert_within_capacity.new.self _ c.in-Ok.ensures.room c.self.invariant.stop_mirror;
+      stop_mirror = roomy c.self.inside.stops c.insert_within_capacity.new.self _
+          c.in-Ok.ensures.room c.self.invariant.stop_mirror;
       mark_mirror = c.self.invariant.mark_mirror;
     }
 
 pub returns-clause-kept : goal.returns-clause-kept
 returns-clause-kept g c =
-    extend_keeps_in _ _ _ _ _ _ _ _ c.self.invariant.book _ c.self.view_is c.args.stop _ _ c.in_ok-behind.ensures.found c.args.place _ _ c.in_ok-at.ensures.found c.if-is_full_of_stops.ensures.is
+    extend_keeps_in _ _ _ _ _ _ _ _ c.self.invariant.book _ c.self.view_is c.args.stop _ _
+    c.in_ok-behind.ensures.found c.args.place _ _ c.in_ok-at.ensures.found
+    c.if-is_full_of_stops.ensures.is
     c.is_full_of_stops.ensures.chained
-    _ _ _ c.new-new.ensures.ticket c.new-new.ensures.place _ c.in-Ok.ensures.placed c.in-Ok.ensures.room _
+    _ _ _ c.new-new.ensures.ticket c.new-new.ensures.place _ c.in-Ok.ensures.placed
+    c.in-Ok.ensures.room _

@@ -20,20 +20,28 @@ invariant_of-self g c =
     let room = c.self.invariant.room in
     let same = c.add.ensures.capacity in
     record {
-      book = mark_leaves _ _ _ s _ _ _ _ c.self.invariant.book _ c.self.view_is pt _ _ c.in_ok-at.ensures.found st _ _ c.in_ok-by.ensures.found c.if-is_full_of_marks.ensures
-          _ _ _ c.new-mark.ensures.ticket c.new-mark.ensures.place c.new-mark.ensures.stop _ put.vacant put.entries _ _ c.changed-self-inside.ensures c.add.ensures.entries put.live
+      book = mark_leaves _ _ _ s _ _ _ _ c.self.invariant.book _ c.self.view_is pt _ _
+          c.in_ok-at.ensures.found st _ _ c.in_ok-by.ensures.found c.if-is_full_of_marks.ensures
+          _ _ _ c.new-mark.ensures.ticket c.new-mark.ensures.place c.new-mark.ensures.stop _
+          put.vacant put.entries _ _ c.changed-self-inside.ensures c.add.ensures.entries
+          put.live
           c.in-Ok.ensures.room;
-      sound = subst IsSound (sym c.changed-self-inside.ensures) (c.changes_keep_states_sound.ensures.sound s (Mark pt st) tt sound);
+      sound = subst IsSound (sym c.changed-self-inside.ensures)
+          (c.changes_keep_states_sound.ensures.sound s (Mark pt st) tt sound);
       counts = c.self.invariant.counts;
       room = omega (arith, room, same);
       place_mirror = c.self.invariant.place_mirror;
       stop_mirror = c.self.invariant.stop_mirror;
-      mark_mirror = roomy c.self.inside.marks c.insert_within_capacity.new.self _ c.in-Ok.ensures.room c.self.invariant.mark_mirror;
+      mark_mirror = roomy c.self.inside.marks c.insert_within_capacity.new.self _
+          c.in-Ok.ensures.room c.self.invariant.mark_mirror;
     }
 
 pub returns-clause-kept : goal.returns-clause-kept
 returns-clause-kept g c =
     let put = c.in-Ok.ensures.inserted in
-    mark_keeps _ _ _ _ _ _ _ _ c.self.invariant.book _ c.self.view_is c.args.place _ _ c.in_ok-at.ensures.found c.args.stop _ _ c.in_ok-by.ensures.found c.if-is_full_of_marks.ensures
-    _ _ _ c.new-mark.ensures.ticket c.new-mark.ensures.place c.new-mark.ensures.stop _ put.vacant put.entries _
+    mark_keeps _ _ _ _ _ _ _ _ c.self.invariant.book _ c.self.view_is c.args.place _ _
+    c.in_ok-at.ensures.found c.args.stop _ _ c.in_ok-by.ensures.found
+    c.if-is_full_of_marks.ensures
+    _ _ _ c.new-mark.ensures.ticket c.new-mark.ensures.place c.new-mark.ensures.stop _ put.vacant
+    put.entries _
     (some_same put.generation) (some_same put.counter) c.in-Ok.ensures.room

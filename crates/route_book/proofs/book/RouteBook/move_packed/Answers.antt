@@ -94,8 +94,7 @@ returns g c rooms same has =
     let own : Rooms = record {
       places = moved.place_room;
       stops = moved.stop_room;
-      marks =
-          moved.mark_room;
+      marks = moved.mark_room;
     } in
     let wanted : own ≡ rooms =
     sym c.moved.invariant.book.within.rooms_are
@@ -108,7 +107,8 @@ returns g c rooms same has =
       mark_counter = marks.counter;
       place_generations = have_all (second_generation g.Q.Gen.PtrGenCore.last) (λ p. p)
           (entry_in c.self.inside.places) (entry_in c.transfer_places.new.to)
-          (places.entries (packing.order ∙ ap (range_with_len 1) c.self.invariant.book.within.place_count));
+          (places.entries (packing.order
+          ∙ ap (range_with_len 1) c.self.invariant.book.within.place_count));
       stop_generations = have_all (second_generation g.Q.Gen.PtrGenCore.last) _
           (values_in c.self.inside.stops) (values_in c.transfer_stops.new.to)
           (stops.entries packing.stop_runs);

@@ -9,9 +9,11 @@ pack_if-requires-clause-book g c = of_state _ _ _ _ _ _ _ _ c.self.invariant.boo
 
 pub returns-clause-packed : goal.returns-clause-packed
 returns-clause-packed g c =
-    subst (λ (b : Book g.row.P-Inx.Denot). IsPacked g.P.Inx.PtrInxCore.number g.P.Gen.PtrGenCore.last
+    subst (λ (b : Book g.row.P-Inx.Denot). IsPacked g.P.Inx.PtrInxCore.number
+    g.P.Gen.PtrGenCore.last
     c.args.counts.now.looks c.pack_if.new.looks b
-    (as_book c.self.inside.held.state c.pack_if.new.places c.pack_if.new.stops c.pack_if.new.marks)) c.self.view_is c.pack_if.ensures.ready
+    (as_book c.self.inside.held.state c.pack_if.new.places c.pack_if.new.stops c.pack_if.new.marks))
+    c.self.view_is c.pack_if.ensures.ready
 
 pub invariant_of-self : goal.invariant_of-self
 invariant_of-self g c =
@@ -23,7 +25,10 @@ invariant_of-self g c =
       sound = c.self.invariant.sound;
       counts = c.self.invariant.counts;
       room = omega (arith, room, same);
-      place_mirror = fits_still _ _ _ _ done.rooms.places done.place_mirror c.self.invariant.place_mirror;
-      stop_mirror = fits_still _ _ _ _ done.rooms.stops done.stop_mirror c.self.invariant.stop_mirror;
-      mark_mirror = fits_still _ _ _ _ done.rooms.marks done.mark_mirror c.self.invariant.mark_mirror;
+      place_mirror = fits_still _ _ _ _ done.rooms.places done.place_mirror
+          c.self.invariant.place_mirror;
+      stop_mirror = fits_still _ _ _ _ done.rooms.stops done.stop_mirror
+          c.self.invariant.stop_mirror;
+      mark_mirror = fits_still _ _ _ _ done.rooms.marks done.mark_mirror
+          c.self.invariant.mark_mirror;
     }

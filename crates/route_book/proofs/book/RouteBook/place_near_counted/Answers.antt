@@ -14,12 +14,16 @@ use Rattle.route_book.proofs.book.RouteBook.place_near_counted.Goals as goal
 
 pub add_place-requires-clause-similar : goal.add_place-requires-clause-similar
 add_place-requires-clause-similar g c =
-    subst (λ (b : Book g.row.P-Inx.Denot). IsSimilar g.P.PtrCore.index g.P.PtrCore.generation g.P.Inx.PtrInxCore.number
+    subst (λ (b : Book g.row.P-Inx.Denot). IsSimilar g.P.PtrCore.index g.P.PtrCore.generation
+    g.P.Inx.PtrInxCore.number
     (asked_at key_cmp key_of (record { key = c.args.key; ticket = b.state.last + 1 }) b.places)
-    (IsAscending g.P.Inx.PtrInxCore.number key_cmp key_of b.places) c.find_similar_key_linear_counted-found.result b.places) c.self.view_is
+    (IsAscending g.P.Inx.PtrInxCore.number key_cmp key_of b.places)
+    c.find_similar_key_linear_counted-found.result b.places) c.self.view_is
     (subst (λ n. IsSimilar g.P.PtrCore.index g.P.PtrCore.generation g.P.Inx.PtrInxCore.number
     (asked_at key_cmp key_of (record { key = c.args.key; ticket = n + 1 }) c.self.inside.places)
-    (IsAscending g.P.Inx.PtrInxCore.number key_cmp key_of c.self.inside.places) c.find_similar_key_linear_counted-found.result c.self.inside.places) (sym c.self.invariant.book.last_is)
+    (IsAscending g.P.Inx.PtrInxCore.number key_cmp key_of c.self.inside.places)
+    c.find_similar_key_linear_counted-found.result c.self.inside.places)
+    (sym c.self.invariant.book.last_is)
     c.find_similar_key_linear_counted-found.ensures.similar)
 
 pub returns-clause-counts : goal.returns-clause-counts
@@ -30,12 +34,18 @@ returns-clause-counts g c =
     let found = c.in_ok-at.ensures.found in
     let value : value_if h (entry_in places i) ≡ Some found.0 =
     ap (λ k. value_if h (entry_in places k)) c.inx.ensures
-    ∙ ap (λ (b : Book g.row.P-Inx.Denot). value_if h (entry_in b.places (g.P.PtrCore.index c.in_ok-at.at))) c.self.view_is ∙ found.1 in
-    let held : place_holder c.self.inside.held.state c.args.near ≡ Ok found.0 = ap (λ (b : Book g.row.P-Inx.Denot). place_holder b.state c.args.near) c.self.view_is ∙ found.2 in
+    ∙ ap (λ (b : Book g.row.P-Inx.Denot). value_if h
+    (entry_in b.places (g.P.PtrCore.index c.in_ok-at.at))) c.self.view_is ∙ found.1 in
+    let held : place_holder c.self.inside.held.state c.args.near ≡ Ok found.0 =
+    ap (λ (b : Book g.row.P-Inx.Denot). place_holder b.state c.args.near) c.self.view_is
+    ∙ found.2 in
     let search = c.find_similar_key_linear_counted-found.ensures in
     let b = c.self.invariant.book in
     let wanted : PlaceKey = record { key = c.args.key; ticket = c.self.inside.last + 1 } in
-    let newest : (j n : ℕ) (q : Place) → entry_in places j ≡ Some (n, q) → q.ticket < wanted.ticket = λ j n q is. subst (λ m. q.ticket < m + 1) b.last_is (ticket_given c.self.inside.held.state _ _ _ _ b.held j n q is) in
+    let newest : (j n : ℕ) (q : Place) → entry_in places j ≡ Some (n, q)
+    → q.ticket < wanted.ticket =
+    λ j n q is. subst (λ m. q.ticket < m + 1) b.last_is
+    (ticket_given c.self.inside.held.state _ _ _ _ b.held j n q is) in
     record {
       key_rises = search.rises;
       first_rises = c.find_place.ensures.rises;
@@ -43,7 +53,9 @@ returns-clause-counts g c =
       key = subst (λ (b : Book g.row.P-Inx.Denot).
           c.find_similar_key_linear_counted-found.new.probes
           ≤ c.args.counts.now.key + most_near b.state c.args.key c.args.near) c.self.view_is
-          (hint_bound g.P.Inx.PtrInxCore.number _ _ c.self.inside.held.state places _ _ _ c.self.invariant.book c.len.ensures.formed.ordered wanted newest c.args.near i h found.0 value held
+          (hint_bound g.P.Inx.PtrInxCore.number _ _ c.self.inside.held.state places _ _ _
+          c.self.invariant.book c.len.ensures.formed.ordered wanted newest c.args.near i h
+          found.0 value held
           (ap (λ (b : Book g.row.P-Inx.Denot). is_full_of_places b.state) c.self.view_is
           ∙ sym c.if-is_full_of_places.ensures)
           c.args.counts.now.key c.find_similar_key_linear_counted-found.new.probes

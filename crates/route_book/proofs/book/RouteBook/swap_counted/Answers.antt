@@ -1,7 +1,8 @@
 use Rattle.std.proofs.Common.{refl, sym, subst, true≢false}
 use Rattle.route_lines.specs.Sound.{IsSound}
 use Rattle.route_lines.specs.declared.change.Change.TheVariants.{Swap}
-use Rattle.route_book.proofs.RelinkLemmas.{refused_keeps, relinked_keeps, still_mirrored, swap_leaves, swapped_links, told_swapped, told_unswapped}
+use Rattle.route_book.proofs.RelinkLemmas.{refused_keeps, relinked_keeps, still_mirrored}
+use Rattle.route_book.proofs.RelinkLemmas.{swap_leaves, swapped_links, told_swapped, told_unswapped}
 use Rattle.route_book.proofs.book.RouteBook.swap_counted.Goals as goal
 
 pub invariant_of-self : goal.invariant_of-self
@@ -13,14 +14,21 @@ invariant_of-self g c =
     let stay = c.stops_stay_as_routes_change.ensures in
     let sound = c.self.invariant.sound in
     let some = c.in-Some.ensures.variant.0 refl in
-    let re = swapped_links _ _ _ _ _ _ _ _ c.self.invariant.book _ c.self.view_is c.len.ensures.formed.agreed t _ _ c.in_ok-from.ensures.found u _ _ c.in_ok-by.ensures.found _ some
+    let re = swapped_links _ _ _ _ _ _ _ _ c.self.invariant.book _ c.self.view_is
+    c.len.ensures.formed.agreed t _ _ c.in_ok-from.ensures.found u _ _ c.in_ok-by.ensures.found
+    _ some
     c.in-Some.ensures.relinked in
     record {
-      book = swap_leaves _ _ _ _ _ _ _ _ c.self.invariant.book _ c.self.view_is c.len.ensures.formed.agreed t _ _ c.in_ok-from.ensures.found u _ _ c.in_ok-by.ensures.found _ _
+      book = swap_leaves _ _ _ _ _ _ _ _ c.self.invariant.book _ c.self.view_is
+          c.len.ensures.formed.agreed t _ _ c.in_ok-from.ensures.found u _ _
+          c.in_ok-by.ensures.found _ _
           c.changed-self-inside.ensures
-          some c.in-Some.ensures.relinked (λ ok. law.first s t u sound ok) (λ ok. law.second s t u sound ok) (λ x ok apart off. law.others s t u x sound ok apart off)
+          some c.in-Some.ensures.relinked (λ ok. law.first s t u sound ok)
+          (λ ok. law.second s t u sound ok)
+          (λ x ok apart off. law.others s t u x sound ok apart off)
           (λ x. stay.swapped s t u x sound) (stay.swapped_count s t u sound);
-      sound = subst IsSound (sym c.changed-self-inside.ensures) (c.changes_keep_states_sound.ensures.sound s (Swap t u) tt sound);
+      sound = subst IsSound (sym c.changed-self-inside.ensures)
+          (c.changes_keep_states_sound.ensures.sound s (Swap t u) tt sound);
       counts = c.self.invariant.counts;
       room = c.self.invariant.room;
       place_mirror = c.self.invariant.place_mirror;
@@ -30,24 +38,32 @@ invariant_of-self g c =
 
 pub returns-in-Some-clause-result : goal.returns-in-Some-clause-result
 returns-in-Some-clause-result g c =
-    told_swapped _ _ _ _ _ _ _ _ c.self.invariant.book _ c.self.view_is c.len.ensures.formed.agreed c.args.stop _ _ c.in_ok-from.ensures.found c.args.other _ _ c.in_ok-by.ensures.found
+    told_swapped _ _ _ _ _ _ _ _ c.self.invariant.book _ c.self.view_is c.len.ensures.formed.agreed
+    c.args.stop _ _ c.in_ok-from.ensures.found c.args.other _ _ c.in_ok-by.ensures.found
     (c.in-Some.ensures.variant.0 refl)
 
 pub returns-in-Some-clause-kept : goal.returns-in-Some-clause-kept
 returns-in-Some-clause-kept g c =
-    let re = swapped_links _ _ _ _ _ _ _ _ c.self.invariant.book _ c.self.view_is c.len.ensures.formed.agreed c.args.stop _ _ c.in_ok-from.ensures.found c.args.other _ _ c.in_ok-by.ensures.found
+    let re = swapped_links _ _ _ _ _ _ _ _ c.self.invariant.book _ c.self.view_is
+    c.len.ensures.formed.agreed c.args.stop _ _ c.in_ok-from.ensures.found c.args.other _ _
+    c.in_ok-by.ensures.found
     _ (c.in-Some.ensures.variant.0 refl) c.in-Some.ensures.relinked in
     relinked_keeps _ _ _ _ _ _ _ _ c.self.invariant.book _ c.self.view_is _ _ _ re.1.1
 
 pub returns-in-None-clause-result : goal.returns-in-None-clause-result
 returns-in-None-clause-result g c =
-    (told_unswapped _ _ _ _ _ _ _ _ c.self.invariant.book _ c.self.view_is c.len.ensures.formed.agreed c.args.stop _ _ c.in_ok-from.ensures.found c.args.other _ _ c.in_ok-by.ensures.found
+    (told_unswapped _ _ _ _ _ _ _ _ c.self.invariant.book _ c.self.view_is
+    c.len.ensures.formed.agreed c.args.stop _ _ c.in_ok-from.ensures.found c.args.other _ _
+    c.in_ok-by.ensures.found
     (λ some. true≢false (sym (c.in-None.ensures.variant.1 some)))).0
 
 pub returns-in-None-clause-state : goal.returns-in-None-clause-state
 returns-in-None-clause-state g c =
-    (told_unswapped _ _ _ _ _ _ _ _ c.self.invariant.book _ c.self.view_is c.len.ensures.formed.agreed c.args.stop _ _ c.in_ok-from.ensures.found c.args.other _ _ c.in_ok-by.ensures.found
+    (told_unswapped _ _ _ _ _ _ _ _ c.self.invariant.book _ c.self.view_is
+    c.len.ensures.formed.agreed c.args.stop _ _ c.in_ok-from.ensures.found c.args.other _ _
+    c.in_ok-by.ensures.found
     (λ some. true≢false (sym (c.in-None.ensures.variant.1 some)))).1
 
 pub returns-in-None-clause-kept : goal.returns-in-None-clause-kept
-returns-in-None-clause-kept g c = refused_keeps _ _ _ _ _ _ _ _ c.self.invariant.book _ c.self.view_is _ c.in-None.ensures.none
+returns-in-None-clause-kept g c =
+    refused_keeps _ _ _ _ _ _ _ _ c.self.invariant.book _ c.self.view_is _ c.in-None.ensures.none

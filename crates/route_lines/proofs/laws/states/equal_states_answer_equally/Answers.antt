@@ -3,7 +3,8 @@ use Rattle.std.specs.Io.KnownBytes.{Appends}
 use Rattle.route_lines.specs.Text.{replies, after_lines}
 use Rattle.route_lines.proofs.laws.states.equal_states_answer_equally.Goals as goal
 
-grown : (held text : List ℕ) (written : Option (List ℕ)) → Appends (Some held) written text → written ≡ Some (held ++ text)
+grown : (held text : List ℕ) (written : Option (List ℕ)) → Appends (Some held) written text
+    → written ≡ Some (held ++ text)
 grown held text None h = absurd h
 grown held text (Some bytes) h = ap (λ b. Some b) h
 

@@ -1,4 +1,4 @@
-use Rattle.route_lines.proofs.SoundLemmas.{IsNumbered-from_empty}
+use Rattle.route_lines.proofs.NumberedLemmas.{IsNumbered-from_empty}
 use Rattle.route_lines.proofs.laws.states.states_are_numbered.Goals as goal
 
 pub returns : goal.returns

@@ -10,19 +10,26 @@ use Rattle.ticket_book.proofs.book.TicketBook.renew.Goals as goal
 
 pub invariant_of-self : goal.invariant_of-self
 invariant_of-self g c =
-    let f = renewed_entry (numbers g.P.PtrCore.index g.P.PtrCore.generation (g.M.ArenaTrait.entry_at c.args.places.now))
+    let f = renewed_entry
+    (numbers g.P.PtrCore.index g.P.PtrCore.generation
+    (g.M.ArenaTrait.entry_at c.args.places.now))
     (numbers g.P.PtrCore.index g.P.PtrCore.generation (g.N.ArenaTrait.entry_at c.args.stops.now))
     (numbers g.P.PtrCore.index g.P.PtrCore.generation (g.O.ArenaTrait.entry_at c.args.marks.now)) in
     let at = entry_in c.self.inside.arena in
     let at' = entry_in c.renew_entries.new.arena in
     let order = c.renew_entries.ensures.order in
-    subst TicketsRise (sym (ap (along at') order ∙ along_renewed f at at' c.renew_entries.ensures.entries (order_in g.P.Inx.PtrInxCore.number c.self.inside.arena)))
+    subst TicketsRise (sym
+    (ap (along at') order
+    ∙ along_renewed f at at' c.renew_entries.ensures.entries
+    (order_in g.P.Inx.PtrInxCore.number c.self.inside.arena)))
     (rise_renewed f at at' c.renew_entries.ensures.entries (λ e. refl) _ c.self.invariant)
 
 pub returns-clause-stands : goal.returns-clause-stands
 returns-clause-stands g c =
     let number = g.P.Inx.PtrInxCore.number in
-    let f = renewed_entry (numbers g.P.PtrCore.index g.P.PtrCore.generation (g.M.ArenaTrait.entry_at c.args.places.now))
+    let f = renewed_entry
+    (numbers g.P.PtrCore.index g.P.PtrCore.generation
+    (g.M.ArenaTrait.entry_at c.args.places.now))
     (numbers g.P.PtrCore.index g.P.PtrCore.generation (g.N.ArenaTrait.entry_at c.args.stops.now))
     (numbers g.P.PtrCore.index g.P.PtrCore.generation (g.O.ArenaTrait.entry_at c.args.marks.now)) in
     let old = c.self.inside.arena in
@@ -38,11 +45,14 @@ returns-clause-stands g c =
 
 pub returns-clause-entries : goal.returns-clause-entries
 returns-clause-entries g c =
-    let f = renewed_entry (numbers g.P.PtrCore.index g.P.PtrCore.generation (g.M.ArenaTrait.entry_at c.args.places.now))
+    let f = renewed_entry
+    (numbers g.P.PtrCore.index g.P.PtrCore.generation
+    (g.M.ArenaTrait.entry_at c.args.places.now))
     (numbers g.P.PtrCore.index g.P.PtrCore.generation (g.N.ArenaTrait.entry_at c.args.stops.now))
     (numbers g.P.PtrCore.index g.P.PtrCore.generation (g.O.ArenaTrait.entry_at c.args.marks.now)) in
     let at = entry_in c.self.inside.arena in
     let at' = entry_in c.renew_entries.new.arena in
     ap (along at') c.renew_entries.ensures.order
-    ∙ along_renewed f at at' c.renew_entries.ensures.entries (order_in g.P.Inx.PtrInxCore.number c.self.inside.arena)
+    ∙ along_renewed f at at' c.renew_entries.ensures.entries
+    (order_in g.P.Inx.PtrInxCore.number c.self.inside.arena)
     ∙ ap (λ (b : Tickets). map f b.entries) c.self.view_is

@@ -1,5 +1,5 @@
 use Rattle.std.proofs.Common.{◌∙◌, ◌+◌, ◌≤◌, ap, sym, subst, refl, ℕ, length, IsSome, option_map}
-use Rattle.counted_search.specs.Searches.{most_comparisons}
+use Rattle.rank_tree.specs.Comparisons.{most_comparisons}
 use Rattle.triple_arena_chain.specs.Chains.{On}
 use Rattle.triple_arena_ord.specs.Ordered.{entry_in, order_in}
 use Rattle.ticket_book.specs.Tickets.{Entry, Tickets, asked_among, entry_at, lookup}
@@ -11,14 +11,18 @@ use Rattle.ticket_book.proofs.book.TicketBook.search.Goals as goal
 pub returns-in-Some-clause-found : goal.returns-in-Some-clause-found
 returns-in-Some-clause-found g c =
     let number = g.P.Inx.PtrInxCore.number in
-    let on : (i : ℕ) → IsSome (entry_in c.self.inside.arena i) → On (order_in number c.self.inside.arena) i =
-    λ i some. c.entries_stand_in_the_list.ensures c.self.inside.arena i c.len.ensures.formed.ordered some in
+    let on : (i : ℕ) → IsSome (entry_in c.self.inside.arena i)
+    → On (order_in number c.self.inside.arena) i =
+    λ i some. c.entries_stand_in_the_list.ensures c.self.inside.arena i c.len.ensures.formed.ordered
+    some in
     let there = lookup_found number g.P.PtrCore.index g.P.PtrCore.generation c.self.inside.arena
     c.args.ticket c.in-Some.p c.self.invariant on (c.in-Some.ensures.found.some c.in-Some.p refl) in
     let stands = ap (λ (book : Tickets). entry_at book (number c.inx.result)) (sym c.self.view_is)
     ∙ stands_there number c.self.inside.arena on (number c.inx.result)
-    ∙ ap (option_map (λ (x : ℕ × Entry). x.1)) (ap (entry_in c.self.inside.arena) c.inx.ensures) ∙ there.1.0 in
-    let known = ap (λ (book : Tickets). lookup book.entries c.args.ticket) (sym c.self.view_is) ∙ there.1.1 in
+    ∙ ap (option_map (λ (x : ℕ × Entry). x.1)) (ap (entry_in c.self.inside.arena) c.inx.ensures)
+    ∙ there.1.0 in
+    let known = ap (λ (book : Tickets). lookup book.entries c.args.ticket) (sym c.self.view_is)
+    ∙ there.1.1 in
     (there.0, stands, known)
 
 pub returns-in-None-clause-none : goal.returns-in-None-clause-none
@@ -32,25 +36,31 @@ returns-in-Some-clause-ticks g c =
     c.in-Some.ensures.ticks
     ∙ ap (λ n. c.args.probes.now + n)
     (sym (asked_there g.P.Inx.PtrInxCore.number c.self.inside.arena c.args.ticket c.self.invariant)
-    ∙ ap (λ (book : Tickets). asked_among book.asked_below book.entries book.asked_along c.args.ticket) c.self.view_is)
+    ∙ ap (λ (book : Tickets). asked_among book.asked_below book.entries book.asked_along
+    c.args.ticket) c.self.view_is)
 
 pub returns-in-Some-clause-bound : goal.returns-in-Some-clause-bound
 returns-in-Some-clause-bound g c =
-    subst (λ (book : Tickets). asked_among book.asked_below book.entries book.asked_along c.args.ticket ≤ most_comparisons (length book.entries)) c.self.view_is
+    subst (λ (book : Tickets). asked_among book.asked_below book.entries book.asked_along
+    c.args.ticket ≤ most_comparisons (length book.entries)) c.self.view_is
     (asked_within g.P.Inx.PtrInxCore.number c.self.inside.arena c.args.ticket _ _ c.self.invariant
     c.in-Some.ensures.ticks c.in-Some.ensures.bound
-    (c.the_list_has_as_many_entries_as_are_live.ensures c.self.inside.arena c.len.ensures.formed.ordered))
+    (c.the_list_has_as_many_entries_as_are_live.ensures c.self.inside.arena
+    c.len.ensures.formed.ordered))
 
 pub returns-in-None-clause-ticks : goal.returns-in-None-clause-ticks
 returns-in-None-clause-ticks g c =
     c.in-None.ensures.ticks
     ∙ ap (λ n. c.args.probes.now + n)
     (sym (asked_there g.P.Inx.PtrInxCore.number c.self.inside.arena c.args.ticket c.self.invariant)
-    ∙ ap (λ (book : Tickets). asked_among book.asked_below book.entries book.asked_along c.args.ticket) c.self.view_is)
+    ∙ ap (λ (book : Tickets). asked_among book.asked_below book.entries book.asked_along
+    c.args.ticket) c.self.view_is)
 
 pub returns-in-None-clause-bound : goal.returns-in-None-clause-bound
 returns-in-None-clause-bound g c =
-    subst (λ (book : Tickets). asked_among book.asked_below book.entries book.asked_along c.args.ticket ≤ most_comparisons (length book.entries)) c.self.view_is
+    subst (λ (book : Tickets). asked_among book.asked_below book.entries book.asked_along
+    c.args.ticket ≤ most_comparisons (length book.entries)) c.self.view_is
     (asked_within g.P.Inx.PtrInxCore.number c.self.inside.arena c.args.ticket _ _ c.self.invariant
     c.in-None.ensures.ticks c.in-None.ensures.bound
-    (c.the_list_has_as_many_entries_as_are_live.ensures c.self.inside.arena c.len.ensures.formed.ordered))
+    (c.the_list_has_as_many_entries_as_are_live.ensures c.self.inside.arena
+    c.len.ensures.formed.ordered))

@@ -10,42 +10,56 @@ use Rattle.ticket_book.proofs.book.TicketBook.take.Goals as goal
 
 pub invariant_of-self : goal.invariant_of-self
 invariant_of-self g c =
-    rise_taken g.P.Inx.PtrInxCore.number c.self.inside.arena c.remove_inx.new.self c.len.ensures.formed.ordered c.self.invariant
-    g.P.Gen.PtrGenCore.number value_of _ _ _ c.in-Some.taken (sym c.allow.ensures ∙ c.in-Some.is) c.remove_inx.ensures.value c.remove_inx.ensures.exact
+    rise_taken g.P.Inx.PtrInxCore.number c.self.inside.arena c.remove_inx.new.self
+    c.len.ensures.formed.ordered c.self.invariant
+    g.P.Gen.PtrGenCore.number value_of _ _ _ c.in-Some.taken (sym c.allow.ensures ∙ c.in-Some.is)
+    c.remove_inx.ensures.value c.remove_inx.ensures.exact
 
 pub returns-clause-entry : goal.returns-clause-entry
 returns-clause-entry g c =
     let number = g.P.Inx.PtrInxCore.number in
-    let on : (i : ℕ) → IsSome (entry_in c.self.inside.arena i) → On (order_in number c.self.inside.arena) i =
-    λ i some. c.entries_stand_in_the_list.ensures c.self.inside.arena i c.len.ensures.formed.ordered some in
+    let on : (i : ℕ) → IsSome (entry_in c.self.inside.arena i)
+    → On (order_in number c.self.inside.arena) i =
+    λ i some. c.entries_stand_in_the_list.ensures c.self.inside.arena i c.len.ensures.formed.ordered
+    some in
     ap (λ (book : Tickets). entry_at book (number c.args.at)) (sym c.self.view_is)
     ∙ stands_there number c.self.inside.arena on (number c.args.at)
     ∙ ap (option_map (λ (x : ℕ × Entry). x.1))
-    (taken_stood number c.self.inside.arena c.remove_inx.new.self c.len.ensures.formed.ordered c.self.invariant
+    (taken_stood number c.self.inside.arena c.remove_inx.new.self c.len.ensures.formed.ordered
+    c.self.invariant
     g.P.Gen.PtrGenCore.number value_of _ _ _ c.in-Some.taken (sym c.allow.ensures ∙ c.in-Some.is)
     c.remove_inx.ensures.value c.remove_inx.ensures.exact)
 
 pub unreached-unreachable-requires : goal.unreached-unreachable-requires
 unreached-unreachable-requires g c =
     let number = g.P.Inx.PtrInxCore.number in
-    let on : (i : ℕ) → IsSome (entry_in c.self.inside.arena i) → On (order_in number c.self.inside.arena) i =
-    λ i some. c.entries_stand_in_the_list.ensures c.self.inside.arena i c.len.ensures.formed.ordered some in
+    let on : (i : ℕ) → IsSome (entry_in c.self.inside.arena i)
+    → On (order_in number c.self.inside.arena) i =
+    λ i some. c.entries_stand_in_the_list.ensures c.self.inside.arena i c.len.ensures.formed.ordered
+    some in
     let there = ap (λ (book : Tickets). entry_at book (number c.args.at)) (sym c.self.view_is)
     ∙ stands_there number c.self.inside.arena on (number c.args.at) in
     none_taken value_of (λ a. (g.P.Gen.PtrGenCore.number (value_of a).0, (value_of a).1)) _ _
-    (sym c.allow.ensures ∙ c.in-None.is) c.remove_inx.ensures.value (subst IsSome there c.requires.stands)
+    (sym c.allow.ensures ∙ c.in-None.is) c.remove_inx.ensures.value
+    (subst IsSome there c.requires.stands)
 
 pub returns-clause-found : goal.returns-clause-found
 returns-clause-found g c =
-    let on : (i : ℕ) → IsSome (entry_in c.self.inside.arena i) → On (order_in g.P.Inx.PtrInxCore.number c.self.inside.arena) i =
-    λ i some. c.entries_stand_in_the_list.ensures c.self.inside.arena i c.len.ensures.formed.ordered some in
+    let on : (i : ℕ) → IsSome (entry_in c.self.inside.arena i)
+    → On (order_in g.P.Inx.PtrInxCore.number c.self.inside.arena) i =
+    λ i some. c.entries_stand_in_the_list.ensures c.self.inside.arena i c.len.ensures.formed.ordered
+    some in
     ap (λ (book : Tickets). lookup book.entries c.in-Some.taken.1.ticket) (sym c.self.view_is)
     ∙ lookup_standing g.P.Inx.PtrInxCore.number c.self.inside.arena _ _ c.self.invariant on
-    (taken_stood g.P.Inx.PtrInxCore.number c.self.inside.arena c.remove_inx.new.self c.len.ensures.formed.ordered c.self.invariant
-    g.P.Gen.PtrGenCore.number value_of _ _ _ c.in-Some.taken (sym c.allow.ensures ∙ c.in-Some.is) c.remove_inx.ensures.value c.remove_inx.ensures.exact)
+    (taken_stood g.P.Inx.PtrInxCore.number c.self.inside.arena c.remove_inx.new.self
+    c.len.ensures.formed.ordered c.self.invariant
+    g.P.Gen.PtrGenCore.number value_of _ _ _ c.in-Some.taken (sym c.allow.ensures ∙ c.in-Some.is)
+    c.remove_inx.ensures.value c.remove_inx.ensures.exact)
 
 pub returns-clause-out : goal.returns-clause-out
 returns-clause-out g c =
-    entry_taken g.P.Inx.PtrInxCore.number c.self.inside.arena c.remove_inx.new.self c.len.ensures.formed.ordered c.self.invariant
-    g.P.Gen.PtrGenCore.number value_of _ _ _ c.in-Some.taken (sym c.allow.ensures ∙ c.in-Some.is) c.remove_inx.ensures.value c.remove_inx.ensures.exact
+    entry_taken g.P.Inx.PtrInxCore.number c.self.inside.arena c.remove_inx.new.self
+    c.len.ensures.formed.ordered c.self.invariant
+    g.P.Gen.PtrGenCore.number value_of _ _ _ c.in-Some.taken (sym c.allow.ensures ∙ c.in-Some.is)
+    c.remove_inx.ensures.value c.remove_inx.ensures.exact
     ∙ ap (λ (book : Tickets). without_ticket c.in-Some.taken.1.ticket book.entries) c.self.view_is

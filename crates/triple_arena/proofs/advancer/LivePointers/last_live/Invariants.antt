@@ -7,7 +7,8 @@ abbrev pub invariant-loop-last : goal.invariant-loop-last
 invariant-loop-last g l =
     record {
       within : l.last ≤ min l.end (length (g.Self.LivePointers.content l.self).slots);
-      none : (j : ℕ) → l.last < j → j ≤ l.end → entry_at (g.Self.LivePointers.content l.self) j ≡ None;
+      none : (j : ℕ) → l.last < j → j ≤ l.end
+          → entry_at (g.Self.LivePointers.content l.self) j ≡ None;
     }
 
 abbrev pub decreases-loop-last : goal.decreases-loop-last

@@ -6,9 +6,11 @@ use Rattle.triple_arena.proofs.arena.Arena.canonicalize_freelist.Goals as goal
 pub invariant_of-self : goal.invariant_of-self
 invariant_of-self g c =
     let linked = c.link_rising-self-inside.ensures in
-    (ordered c.self.invariant c.self.view_is linked.entries linked.listed (ap (room_of g.P.Inx.PtrInxCore.greatest) linked.room)).sound
+    (ordered c.self.invariant c.self.view_is linked.entries linked.listed
+    (ap (room_of g.P.Inx.PtrInxCore.greatest) linked.room)).sound
 
 pub returns-clause-value : goal.returns-clause-value
 returns-clause-value g c =
     let linked = c.link_rising-self-inside.ensures in
-    (ordered c.self.invariant c.self.view_is linked.entries linked.listed (ap (room_of g.P.Inx.PtrInxCore.greatest) linked.room)).content
+    (ordered c.self.invariant c.self.view_is linked.entries linked.listed
+    (ap (room_of g.P.Inx.PtrInxCore.greatest) linked.room)).content

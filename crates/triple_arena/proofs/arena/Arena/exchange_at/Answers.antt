@@ -14,20 +14,28 @@ exchange_values-requires-clause-j_is_used g c = used_at _ _ _ c.self.view_is c.r
 
 pub invariant_of-self : goal.invariant_of-self
 invariant_of-self g c =
-    (exchanged c.self.invariant c.self.view_is c.requires.i_is_live c.requires.j_is_live c.requires.two
-    c.exchange_values.ensures.items (ap (room_of g.P.Inx.PtrInxCore.greatest) c.exchange_values.ensures.room)).sound
+    (exchanged c.self.invariant c.self.view_is c.requires.i_is_live c.requires.j_is_live
+    c.requires.two
+    c.exchange_values.ensures.items
+    (ap (room_of g.P.Inx.PtrInxCore.greatest) c.exchange_values.ensures.room)).sound
 
 pub returns-clause-value : goal.returns-clause-value
 returns-clause-value g c =
-    (exchanged c.self.invariant c.self.view_is c.requires.i_is_live c.requires.j_is_live c.requires.two
-    c.exchange_values.ensures.items (ap (room_of g.P.Inx.PtrInxCore.greatest) c.exchange_values.ensures.room)).content
+    (exchanged c.self.invariant c.self.view_is c.requires.i_is_live c.requires.j_is_live
+    c.requires.two
+    c.exchange_values.ensures.items
+    (ap (room_of g.P.Inx.PtrInxCore.greatest) c.exchange_values.ensures.room)).content
 
 pub returns-clause-exchanged : goal.returns-clause-exchanged
 returns-clause-exchanged g c =
     let is = returns-clause-value g c in
     record {
-      entries = λ k. ap (λ d. entry_at d k) is ∙ entry-with_exchange _ _ _ c.requires.i_is_live c.requires.j_is_live c.requires.two k;
-      live = ap live_count is ∙ live-with_exchange c.args.self.now (non_zero_usize_get c.args.i) (non_zero_usize_get c.args.j);
+      entries = λ k. ap (λ d. entry_at d k) is
+          ∙ entry-with_exchange _ _ _ c.requires.i_is_live c.requires.j_is_live c.requires.two k;
+      live = ap live_count is
+          ∙ live-with_exchange c.args.self.now (non_zero_usize_get c.args.i)
+          (non_zero_usize_get c.args.j);
       counter = ap (λ x. Some x.counter) c.self.view_is;
-      room = ap (room_of g.P.Inx.PtrInxCore.greatest) c.exchange_values.ensures.room ∙ ap (λ x. x.room) c.self.view_is;
+      room = ap (room_of g.P.Inx.PtrInxCore.greatest) c.exchange_values.ensures.room
+          ∙ ap (λ x. x.room) c.self.view_is;
     }

@@ -7,7 +7,8 @@ use Rattle.triple_arena.proofs.arena.Arena.live_index.Goals as goal
 pub returns-then-is_some-clause-live : goal.returns-then-is_some-clause-live
 returns-then-is_some-clause-live g c =
     let found =
-    get_of_slot _ _ _ c.self.view_is (ap option_copied c.in-Some-get.is) c.get.ensures c.in-Some.i.ok (c.in-Some.ensures.same ∙ c.inx.ensures)
+    get_of_slot _ _ _ c.self.view_is (ap option_copied c.in-Some-get.is) c.get.ensures
+    c.in-Some.i.ok (c.in-Some.ensures.same ∙ c.inx.ensures)
     ∙ ap (λ n. value_if n (entry_of c.in-Some-get.slot.now)) (sym c.generation.ensures)
     ∙ sym c.get-in-Some-get.ensures in
     (λ _. rw found (copied_some _ (sym c.if-is_some.ensures)), λ _. refl)
@@ -15,10 +16,13 @@ returns-then-is_some-clause-live g c =
 pub returns-else-is_some-clause-live : goal.returns-else-is_some-clause-live
 returns-else-is_some-clause-live g c =
     let found =
-    get_of_slot _ _ _ c.self.view_is (ap option_copied c.in-Some-get.is) c.get.ensures c.in-Some.i.ok (c.in-Some.ensures.same ∙ c.inx.ensures)
+    get_of_slot _ _ _ c.self.view_is (ap option_copied c.in-Some-get.is) c.get.ensures
+    c.in-Some.i.ok (c.in-Some.ensures.same ∙ c.inx.ensures)
     ∙ ap (λ n. value_if n (entry_of c.in-Some-get.slot.now)) (sym c.generation.ensures)
-    ∙ sym c.get-in-Some-get.ensures in
-    (λ e. absurd (true≢false (sym e)), λ h. absurd (copied_none _ (sym c.if-is_some.ensures) (rw found at h)))
+    ∙ sym c.get-in-Some-get.ensures in (
+      λ e. absurd (true≢false (sym e)),
+      λ h. absurd (copied_none _ (sym c.if-is_some.ensures) (rw found at h)),
+    )
 
 pub returns-in-None-get-clause-live : goal.returns-in-None-get-clause-live
 returns-in-None-get-clause-live g c =

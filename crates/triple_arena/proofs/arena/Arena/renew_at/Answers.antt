@@ -9,20 +9,27 @@ use Rattle.triple_arena.proofs.arena.Arena.renew_at.Goals as goal
 pub invariant_of-self : goal.invariant_of-self
 invariant_of-self g c =
     let live = the_some _ c.requires in
-    (renewed _ _ c.self.invariant c.self.view_is live.1 c.item_mut.ensures.value c.set_generation.ensures
+    (renewed _ _ c.self.invariant c.self.view_is live.1 c.item_mut.ensures.value
+    c.set_generation.ensures
     (g.met.S.NonZeroInxGenericStack.items_with_items c.self.inside.slots
-    (with_item (g.S.NonZeroInxGenericStack.items c.self.inside.slots) (non_zero_usize_get c.args.i) c.set_generation.new.self))
+    (with_item (g.S.NonZeroInxGenericStack.items c.self.inside.slots) (non_zero_usize_get c.args.i)
+    c.set_generation.new.self))
     (ap (room_of g.P.Inx.PtrInxCore.greatest)
     (g.met.S.NonZeroInxGenericStack.room_with_items c.self.inside.slots
-    (with_item (g.S.NonZeroInxGenericStack.items c.self.inside.slots) (non_zero_usize_get c.args.i) c.set_generation.new.self)))).sound
+    (with_item (g.S.NonZeroInxGenericStack.items c.self.inside.slots) (non_zero_usize_get c.args.i)
+    c.set_generation.new.self)))).sound
 
 pub returns-clause-value : goal.returns-clause-value
 returns-clause-value g c =
     let live = the_some _ c.requires in
-    (renewed _ _ c.self.invariant c.self.view_is live.1 c.item_mut.ensures.value c.set_generation.ensures
+    (renewed _ _ c.self.invariant c.self.view_is live.1 c.item_mut.ensures.value
+    c.set_generation.ensures
     (g.met.S.NonZeroInxGenericStack.items_with_items c.self.inside.slots
-    (with_item (g.S.NonZeroInxGenericStack.items c.self.inside.slots) (non_zero_usize_get c.args.i) c.set_generation.new.self))
+    (with_item (g.S.NonZeroInxGenericStack.items c.self.inside.slots) (non_zero_usize_get c.args.i)
+    c.set_generation.new.self))
     (ap (room_of g.P.Inx.PtrInxCore.greatest)
     (g.met.S.NonZeroInxGenericStack.room_with_items c.self.inside.slots
-    (with_item (g.S.NonZeroInxGenericStack.items c.self.inside.slots) (non_zero_usize_get c.args.i) c.set_generation.new.self)))).content
-    ∙ ap (λ x. with_generation c.args.self.now (non_zero_usize_get c.args.i) x.counter) c.self.view_is
+    (with_item (g.S.NonZeroInxGenericStack.items c.self.inside.slots) (non_zero_usize_get c.args.i)
+    c.set_generation.new.self)))).content
+    ∙ ap (λ x. with_generation c.args.self.now (non_zero_usize_get c.args.i) x.counter)
+    c.self.view_is

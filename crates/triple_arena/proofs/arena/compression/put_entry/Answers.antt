@@ -7,6 +7,8 @@ use Rattle.triple_arena.proofs.arena.compression.put_entry.Goals as goal
 pub returns-clause-slots : goal.returns-clause-slots
 returns-clause-slots g c =
     ap (map g.L.EntrySlot.entry) (g.met.S.NonZeroInxGenericStack.items_with_items c.args.slots.now
-    (with_item (g.S.NonZeroInxGenericStack.items c.args.slots.now) (non_zero_usize_get c.args.i) c.holding.result))
+    (with_item (g.S.NonZeroInxGenericStack.items c.args.slots.now) (non_zero_usize_get c.args.i)
+    c.holding.result))
     ∙ map-set g.L.EntrySlot.entry _ _ _
-    ∙ ap (set (map g.L.EntrySlot.entry (g.S.NonZeroInxGenericStack.items c.args.slots.now)) (non_zero_usize_get c.args.i - 1)) c.holding.ensures
+    ∙ ap (set (map g.L.EntrySlot.entry (g.S.NonZeroInxGenericStack.items c.args.slots.now))
+    (non_zero_usize_get c.args.i - 1)) c.holding.ensures

@@ -9,9 +9,11 @@ use Rattle.triple_arena.proofs.arena.free_slots.link_rising.Goals as goal
 
 pub set_prev_at-requires-clause-free : goal.set_prev_at-requires-clause-free
 set_prev_at-requires-clause-free g c =
-    risen_first c.relink.new.self c.loop-i.invariant.0 c.in-Some.ensures c.in-Some.i.ok c.item_mut.ensures.value
+    risen_first c.relink.new.self c.loop-i.invariant.0 c.in-Some.ensures c.in-Some.i.ok
+    c.item_mut.ensures.value
     (g.met.S.NonZeroInxGenericStack.items_with_items c.loop-i.slots
-    (with_item (g.S.NonZeroInxGenericStack.items c.loop-i.slots) (non_zero_usize_get c.in-Some.i) c.relink.new.self))
+    (with_item (g.S.NonZeroInxGenericStack.items c.loop-i.slots) (non_zero_usize_get c.in-Some.i)
+    c.relink.new.self))
 
 pub loop-i-preserved : goal.loop-i-preserved
 loop-i-preserved g c =
@@ -30,8 +32,10 @@ loop-i-preserved g c =
       | then-relink w ↦ (
         risen_free l.invariant.0 c.in-Some.ensures i.ok c.item_mut.ensures.value
             (c.relink.ensures.free.0 w.if-relink.true) written w.some-first.ensures
-            (λ j. ap (λ s. links_at (g.S.NonZeroInxGenericStack.items s) j) w.slots-is ∙ w.set_prev_at.ensures.links j)
-            (ap (λ s. map entry_of (g.S.NonZeroInxGenericStack.items s)) w.slots-is ∙ w.set_prev_at.ensures.entries) w.head-is refl,
+            (λ j. ap (λ s. links_at (g.S.NonZeroInxGenericStack.items s) j) w.slots-is
+            ∙ w.set_prev_at.ensures.links j)
+            (ap (λ s. map entry_of (g.S.NonZeroInxGenericStack.items s)) w.slots-is
+            ∙ w.set_prev_at.ensures.entries) w.head-is refl,
         ap g.S.NonZeroInxGenericStack.room w.slots-is ∙ w.set_prev_at.ensures.room ∙ room,
       )
       | else-relink w ↦ (

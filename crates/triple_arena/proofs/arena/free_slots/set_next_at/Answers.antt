@@ -9,21 +9,27 @@ use Rattle.triple_arena.proofs.arena.free_slots.set_next_at.Goals as goal
 pub item_mut-requires : goal.item_mut-requires
 item_mut-requires g c =
     free_within (g.S.NonZeroInxGenericStack.items c.args.slots.now) (non_zero_usize_get c.in-Some.i)
-    (c.requires.free (non_zero_usize_get c.in-Some.i) (sym c.get.ensures ∙ ap (option_map non_zero_usize_get) c.in-Some.is))
+    (c.requires.free (non_zero_usize_get c.in-Some.i)
+    (sym c.get.ensures ∙ ap (option_map non_zero_usize_get) c.in-Some.is))
 
 pub set_next-requires-clause-free : goal.set_next-requires-clause-free
 set_next-requires-clause-free g c =
-    slot_free (g.S.NonZeroInxGenericStack.items c.args.slots.now) (non_zero_usize_get c.in-Some.i) c.item_mut.result.now c.in-Some.i.ok c.item_mut.ensures.value
-    (c.requires.free (non_zero_usize_get c.in-Some.i) (sym c.get.ensures ∙ ap (option_map non_zero_usize_get) c.in-Some.is))
+    slot_free (g.S.NonZeroInxGenericStack.items c.args.slots.now) (non_zero_usize_get c.in-Some.i)
+    c.item_mut.result.now c.in-Some.i.ok c.item_mut.ensures.value
+    (c.requires.free (non_zero_usize_get c.in-Some.i)
+    (sym c.get.ensures ∙ ap (option_map non_zero_usize_get) c.in-Some.is))
 
 pub returns-in-Some-clause-links : goal.returns-in-Some-clause-links
 returns-in-Some-clause-links g c =
-    next_written _ _ (sym c.get.ensures ∙ ap (option_map non_zero_usize_get) c.in-Some.is) c.in-Some.i.ok c.item_mut.ensures.value c.set_next.ensures
+    next_written _ _ (sym c.get.ensures ∙ ap (option_map non_zero_usize_get) c.in-Some.is)
+    c.in-Some.i.ok c.item_mut.ensures.value c.set_next.ensures
     (g.met.S.NonZeroInxGenericStack.items_with_items c.args.slots.now
-    (with_item (g.S.NonZeroInxGenericStack.items c.args.slots.now) (non_zero_usize_get c.in-Some.i) c.set_next.new.self))
+    (with_item (g.S.NonZeroInxGenericStack.items c.args.slots.now) (non_zero_usize_get c.in-Some.i)
+    c.set_next.new.self))
 
 pub returns-in-Some-clause-entries : goal.returns-in-Some-clause-entries
 returns-in-Some-clause-entries g c =
     entries-next _ (non_zero_usize_get c.in-Some.i) _ c.item_mut.ensures.value c.set_next.ensures
     (g.met.S.NonZeroInxGenericStack.items_with_items c.args.slots.now
-    (with_item (g.S.NonZeroInxGenericStack.items c.args.slots.now) (non_zero_usize_get c.in-Some.i) c.set_next.new.self))
+    (with_item (g.S.NonZeroInxGenericStack.items c.args.slots.now) (non_zero_usize_get c.in-Some.i)
+    c.set_next.new.self))

@@ -9,21 +9,27 @@ use Rattle.triple_arena.proofs.arena.free_slots.set_prev_at.Goals as goal
 pub item_mut-requires : goal.item_mut-requires
 item_mut-requires g c =
     free_within (g.S.NonZeroInxGenericStack.items c.args.slots.now) (non_zero_usize_get c.in-Some.i)
-    (c.requires.free (non_zero_usize_get c.in-Some.i) (sym c.get.ensures ∙ ap (option_map non_zero_usize_get) c.in-Some.is))
+    (c.requires.free (non_zero_usize_get c.in-Some.i)
+    (sym c.get.ensures ∙ ap (option_map non_zero_usize_get) c.in-Some.is))
 
 pub set_prev-requires-clause-free : goal.set_prev-requires-clause-free
 set_prev-requires-clause-free g c =
-    slot_free (g.S.NonZeroInxGenericStack.items c.args.slots.now) (non_zero_usize_get c.in-Some.i) c.item_mut.result.now c.in-Some.i.ok c.item_mut.ensures.value
-    (c.requires.free (non_zero_usize_get c.in-Some.i) (sym c.get.ensures ∙ ap (option_map non_zero_usize_get) c.in-Some.is))
+    slot_free (g.S.NonZeroInxGenericStack.items c.args.slots.now) (non_zero_usize_get c.in-Some.i)
+    c.item_mut.result.now c.in-Some.i.ok c.item_mut.ensures.value
+    (c.requires.free (non_zero_usize_get c.in-Some.i)
+    (sym c.get.ensures ∙ ap (option_map non_zero_usize_get) c.in-Some.is))
 
 pub returns-in-Some-clause-links : goal.returns-in-Some-clause-links
 returns-in-Some-clause-links g c =
-    prev_written _ _ (sym c.get.ensures ∙ ap (option_map non_zero_usize_get) c.in-Some.is) c.in-Some.i.ok c.item_mut.ensures.value c.set_prev.ensures
+    prev_written _ _ (sym c.get.ensures ∙ ap (option_map non_zero_usize_get) c.in-Some.is)
+    c.in-Some.i.ok c.item_mut.ensures.value c.set_prev.ensures
     (g.met.S.NonZeroInxGenericStack.items_with_items c.args.slots.now
-    (with_item (g.S.NonZeroInxGenericStack.items c.args.slots.now) (non_zero_usize_get c.in-Some.i) c.set_prev.new.self))
+    (with_item (g.S.NonZeroInxGenericStack.items c.args.slots.now) (non_zero_usize_get c.in-Some.i)
+    c.set_prev.new.self))
 
 pub returns-in-Some-clause-entries : goal.returns-in-Some-clause-entries
 returns-in-Some-clause-entries g c =
     entries-prev _ (non_zero_usize_get c.in-Some.i) _ c.item_mut.ensures.value c.set_prev.ensures
     (g.met.S.NonZeroInxGenericStack.items_with_items c.args.slots.now
-    (with_item (g.S.NonZeroInxGenericStack.items c.args.slots.now) (non_zero_usize_get c.in-Some.i) c.set_prev.new.self))
+    (with_item (g.S.NonZeroInxGenericStack.items c.args.slots.now) (non_zero_usize_get c.in-Some.i)
+    c.set_prev.new.self))

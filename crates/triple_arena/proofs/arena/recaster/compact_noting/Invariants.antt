@@ -8,7 +8,8 @@ use Rattle.triple_arena.proofs.arena.recaster.compact_noting.Given as goal
 
 abbrev pub invariant-loop-at : goal.invariant-loop-at
 invariant-loop-at g l =
-    Partly g.P.PtrCore.index g.P.PtrCore.generation (notes g.P.PtrCore.index g.P.PtrCore.generation) [] (λ _. g.P.Gen.PtrGenCore.number l.generation) (λ _. false)
+    Partly g.P.PtrCore.index g.P.PtrCore.generation (notes g.P.PtrCore.index g.P.PtrCore.generation)
+    [] (λ _. g.P.Gen.PtrGenCore.number l.generation) (λ _. false)
     (map entry_of (g.S.NonZeroInxGenericStack.items l.fn.slots)) (live_entries l.map)
     (map entry_of (g.S.NonZeroInxGenericStack.items l.slots)) l.at l.live false
     × (length l.map.slots ≤ l.at)

@@ -8,5 +8,6 @@ returns-clause-values g c =
 
 pub returns-clause-exact : goal.returns-clause-exact
 returns-clause-exact g c =
-    subst (λ values. g.Self.ArenaTrait.is_compressed c.args.self.now c.args.reset values c.compress_with.new.self) (returns-clause-values g c)
+    subst (λ values. g.Self.ArenaTrait.is_compressed c.args.self.now c.args.reset values
+    c.compress_with.new.self) (returns-clause-values g c)
     c.compress_with.ensures.exact

@@ -10,8 +10,10 @@ pub returns-in_err-copy-clause-unmade : goal.returns-in_err-copy-clause-unmade
 returns-in_err-copy-clause-unmade g c failed =
     let e = c.in_err-copy.ensures in
     let takes : IsTrue g.S.NonZeroInxGenericStack.takes_memory = search rules in
-    let last : length c.up_to_last-last.result.now ≡ last_listed (live_entries c.args.self.now) = search rules in
-    elim (leb_tells (last_listed (live_entries c.args.self.now)) (capacity (room_of g.P.Inx.PtrInxCore.greatest (g.S.NonZeroInxGenericStack.room_at 0)))) [
+    let last : length c.up_to_last-last.result.now ≡ last_listed (live_entries c.args.self.now) =
+    search rules in
+    elim (leb_tells (last_listed (live_entries c.args.self.now))
+    (capacity (room_of g.P.Inx.PtrInxCore.greatest (g.S.NonZeroInxGenericStack.room_at 0)))) [
       | inl below ↦ let ok = e.succeeds (omega (arith, last, below.1)) in absurd (cc)
       | inr above ↦ inl (takes, above.1)
     ]

@@ -7,6 +7,7 @@ pub over-requires-clause-cursor : goal.over-requires-clause-cursor
 over-requires-clause-cursor g c =
     let slots = g.S.NonZeroInxGenericStack.items c.self.inside.slots in
     record {
-      counted = rw (c.as_slice.ensures, map-id slots) (c.self.invariant.counted ∙ sym (listed-length 1 slots));
+      counted = rw (c.as_slice.ensures, map-id slots)
+          (c.self.invariant.counted ∙ sym (listed-length 1 slots));
       indexed = search rules;
     }

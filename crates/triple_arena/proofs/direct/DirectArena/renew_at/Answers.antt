@@ -7,18 +7,24 @@ use Rattle.triple_arena.proofs.direct.DirectArena.renew_at.Goals as goal
 
 pub invariant_of-self : goal.invariant_of-self
 invariant_of-self g c =
-    (renewed _ _ c.self.invariant c.self.view_is c.args.i.ok c.item_mut.ensures.value c.set_generation.ensures
+    (renewed _ _ c.self.invariant c.self.view_is c.args.i.ok c.item_mut.ensures.value
+    c.set_generation.ensures
     (g.met.S.NonZeroInxGenericStack.items_with_items c.self.inside.slots
-    (with_item (g.S.NonZeroInxGenericStack.items c.self.inside.slots) (non_zero_usize_get c.args.i) c.set_generation.new.self))
+    (with_item (g.S.NonZeroInxGenericStack.items c.self.inside.slots) (non_zero_usize_get c.args.i)
+    c.set_generation.new.self))
     (ap (room_of g.P.Inx.PtrInxCore.greatest)
     (g.met.S.NonZeroInxGenericStack.room_with_items c.self.inside.slots
-    (with_item (g.S.NonZeroInxGenericStack.items c.self.inside.slots) (non_zero_usize_get c.args.i) c.set_generation.new.self)))).sound
+    (with_item (g.S.NonZeroInxGenericStack.items c.self.inside.slots) (non_zero_usize_get c.args.i)
+    c.set_generation.new.self)))).sound
 
 pub returns-clause-value : goal.returns-clause-value
 returns-clause-value g c =
-    (renewed _ _ c.self.invariant c.self.view_is c.args.i.ok c.item_mut.ensures.value c.set_generation.ensures
+    (renewed _ _ c.self.invariant c.self.view_is c.args.i.ok c.item_mut.ensures.value
+    c.set_generation.ensures
     (g.met.S.NonZeroInxGenericStack.items_with_items c.self.inside.slots
-    (with_item (g.S.NonZeroInxGenericStack.items c.self.inside.slots) (non_zero_usize_get c.args.i) c.set_generation.new.self))
+    (with_item (g.S.NonZeroInxGenericStack.items c.self.inside.slots) (non_zero_usize_get c.args.i)
+    c.set_generation.new.self))
     (ap (room_of g.P.Inx.PtrInxCore.greatest)
     (g.met.S.NonZeroInxGenericStack.room_with_items c.self.inside.slots
-    (with_item (g.S.NonZeroInxGenericStack.items c.self.inside.slots) (non_zero_usize_get c.args.i) c.set_generation.new.self)))).content
+    (with_item (g.S.NonZeroInxGenericStack.items c.self.inside.slots) (non_zero_usize_get c.args.i)
+    c.set_generation.new.self)))).content

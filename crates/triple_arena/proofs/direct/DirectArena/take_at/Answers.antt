@@ -10,10 +10,12 @@ invariant_of-self g c =
     (freed _ c.self.invariant c.self.view_is c.requires
     (c.replace-slot.ensures.after ∙ c.free.ensures)
     (g.met.S.NonZeroInxGenericStack.items_with_items c.self.inside.slots
-    (with_item (g.S.NonZeroInxGenericStack.items c.self.inside.slots) (non_zero_usize_get c.args.i) c.replace-slot.new.dest))
+    (with_item (g.S.NonZeroInxGenericStack.items c.self.inside.slots) (non_zero_usize_get c.args.i)
+    c.replace-slot.new.dest))
     (ap (room_of g.P.Inx.PtrInxCore.greatest)
     (g.met.S.NonZeroInxGenericStack.room_with_items c.self.inside.slots
-    (with_item (g.S.NonZeroInxGenericStack.items c.self.inside.slots) (non_zero_usize_get c.args.i) c.replace-slot.new.dest)))).sound
+    (with_item (g.S.NonZeroInxGenericStack.items c.self.inside.slots) (non_zero_usize_get c.args.i)
+    c.replace-slot.new.dest)))).sound
 
 pub returns-clause-entry : goal.returns-clause-entry
 returns-clause-entry g c =

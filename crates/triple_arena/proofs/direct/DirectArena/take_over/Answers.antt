@@ -6,21 +6,30 @@ use Rattle.triple_arena.proofs.direct.DirectArena.take_over.Goals as goal
 
 pub invariant_of-self : goal.invariant_of-self
 invariant_of-self g c =
-    let many = c.requires.counted ∙ sym (g.met.Source.ArenaTrait.live_entries_counted c.args.source.now) in
-    let room = ap (room_of g.P.Inx.PtrInxCore.greatest) (c.give_up.ensures.room ∙ c.clear.ensures.room) ∙ ap (λ x. x.room) c.self.view_is in
-    (takes_over_direct c.args.self.now (out_rowed c.give_up.ensures.moved) room many c.requires.fits).sound
+    let many = c.requires.counted
+    ∙ sym (g.met.Source.ArenaTrait.live_entries_counted c.args.source.now) in
+    let room = ap (room_of g.P.Inx.PtrInxCore.greatest)
+    (c.give_up.ensures.room ∙ c.clear.ensures.room) ∙ ap (λ x. x.room) c.self.view_is in
+    (takes_over_direct c.args.self.now (out_rowed c.give_up.ensures.moved) room many
+    c.requires.fits).sound
 
 pub returns-clause-mapped : goal.returns-clause-mapped
 returns-clause-mapped g c = out_mapped_direct _ c.give_up.ensures.moved
 
 pub returns-clause-filled : goal.returns-clause-filled
 returns-clause-filled g c =
-    let many = c.requires.counted ∙ sym (g.met.Source.ArenaTrait.live_entries_counted c.args.source.now) in
-    let room = ap (room_of g.P.Inx.PtrInxCore.greatest) (c.give_up.ensures.room ∙ c.clear.ensures.room) ∙ ap (λ x. x.room) c.self.view_is in
-    rw many (takes_over_direct c.args.self.now (out_rowed c.give_up.ensures.moved) room many c.requires.fits).filled
+    let many = c.requires.counted
+    ∙ sym (g.met.Source.ArenaTrait.live_entries_counted c.args.source.now) in
+    let room = ap (room_of g.P.Inx.PtrInxCore.greatest)
+    (c.give_up.ensures.room ∙ c.clear.ensures.room) ∙ ap (λ x. x.room) c.self.view_is in
+    rw many (takes_over_direct c.args.self.now (out_rowed c.give_up.ensures.moved) room many
+    c.requires.fits).filled
 
 pub returns-clause-exact : goal.returns-clause-exact
 returns-clause-exact g c =
-    let many = c.requires.counted ∙ sym (g.met.Source.ArenaTrait.live_entries_counted c.args.source.now) in
-    let room = ap (room_of g.P.Inx.PtrInxCore.greatest) (c.give_up.ensures.room ∙ c.clear.ensures.room) ∙ ap (λ x. x.room) c.self.view_is in
-    (takes_over_direct c.args.self.now (out_rowed c.give_up.ensures.moved) room many c.requires.fits).exact
+    let many = c.requires.counted
+    ∙ sym (g.met.Source.ArenaTrait.live_entries_counted c.args.source.now) in
+    let room = ap (room_of g.P.Inx.PtrInxCore.greatest)
+    (c.give_up.ensures.room ∙ c.clear.ensures.room) ∙ ap (λ x. x.room) c.self.view_is in
+    (takes_over_direct c.args.self.now (out_rowed c.give_up.ensures.moved) room many
+    c.requires.fits).exact

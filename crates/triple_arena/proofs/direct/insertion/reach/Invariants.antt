@@ -6,9 +6,12 @@ use Rattle.triple_arena.proofs.direct.insertion.reach.Given as goal
 abbrev pub invariant-loop-slots : goal.invariant-loop-slots
 invariant-loop-slots g l =
     (g.S.NonZeroInxGenericStack.items l.slots
-    ≡ reaching (length (g.S.NonZeroInxGenericStack.items l.slots)) (g.S.NonZeroInxGenericStack.items l.fn.slots))
-    × (length (g.S.NonZeroInxGenericStack.items l.slots) ≤ max (length (g.S.NonZeroInxGenericStack.items l.fn.slots)) l.n)
-    × (length (g.S.NonZeroInxGenericStack.items l.fn.slots) ≤ length (g.S.NonZeroInxGenericStack.items l.slots))
+    ≡ reaching (length (g.S.NonZeroInxGenericStack.items l.slots))
+    (g.S.NonZeroInxGenericStack.items l.fn.slots))
+    × (length (g.S.NonZeroInxGenericStack.items l.slots)
+    ≤ max (length (g.S.NonZeroInxGenericStack.items l.fn.slots)) l.n)
+    × (length (g.S.NonZeroInxGenericStack.items l.fn.slots)
+    ≤ length (g.S.NonZeroInxGenericStack.items l.slots))
     × (l.n ≡ l.fn.n)
     × (g.S.NonZeroInxGenericStack.room l.slots ≡ g.S.NonZeroInxGenericStack.room l.fn.slots)
 

@@ -7,8 +7,11 @@ use Rattle.triple_arena.proofs.iterators.IterIterator.next.Given as goal
 abbrev pub invariant-loop-slot : goal.invariant-loop-slot
 invariant-loop-slot g l =
     record {
-      cursor : IsCursor g.E.LentEntry.shown l.self-inside.slots.now l.self-inside.passed l.self-inside.left (max_index_of g.P.Inx.PtrInxCore.greatest);
-      same : map (with_part g.M.Part.part) (listed_behind l.self-inside.passed (map g.E.LentEntry.shown l.self-inside.slots.now)) ≡ l.fn.self;
+      cursor : IsCursor g.E.LentEntry.shown l.self-inside.slots.now l.self-inside.passed
+          l.self-inside.left (max_index_of g.P.Inx.PtrInxCore.greatest);
+      same : map (with_part g.M.Part.part)
+          (listed_behind l.self-inside.passed (map g.E.LentEntry.shown l.self-inside.slots.now))
+          ≡ l.fn.self;
     }
 
 abbrev pub decreases-loop-slot : goal.decreases-loop-slot

@@ -5,8 +5,10 @@ use Rattle.triple_arena_chain.proofs.chain_arena.ChainArena.drain_chain.Goals as
 
 pub returns : goal.returns
 returns g c =
-    let some : IsSome (get c.args.self.now (g.P.PtrCore.index c.args.p) (g.P.PtrCore.generation c.args.p)) = search rules in
-    let walk = walk_from g.P.Inx.PtrInxCore.number g.P.Gen.PtrGenCore.last c.args.self.now c.inx.result (g.P.PtrCore.index c.args.p) (g.P.PtrCore.generation c.args.p)
+    let some : IsSome (get c.args.self.now (g.P.PtrCore.index c.args.p)
+    (g.P.PtrCore.generation c.args.p)) = search rules in
+    let walk = walk_from g.P.Inx.PtrInxCore.number g.P.Gen.PtrGenCore.last c.args.self.now
+    c.inx.result (g.P.PtrCore.index c.args.p) (g.P.PtrCore.generation c.args.p)
     c.recall_chained.ensures c.inx.ensures some in (
       (refl, λ w. refl, tt),
       record {
@@ -15,8 +17,10 @@ returns g c =
         chains = refl;
         start = ap Some c.inx.ensures;
         ready = walk;
-        stays = keeps_along g.P.Inx.PtrInxCore.number g.P.Gen.PtrGenCore.last g.P.PtrCore.index g.P.PtrCore.generation _;
-        in_order = goes_along g.P.Inx.PtrInxCore.number g.P.Gen.PtrGenCore.last g.P.PtrCore.index g.P.PtrCore.generation _;
+        stays = keeps_along g.P.Inx.PtrInxCore.number g.P.Gen.PtrGenCore.last g.P.PtrCore.index
+            g.P.PtrCore.generation _;
+        in_order = goes_along g.P.Inx.PtrInxCore.number g.P.Gen.PtrGenCore.last g.P.PtrCore.index
+            g.P.PtrCore.generation _;
         none = tt;
       },
     )

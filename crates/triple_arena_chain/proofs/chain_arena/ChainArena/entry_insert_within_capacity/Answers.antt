@@ -12,9 +12,11 @@ returns-in-Some-next_ptr g c =
     let old = c.args.self.now in
     let kept : c.next_ptr.new.self ≡ old = c.in-Some-next_ptr.ensures.kept in
     let place = place_by number c.in-Some.place in
-    let is : place_among g.P.PtrCore.index g.P.PtrCore.generation number old c.args.kind ≡ Some place = search rules in
+    let is : place_among g.P.PtrCore.index g.P.PtrCore.generation number old c.args.kind
+    ≡ Some place = search rules in
     let there : IsPlace (ends_in number old) place =
-    placeable g.P.PtrCore.index g.P.PtrCore.generation number old c.args.kind place c.recall_chained.ensures is in
+    placeable g.P.PtrCore.index g.P.PtrCore.generation number old c.args.kind place
+    c.recall_chained.ensures is in
     let room = c.in-Some-next_ptr.ensures.variant.0 refl in (
       (refl, λ w. refl, tt),
       record {
@@ -25,7 +27,8 @@ returns-in-Some-next_ptr g c =
           room = rw kept room;
           place = rw kept there;
           has_index = c.in-Some-next_ptr.ensures.has_index ∙ ap next_index (sym kept);
-          has_generation = c.in-Some-next_ptr.ensures.has_generation ∙ ap (λ d. d.counter) (sym kept);
+          has_generation = c.in-Some-next_ptr.ensures.has_generation
+              ∙ ap (λ d. d.counter) (sym kept);
         };
         place = is;
         err = tt;

@@ -10,12 +10,15 @@ pub put-requires-clause-place : goal.put-requires-clause-place
 put-requires-clause-place g c =
     let number = g.P.Inx.PtrInxCore.number in
     let grown : c.make_room.new.self ≡ grown_if_full c.args.self.now = search rules in
-    let there : IsGap (ends_in number (grown_if_full c.args.self.now)) (option_map number c.args.prev, option_map number c.args.next) = c.requires in
+    let there : IsGap (ends_in number (grown_if_full c.args.self.now))
+    (option_map number c.args.prev, option_map number c.args.next) = c.requires in
     rw grown there
 
 pub returns-clause-placed : goal.returns-clause-placed
 returns-clause-placed g c =
     let number = g.P.Inx.PtrInxCore.number in
     let grown : c.make_room.new.self ≡ grown_if_full c.args.self.now = search rules in
-    placed-grown number c.args.self.now c.make_room.new.self c.put.new.self (Between (option_map number c.args.prev) (option_map number c.args.next))
-    (g.P.PtrCore.index c.put.result) (g.P.PtrCore.generation c.put.result) c.args.t grown c.put.ensures.placed
+    placed-grown number c.args.self.now c.make_room.new.self c.put.new.self
+    (Between (option_map number c.args.prev) (option_map number c.args.next))
+    (g.P.PtrCore.index c.put.result) (g.P.PtrCore.generation c.put.result) c.args.t grown
+    c.put.ensures.placed

@@ -10,9 +10,11 @@ invariant-loop-p g l =
     record {
       rises : l.links.falls ≡ false;
       reaches : (j : ℕ) → IsSome (entry_at l.arena j) → j ≤ l.links.high;
-      forward : (p q : ℕ) → p < l.links.low → next_at (ends_in g.P.Inx.PtrInxCore.number l.arena) p ≡ Some q
+      forward : (p q : ℕ) → p < l.links.low
+          → next_at (ends_in g.P.Inx.PtrInxCore.number l.arena) p ≡ Some q
           → prev_at (ends_in g.P.Inx.PtrInxCore.number l.arena) q ≡ Some p;
-      backward : (p q : ℕ) → q < l.links.low → prev_at (ends_in g.P.Inx.PtrInxCore.number l.arena) q ≡ Some p
+      backward : (p q : ℕ) → q < l.links.low
+          → prev_at (ends_in g.P.Inx.PtrInxCore.number l.arena) q ≡ Some p
           → next_at (ends_in g.P.Inx.PtrInxCore.number l.arena) p ≡ Some q;
     }
 

@@ -11,8 +11,10 @@ returns-in-Ok-clause-is_place g c =
     let number = g.P.Inx.PtrInxCore.number in
     let old = c.args.self.now in
     let place = place_by number c.in-Some.place in
-    let is : place_among g.P.PtrCore.index g.P.PtrCore.generation number old c.args.kind ≡ Some place = search rules in
+    let is : place_among g.P.PtrCore.index g.P.PtrCore.generation number old c.args.kind
+    ≡ Some place = search rules in
     let grown : c.make_room.new.self ≡ grown_if_full old = search rules in
     let there : IsPlace (ends_in number (grown_if_full old)) place =
-    placeable g.P.PtrCore.index g.P.PtrCore.generation number old c.args.kind place c.recall_chained.ensures is in
+    placeable g.P.PtrCore.index g.P.PtrCore.generation number old c.args.kind place
+    c.recall_chained.ensures is in
     rw grown there

@@ -6,15 +6,19 @@ use Rattle.triple_arena_chain.proofs.chain_arena.ChainArena.put.Given.{Over}
 use Rattle.triple_arena_chain.proofs.chain_arena.ChainArena.put.Goals as goal
 
 placed : (g : Over) (c : goal.After-join g)
-    → Placed g.P.Inx.PtrInxCore.number c.args.self.now c.join.new.arena c.args.place (g.P.Inx.PtrInxCore.number c.inx-i.result) c.args.self.now.counter c.args.t
+    → Placed g.P.Inx.PtrInxCore.number c.args.self.now c.join.new.arena c.args.place
+    (g.P.Inx.PtrInxCore.number c.inx-i.result) c.args.self.now.counter c.args.t
 placed g c =
     let number = g.P.Inx.PtrInxCore.number in
     let old = c.args.self.now in
     let chained : IsChained number old = search rules in
     let index : number c.inx-i.result ≡ next_index old = search rules in
-    let is : c.join.new.arena ≡ joined_to number (inserted old (link_for number c.args.place c.inx-i.result c.args.t)) c.args.place c.inx-i.result =
+    let is : c.join.new.arena
+    ≡ joined_to number (inserted old (link_for number c.args.place c.inx-i.result c.args.t))
+    c.args.place c.inx-i.result =
     search rules in
-    placed_in number old c.join.new.arena c.args.place c.inx-i.result c.args.t chained c.requires.room c.requires.place index is
+    placed_in number old c.join.new.arena c.args.place c.inx-i.result c.args.t chained
+    c.requires.room c.requires.place index is
 
 pub invariant_of-self : goal.invariant_of-self
 invariant_of-self g c = (placed g c).chained

@@ -8,19 +8,31 @@ use Rattle.triple_arena_chain.proofs.chain_arena.ChainArena.take_first.Goals as 
 pub returns-then-wrapped-clause-step : goal.returns-then-wrapped-clause-step
 returns-then-wrapped-clause-step g c =
     let number = g.P.Inx.PtrInxCore.number in
-    let next : option_map number c.onward-next.result ≡ next_or_prev (number c.args.i) (link_ends number c.in_ok-generation.link) = search rules in
-    step_by number g.P.Gen.PtrGenCore.last g.P.Gen.PtrGenCore.number g.P.PtrCore.index g.P.PtrCore.generation (answer_of c.remove_inx_link_no_gen.result) c.args.self.now
-    c.remove_inx_link_no_gen.new.self (number c.args.i) c._from_raw.result c.in_ok-generation.generation c.in_ok-generation.link c.in_ok-generation.wrapped _
-    (option_map number c.onward-next.result) c.recall_chained.ensures c._from_raw.ensures.has_index c._from_raw.ensures.has_generation refl
-    (sym c.if-wrapped.true) (search rules) c.remove_inx_link_no_gen.ensures.value c.remove_inx_link_no_gen.ensures.overflow
+    let next : option_map number c.onward-next.result
+    ≡ next_or_prev (number c.args.i) (link_ends number c.in_ok-generation.link) =
+    search rules in
+    step_by number g.P.Gen.PtrGenCore.last g.P.Gen.PtrGenCore.number g.P.PtrCore.index
+    g.P.PtrCore.generation (answer_of c.remove_inx_link_no_gen.result) c.args.self.now
+    c.remove_inx_link_no_gen.new.self (number c.args.i) c._from_raw.result
+    c.in_ok-generation.generation c.in_ok-generation.link c.in_ok-generation.wrapped _
+    (option_map number c.onward-next.result) c.recall_chained.ensures c._from_raw.ensures.has_index
+    c._from_raw.ensures.has_generation refl
+    (sym c.if-wrapped.true) (search rules) c.remove_inx_link_no_gen.ensures.value
+    c.remove_inx_link_no_gen.ensures.overflow
     c.remove_inx_link_no_gen.ensures.taken next
 
 pub returns-else-wrapped-clause-step : goal.returns-else-wrapped-clause-step
 returns-else-wrapped-clause-step g c =
     let number = g.P.Inx.PtrInxCore.number in
-    let next : option_map number c.onward-next.result ≡ next_or_prev (number c.args.i) (link_ends number c.in_ok-generation.link) = search rules in
-    step_by number g.P.Gen.PtrGenCore.last g.P.Gen.PtrGenCore.number g.P.PtrCore.index g.P.PtrCore.generation (answer_of c.remove_inx_link_no_gen.result) c.args.self.now
-    c.remove_inx_link_no_gen.new.self (number c.args.i) c._from_raw.result c.in_ok-generation.generation c.in_ok-generation.link c.in_ok-generation.wrapped _
-    (option_map number c.onward-next.result) c.recall_chained.ensures c._from_raw.ensures.has_index c._from_raw.ensures.has_generation refl
-    (sym c.if-wrapped.false) (search rules) c.remove_inx_link_no_gen.ensures.value c.remove_inx_link_no_gen.ensures.overflow
+    let next : option_map number c.onward-next.result
+    ≡ next_or_prev (number c.args.i) (link_ends number c.in_ok-generation.link) =
+    search rules in
+    step_by number g.P.Gen.PtrGenCore.last g.P.Gen.PtrGenCore.number g.P.PtrCore.index
+    g.P.PtrCore.generation (answer_of c.remove_inx_link_no_gen.result) c.args.self.now
+    c.remove_inx_link_no_gen.new.self (number c.args.i) c._from_raw.result
+    c.in_ok-generation.generation c.in_ok-generation.link c.in_ok-generation.wrapped _
+    (option_map number c.onward-next.result) c.recall_chained.ensures c._from_raw.ensures.has_index
+    c._from_raw.ensures.has_generation refl
+    (sym c.if-wrapped.false) (search rules) c.remove_inx_link_no_gen.ensures.value
+    c.remove_inx_link_no_gen.ensures.overflow
     c.remove_inx_link_no_gen.ensures.taken next

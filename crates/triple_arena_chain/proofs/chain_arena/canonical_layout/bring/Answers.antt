@@ -4,21 +4,27 @@ use Rattle.triple_arena_chain.proofs.chain_arena.canonical_layout.bring.Goals as
 
 pub swap_inx-requires-clause-i_is_live : goal.swap_inx-requires-clause-i_is_live
 swap_inx-requires-clause-i_is_live g c =
-    next_keeps g.P.Inx.PtrInxCore.number c.args.arena.now c.set_next.new.arena c.args.last (Some c.args.place) _ c.set_next.ensures c.requires.at_is_live
+    next_keeps g.P.Inx.PtrInxCore.number c.args.arena.now c.set_next.new.arena c.args.last
+    (Some c.args.place) _ c.set_next.ensures c.requires.at_is_live
 
 pub swap_inx-requires-clause-j_is_live : goal.swap_inx-requires-clause-j_is_live
 swap_inx-requires-clause-j_is_live g c =
-    next_keeps g.P.Inx.PtrInxCore.number c.args.arena.now c.set_next.new.arena c.args.last (Some c.args.place) _ c.set_next.ensures
+    next_keeps g.P.Inx.PtrInxCore.number c.args.arena.now c.set_next.new.arena c.args.last
+    (Some c.args.place) _ c.set_next.ensures
     c.requires.place_is_live
 
 pub set_prev-requires : goal.set_prev-requires
 set_prev-requires g c =
-    place_stays g.P.Inx.PtrInxCore.number c.args.arena.now c.set_next.new.arena c.swap_inx.new.self c.swap_inx.new.self c.args.last c.args.at c.args.place
-    c.requires.formed c.requires.alike c.requires.at_is_live c.requires.place_is_live c.set_next.ensures c.swap_inx.ensures.exchanged.entries
+    place_stays g.P.Inx.PtrInxCore.number c.args.arena.now c.set_next.new.arena c.swap_inx.new.self
+    c.swap_inx.new.self c.args.last c.args.at c.args.place
+    c.requires.formed c.requires.alike c.requires.at_is_live c.requires.place_is_live
+    c.set_next.ensures c.swap_inx.ensures.exchanged.entries
     c.swap_inx.ensures.exact
 
 pub returns : goal.returns
 returns g c =
-    brought g.P.Inx.PtrInxCore.number c.args.arena.now c.set_next.new.arena c.swap_inx.new.self c.set_prev.new.arena c.args.last c.args.at c.args.place
-    c.requires.formed c.requires.alike c.requires.at_is_live c.requires.place_is_live c.set_next.ensures c.swap_inx.ensures.exchanged.entries
+    brought g.P.Inx.PtrInxCore.number c.args.arena.now c.set_next.new.arena c.swap_inx.new.self
+    c.set_prev.new.arena c.args.last c.args.at c.args.place
+    c.requires.formed c.requires.alike c.requires.at_is_live c.requires.place_is_live
+    c.set_next.ensures c.swap_inx.ensures.exchanged.entries
     c.swap_inx.ensures.exact c.set_prev.ensures

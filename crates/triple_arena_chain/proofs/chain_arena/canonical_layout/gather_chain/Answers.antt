@@ -1,17 +1,22 @@
-use Rattle.std.proofs.Common.{true≢false, rules, ◌≡◌, ◌≢◌, ◌^◌, ◌<◌, IsSome, Some, None, length, option_map, sym, ap, subst, ◌∙◌, arith}
+use Rattle.std.proofs.Common.{true≢false, rules, ◌≡◌, ◌≢◌, ◌^◌, ◌<◌, IsSome, Some, None, length}
+use Rattle.std.proofs.Common.{option_map, sym, ap, subst, ◌∙◌, arith}
 use Rattle.triple_arena.specs.Content.{entry_at}
 use Rattle.triple_arena_chain.specs.Chains.{next_at}
 use Rattle.triple_arena_chain.specs.Links.{ends_in}
 use Rattle.triple_arena_chain.specs.Notes.{IsBrought}
-use Rattle.triple_arena_chain.proofs.GoingLemmas.{place_first, start_live, way_first, way_last, way_formed, way_alike, way_within, way_next, way_more, way_over, way_round}
+use Rattle.triple_arena_chain.proofs.GoingLemmas.{place_first, start_live, way_first, way_last}
+use Rattle.triple_arena_chain.proofs.GoingLemmas.{way_formed, way_alike, way_within, way_next}
+use Rattle.triple_arena_chain.proofs.GoingLemmas.{way_more, way_over, way_round}
 use Rattle.triple_arena_chain.proofs.PassLemmas.{live_ends}
 use Rattle.triple_arena_chain.proofs.SwappedLinkLemmas.{next_found}
 use Rattle.triple_arena_chain.proofs.chain_arena.canonical_layout.gather_chain.Goals as goal
 
 pub unplaced_start-requires-clause-live : goal.unplaced_start-requires-clause-live
 unplaced_start-requires-clause-live g c =
-    subst (λ k. IsSome (ends_in g.P.Inx.PtrInxCore.number c.args.arena.now k)) (sym c.behind-start.ensures)
-    (place_first g.P.Inx.PtrInxCore.number c.args.first c.args.arena.now c.requires.gathering c.requires.more)
+    subst (λ k. IsSome (ends_in g.P.Inx.PtrInxCore.number c.args.arena.now k))
+    (sym c.behind-start.ensures)
+    (place_first g.P.Inx.PtrInxCore.number c.args.first c.args.arena.now c.requires.gathering
+    c.requires.more)
 
 pub bring-requires-clause-formed : goal.bring-requires-clause-formed
 bring-requires-clause-formed g c = c.requires.gathering.have.are.noted.formed
@@ -21,7 +26,8 @@ bring-requires-clause-alike g c = c.requires.gathering.have.are.alike
 
 pub bring-requires-clause-at_is_live : goal.bring-requires-clause-at_is_live
 bring-requires-clause-at_is_live g c =
-    start_live g.P.Inx.PtrInxCore.number c.args.first c.args.arena.now c.requires.gathering c.requires.more _ _ c.unplaced_start.ensures
+    start_live g.P.Inx.PtrInxCore.number c.args.first c.args.arena.now c.requires.gathering
+    c.requires.more _ _ c.unplaced_start.ensures
 
 pub bring-requires-clause-place_is_live : goal.bring-requires-clause-place_is_live
 bring-requires-clause-place_is_live g c =
@@ -35,8 +41,10 @@ link-init g c =
     let number = g.P.Inx.PtrInxCore.number in
     record {
       way =
-          way_first number c.args.first c.args.arena.now c.requires.gathering c.requires.more _ _ c.bring.new.arena c.unplaced_start.ensures
-          (subst (λ k. IsBrought number None (number c.unplaced_start.result.0) k c.args.arena.now c.bring.new.arena) c.behind-start.ensures c.bring.ensures);
+          way_first number c.args.first c.args.arena.now c.requires.gathering c.requires.more _ _
+          c.bring.new.arena c.unplaced_start.ensures
+          (subst (λ k. IsBrought number None (number c.unplaced_start.result.0) k c.args.arena.now
+          c.bring.new.arena) c.behind-start.ensures c.bring.ensures);
       last = c.behind-start.ensures;
       more = omega arith;
     }
@@ -45,42 +53,52 @@ pub get_inx_unwrap-requires : goal.get_inx_unwrap-requires
 get_inx_unwrap-requires g c =
     let number = g.P.Inx.PtrInxCore.number in
     subst (λ k. IsSome (entry_at c.link.arena k)) (sym c.link.invariant.last)
-    (way_last number c.args.first c.link.placed _ c.args.arena.now c.link.arena c.requires.gathering c.link.invariant.way)
+    (way_last number c.args.first c.link.placed _ c.args.arena.now c.link.arena c.requires.gathering
+    c.link.invariant.way)
 
 pub returns-then-is_same-clause-gathered : goal.returns-then-is_same-clause-gathered
 returns-then-is_same-clause-gathered g c =
     let number = g.P.Inx.PtrInxCore.number in
     let goes : next_at (ends_in number c.link.arena) c.link.placed ≡ Some (number c.in-Some.next) =
-    ap (next_at (ends_in number c.link.arena)) (sym c.link.invariant.last) ∙ next_found number c.link.arena _ _ c.get_inx_unwrap.ensures
+    ap (next_at (ends_in number c.link.arena)) (sym c.link.invariant.last)
+    ∙ next_found number c.link.arena _ _ c.get_inx_unwrap.ensures
     ∙ ap (option_map number) (sym c.next.ensures ∙ c.in-Some.is) in
-    way_round number c.args.first c.link.placed (number c.in-Some.next) _ c.args.arena.now c.link.arena c.set_next.new.arena c.link.last c.behind-start.result
-    c.link.invariant.way goes (c.is_same.ensures.0 c.if-is_same.true) c.link.invariant.last c.behind-start.ensures c.set_next.ensures
+    way_round number c.args.first c.link.placed (number c.in-Some.next) _ c.args.arena.now
+    c.link.arena c.set_next.new.arena c.link.last c.behind-start.result
+    c.link.invariant.way goes (c.is_same.ensures.0 c.if-is_same.true) c.link.invariant.last
+    c.behind-start.ensures c.set_next.ensures
 
 pub returns-then-is_same-clause-within : goal.returns-then-is_same-clause-within
 returns-then-is_same-clause-within g c =
-    way_within g.P.Inx.PtrInxCore.number c.args.first c.link.placed _ c.args.arena.now c.link.arena c.requires.gathering c.link.invariant.way
+    way_within g.P.Inx.PtrInxCore.number c.args.first c.link.placed _ c.args.arena.now c.link.arena
+    c.requires.gathering c.link.invariant.way
 
 pub returns-in-None-clause-gathered : goal.returns-in-None-clause-gathered
 returns-in-None-clause-gathered g c =
     let number = g.P.Inx.PtrInxCore.number in
     let gone : next_at (ends_in number c.link.arena) c.link.placed ≡ None =
-    ap (next_at (ends_in number c.link.arena)) (sym c.link.invariant.last) ∙ next_found number c.link.arena _ _ c.get_inx_unwrap.ensures
+    ap (next_at (ends_in number c.link.arena)) (sym c.link.invariant.last)
+    ∙ next_found number c.link.arena _ _ c.get_inx_unwrap.ensures
     ∙ ap (option_map number) (sym c.next.ensures ∙ c.in-None.is) in
-    way_over number c.args.first c.link.placed _ c.args.arena.now c.link.arena c.link.invariant.way gone
+    way_over number c.args.first c.link.placed _ c.args.arena.now c.link.arena c.link.invariant.way
+    gone
 
 pub returns-in-None-clause-within : goal.returns-in-None-clause-within
 returns-in-None-clause-within g c =
-    way_within g.P.Inx.PtrInxCore.number c.args.first c.link.placed _ c.args.arena.now c.link.arena c.requires.gathering c.link.invariant.way
+    way_within g.P.Inx.PtrInxCore.number c.args.first c.link.placed _ c.args.arena.now c.link.arena
+    c.requires.gathering c.link.invariant.way
 
 pub led_to-at-requires : goal.led_to-at-requires
 led_to-at-requires g c =
     let number = g.P.Inx.PtrInxCore.number in
     let goes : next_at (ends_in number c.link.arena) c.link.placed ≡ Some (number c.in-Some.next) =
-    ap (next_at (ends_in number c.link.arena)) (sym c.link.invariant.last) ∙ next_found number c.link.arena _ _ c.get_inx_unwrap.ensures
+    ap (next_at (ends_in number c.link.arena)) (sym c.link.invariant.last)
+    ∙ next_found number c.link.arena _ _ c.get_inx_unwrap.ensures
     ∙ ap (option_map number) (sym c.next.ensures ∙ c.in-Some.is) in
     let away : option_map number c.unplaced_start.result.1 ≢ Some (number c.in-Some.next) =
     λ same. true≢false (sym (c.is_same.ensures.1 same) ∙ c.if-is_same.false) in
-    let n = way_next number c.args.first c.link.placed _ c.args.arena.now c.link.arena c.requires.gathering c.link.invariant.way (number c.in-Some.next) goes
+    let n = way_next number c.args.first c.link.placed _ c.args.arena.now c.link.arena
+    c.requires.gathering c.link.invariant.way (number c.in-Some.next) goes
     away in
     record { led = (n.at, n.led) }
 
@@ -88,41 +106,49 @@ pub behind-place-requires : goal.behind-place-requires
 behind-place-requires g c =
     let number = g.P.Inx.PtrInxCore.number in
     let goes : next_at (ends_in number c.link.arena) c.link.placed ≡ Some (number c.in-Some.next) =
-    ap (next_at (ends_in number c.link.arena)) (sym c.link.invariant.last) ∙ next_found number c.link.arena _ _ c.get_inx_unwrap.ensures
+    ap (next_at (ends_in number c.link.arena)) (sym c.link.invariant.last)
+    ∙ next_found number c.link.arena _ _ c.get_inx_unwrap.ensures
     ∙ ap (option_map number) (sym c.next.ensures ∙ c.in-Some.is) in
     let away : option_map number c.unplaced_start.result.1 ≢ Some (number c.in-Some.next) =
     λ same. true≢false (sym (c.is_same.ensures.1 same) ∙ c.if-is_same.false) in
-    let n = way_next number c.args.first c.link.placed _ c.args.arena.now c.link.arena c.requires.gathering c.link.invariant.way (number c.in-Some.next) goes
+    let n = way_next number c.args.first c.link.placed _ c.args.arena.now c.link.arena
+    c.requires.gathering c.link.invariant.way (number c.in-Some.next) goes
     away in
     let holds = c.capacity.ensures.holds_all in
     let bounded = c.capacity.ensures.bounded in
     let counted = c.requires.gathering.have.are.noted.formed.counted in
-    let none = ap (λ l. length l) (c.requires.gathering.have.are.noted.kept.free ∙ c.requires.gathering.have.are.full) in
+    let none = ap (λ l. length l)
+    (c.requires.gathering.have.are.noted.kept.free ∙ c.requires.gathering.have.are.full) in
     omega (arith, n.more, holds, bounded, counted, none)
 
 pub bring-requires-in-Some-clause-formed : goal.bring-requires-in-Some-clause-formed
 bring-requires-in-Some-clause-formed g c =
-    way_formed g.P.Inx.PtrInxCore.number c.args.first c.link.placed _ c.args.arena.now c.link.arena c.requires.gathering c.link.invariant.way
+    way_formed g.P.Inx.PtrInxCore.number c.args.first c.link.placed _ c.args.arena.now c.link.arena
+    c.requires.gathering c.link.invariant.way
 
 pub bring-requires-in-Some-clause-alike : goal.bring-requires-in-Some-clause-alike
 bring-requires-in-Some-clause-alike g c =
-    way_alike g.P.Inx.PtrInxCore.number c.args.first c.link.placed _ c.args.arena.now c.link.arena c.requires.gathering c.link.invariant.way
+    way_alike g.P.Inx.PtrInxCore.number c.args.first c.link.placed _ c.args.arena.now c.link.arena
+    c.requires.gathering c.link.invariant.way
 
 pub bring-requires-in-Some-clause-last_is_live : goal.bring-requires-in-Some-clause-last_is_live
 bring-requires-in-Some-clause-last_is_live g c =
     let number = g.P.Inx.PtrInxCore.number in
     subst (λ k. IsSome (entry_at c.link.arena k)) (sym c.link.invariant.last)
-    (way_last number c.args.first c.link.placed _ c.args.arena.now c.link.arena c.requires.gathering c.link.invariant.way)
+    (way_last number c.args.first c.link.placed _ c.args.arena.now c.link.arena c.requires.gathering
+    c.link.invariant.way)
 
 pub bring-requires-in-Some-clause-at_is_live : goal.bring-requires-in-Some-clause-at_is_live
 bring-requires-in-Some-clause-at_is_live g c =
     let number = g.P.Inx.PtrInxCore.number in
     let goes : next_at (ends_in number c.link.arena) c.link.placed ≡ Some (number c.in-Some.next) =
-    ap (next_at (ends_in number c.link.arena)) (sym c.link.invariant.last) ∙ next_found number c.link.arena _ _ c.get_inx_unwrap.ensures
+    ap (next_at (ends_in number c.link.arena)) (sym c.link.invariant.last)
+    ∙ next_found number c.link.arena _ _ c.get_inx_unwrap.ensures
     ∙ ap (option_map number) (sym c.next.ensures ∙ c.in-Some.is) in
     let away : option_map number c.unplaced_start.result.1 ≢ Some (number c.in-Some.next) =
     λ same. true≢false (sym (c.is_same.ensures.1 same) ∙ c.if-is_same.false) in
-    let n = way_next number c.args.first c.link.placed _ c.args.arena.now c.link.arena c.requires.gathering c.link.invariant.way (number c.in-Some.next) goes
+    let n = way_next number c.args.first c.link.placed _ c.args.arena.now c.link.arena
+    c.requires.gathering c.link.invariant.way (number c.in-Some.next) goes
     away in
     subst (λ k. IsSome (entry_at c.link.arena k)) (sym (c.led_to-at.ensures n.at n.led)) n.live
 
@@ -130,11 +156,13 @@ pub bring-requires-in-Some-clause-place_is_live : goal.bring-requires-in-Some-cl
 bring-requires-in-Some-clause-place_is_live g c =
     let number = g.P.Inx.PtrInxCore.number in
     let goes : next_at (ends_in number c.link.arena) c.link.placed ≡ Some (number c.in-Some.next) =
-    ap (next_at (ends_in number c.link.arena)) (sym c.link.invariant.last) ∙ next_found number c.link.arena _ _ c.get_inx_unwrap.ensures
+    ap (next_at (ends_in number c.link.arena)) (sym c.link.invariant.last)
+    ∙ next_found number c.link.arena _ _ c.get_inx_unwrap.ensures
     ∙ ap (option_map number) (sym c.next.ensures ∙ c.in-Some.is) in
     let away : option_map number c.unplaced_start.result.1 ≢ Some (number c.in-Some.next) =
     λ same. true≢false (sym (c.is_same.ensures.1 same) ∙ c.if-is_same.false) in
-    let n = way_next number c.args.first c.link.placed _ c.args.arena.now c.link.arena c.requires.gathering c.link.invariant.way (number c.in-Some.next) goes
+    let n = way_next number c.args.first c.link.placed _ c.args.arena.now c.link.arena
+    c.requires.gathering c.link.invariant.way (number c.in-Some.next) goes
     away in
     subst (λ k. IsSome (entry_at c.link.arena k)) (sym c.behind-place.ensures) n.place
 
@@ -142,28 +170,34 @@ pub overflow_add-placed-in-Some : goal.overflow_add-placed-in-Some
 overflow_add-placed-in-Some g c =
     let number = g.P.Inx.PtrInxCore.number in
     let goes : next_at (ends_in number c.link.arena) c.link.placed ≡ Some (number c.in-Some.next) =
-    ap (next_at (ends_in number c.link.arena)) (sym c.link.invariant.last) ∙ next_found number c.link.arena _ _ c.get_inx_unwrap.ensures
+    ap (next_at (ends_in number c.link.arena)) (sym c.link.invariant.last)
+    ∙ next_found number c.link.arena _ _ c.get_inx_unwrap.ensures
     ∙ ap (option_map number) (sym c.next.ensures ∙ c.in-Some.is) in
     let away : option_map number c.unplaced_start.result.1 ≢ Some (number c.in-Some.next) =
     λ same. true≢false (sym (c.is_same.ensures.1 same) ∙ c.if-is_same.false) in
-    let n = way_next number c.args.first c.link.placed _ c.args.arena.now c.link.arena c.requires.gathering c.link.invariant.way (number c.in-Some.next) goes
+    let n = way_next number c.args.first c.link.placed _ c.args.arena.now c.link.arena
+    c.requires.gathering c.link.invariant.way (number c.in-Some.next) goes
     away in
     let holds = c.capacity.ensures.holds_all in
     let bounded = c.capacity.ensures.bounded in
     let counted = c.requires.gathering.have.are.noted.formed.counted in
-    let none = ap (λ l. length l) (c.requires.gathering.have.are.noted.kept.free ∙ c.requires.gathering.have.are.full) in
-    let fits : length c.args.arena.now.slots < 2 ^ 64 = omega (arith, holds, bounded, counted, none) in
+    let none = ap (λ l. length l)
+    (c.requires.gathering.have.are.noted.kept.free ∙ c.requires.gathering.have.are.full) in
+    let fits : length c.args.arena.now.slots < 2 ^ 64 =
+    omega (arith, holds, bounded, counted, none) in
     search (rules, n.more, fits)
 
 pub link-smaller : goal.link-smaller
 link-smaller g c =
     let number = g.P.Inx.PtrInxCore.number in
     let goes : next_at (ends_in number c.link.arena) c.link.placed ≡ Some (number c.in-Some.next) =
-    ap (next_at (ends_in number c.link.arena)) (sym c.link.invariant.last) ∙ next_found number c.link.arena _ _ c.get_inx_unwrap.ensures
+    ap (next_at (ends_in number c.link.arena)) (sym c.link.invariant.last)
+    ∙ next_found number c.link.arena _ _ c.get_inx_unwrap.ensures
     ∙ ap (option_map number) (sym c.next.ensures ∙ c.in-Some.is) in
     let away : option_map number c.unplaced_start.result.1 ≢ Some (number c.in-Some.next) =
     λ same. true≢false (sym (c.is_same.ensures.1 same) ∙ c.if-is_same.false) in
-    let n = way_next number c.args.first c.link.placed _ c.args.arena.now c.link.arena c.requires.gathering c.link.invariant.way (number c.in-Some.next) goes
+    let n = way_next number c.args.first c.link.placed _ c.args.arena.now c.link.arena
+    c.requires.gathering c.link.invariant.way (number c.in-Some.next) goes
     away in
     let more = n.more in
     omega (arith, more)
@@ -172,19 +206,24 @@ pub link-preserved : goal.link-preserved
 link-preserved g c =
     let number = g.P.Inx.PtrInxCore.number in
     let goes : next_at (ends_in number c.link.arena) c.link.placed ≡ Some (number c.in-Some.next) =
-    ap (next_at (ends_in number c.link.arena)) (sym c.link.invariant.last) ∙ next_found number c.link.arena _ _ c.get_inx_unwrap.ensures
+    ap (next_at (ends_in number c.link.arena)) (sym c.link.invariant.last)
+    ∙ next_found number c.link.arena _ _ c.get_inx_unwrap.ensures
     ∙ ap (option_map number) (sym c.next.ensures ∙ c.in-Some.is) in
     let away : option_map number c.unplaced_start.result.1 ≢ Some (number c.in-Some.next) =
     λ same. true≢false (sym (c.is_same.ensures.1 same) ∙ c.if-is_same.false) in
-    let n = way_next number c.args.first c.link.placed _ c.args.arena.now c.link.arena c.requires.gathering c.link.invariant.way (number c.in-Some.next) goes
+    let n = way_next number c.args.first c.link.placed _ c.args.arena.now c.link.arena
+    c.requires.gathering c.link.invariant.way (number c.in-Some.next) goes
     away in
     let more = c.link.invariant.more in
     record {
       way =
-          way_more number c.args.first c.link.placed (number c.led_to-at.result) _ c.args.arena.now c.link.arena c.bring-in-Some.new.arena c.link.invariant.way
+          way_more number c.args.first c.link.placed (number c.led_to-at.result) _ c.args.arena.now
+          c.link.arena c.bring-in-Some.new.arena c.link.invariant.way
           (number c.in-Some.next) goes away c.led_to-at.ensures
-          (subst (λ k. IsBrought number (Some c.link.placed) (number c.led_to-at.result) k c.link.arena c.bring-in-Some.new.arena) c.behind-place.ensures
-          (subst (λ k. IsBrought number (Some k) (number c.led_to-at.result) (number c.behind-place.result) c.link.arena c.bring-in-Some.new.arena)
+          (subst (λ k. IsBrought number (Some c.link.placed) (number c.led_to-at.result) k
+          c.link.arena c.bring-in-Some.new.arena) c.behind-place.ensures
+          (subst (λ k. IsBrought number (Some k) (number c.led_to-at.result)
+          (number c.behind-place.result) c.link.arena c.bring-in-Some.new.arena)
           c.link.invariant.last c.bring-in-Some.ensures));
       last = c.behind-place.ensures;
       more = omega (arith, more);

@@ -7,12 +7,14 @@ use Rattle.triple_arena_chain.proofs.chain_arena.canonical_layout.gather_chains.
 pub chain-init : goal.chain-init
 chain-init g c =
     record {
-      places = places_none g.P.Inx.PtrInxCore.number c.args.arena.now c.requires.chained c.requires.alike c.requires.full;
+      places = places_none g.P.Inx.PtrInxCore.number c.args.arena.now c.requires.chained
+          c.requires.alike c.requires.full;
       within = omega arith;
     }
 
 pub gather_chain-placed-requires-clause-gathering : goal.gather_chain-placed-requires-clause-gathering
-gather_chain-placed-requires-clause-gathering g c = record { old = c.args.arena.now; have = c.chain.invariant.places }
+gather_chain-placed-requires-clause-gathering g c =
+    record { old = c.args.arena.now; have = c.chain.invariant.places }
 
 pub gather_chain-placed-requires-clause-more : goal.gather_chain-placed-requires-clause-more
 gather_chain-placed-requires-clause-more g c =
@@ -50,10 +52,13 @@ rejoin-requires-clause-rejoinable g c =
     let len = c.len-len.ensures.value in
     let past = c.chain-test.false in
     let within = c.chain.invariant.within in
-    let all : c.chain.placed ≡ length c.args.arena.now.slots = omega (arith, counted, none, len, past, within) in
-    let same : c.chain.placed ≡ c.len-len.result = omega (arith, counted, none, len, past, within) in
+    let all : c.chain.placed ≡ length c.args.arena.now.slots =
+    omega (arith, counted, none, len, past, within) in
+    let same : c.chain.placed ≡ c.len-len.result =
+    omega (arith, counted, none, len, past, within) in
     subst (IsRejoinable (ends_in number c.chain.arena)) same
-    (rejoinable number c.chain.placed c.args.arena.now _ c.chain.arena c.chain.invariant.places.are all)
+    (rejoinable number c.chain.placed c.args.arena.now _ c.chain.arena c.chain.invariant.places.are
+    all)
 
 pub returns : goal.returns
 returns g c =
@@ -63,9 +68,12 @@ returns g c =
     let len = c.len-len.ensures.value in
     let past = c.chain-test.false in
     let within = c.chain.invariant.within in
-    let all : c.chain.placed ≡ length c.args.arena.now.slots = omega (arith, counted, none, len, past, within) in
+    let all : c.chain.placed ≡ length c.args.arena.now.slots =
+    omega (arith, counted, none, len, past, within) in
     record {
       gathered =
-          all_gathered number c.chain.placed c.args.arena.now _ c.chain.arena c.chain.invariant.places.are all c.rejoin.new.arena c.rejoin.ensures.nexts
-          c.rejoin.ensures.agreed c.rejoin.ensures.values c.rejoin.ensures.kept c.rejoin.ensures.formed;
+          all_gathered number c.chain.placed c.args.arena.now _ c.chain.arena
+          c.chain.invariant.places.are all c.rejoin.new.arena c.rejoin.ensures.nexts
+          c.rejoin.ensures.agreed c.rejoin.ensures.values c.rejoin.ensures.kept
+          c.rejoin.ensures.formed;
     }

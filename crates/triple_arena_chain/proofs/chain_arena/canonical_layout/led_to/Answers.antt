@@ -10,37 +10,51 @@ note-init g c = record { on = c.requires.led; same = λ k l. l }
 
 pub get_inx_unwrap-requires : goal.get_inx_unwrap-requires
 get_inx_unwrap-requires g c =
-    led_live g.P.Inx.PtrInxCore.number c.args.arena.now c.args.placed _ _ c.note.invariant.on.1 (c.is_within.ensures.0 c.note-test.true)
+    led_live g.P.Inx.PtrInxCore.number c.args.arena.now c.args.placed _ _ c.note.invariant.on.1
+    (c.is_within.ensures.0 c.note-test.true)
 
 pub unreached-unreachable-requires : goal.unreached-unreachable-requires
 unreached-unreachable-requires g c =
     let number = g.P.Inx.PtrInxCore.number in
     let gone : prev_at (ends_in number c.args.arena.now) (number c.note.at) ≡ None =
-    prev_found number c.args.arena.now _ _ c.get_inx_unwrap.ensures ∙ ap (option_map number) (sym c.prev.ensures ∙ c.in-None.is) in
-    led_some (ends_in number c.args.arena.now) c.args.placed _ _ c.note.invariant.on.1 (c.is_within.ensures.0 c.note-test.true) gone
+    prev_found number c.args.arena.now _ _ c.get_inx_unwrap.ensures
+    ∙ ap (option_map number) (sym c.prev.ensures ∙ c.in-None.is) in
+    led_some (ends_in number c.args.arena.now) c.args.placed _ _ c.note.invariant.on.1
+    (c.is_within.ensures.0 c.note-test.true) gone
 
 pub note-smaller : goal.note-smaller
 note-smaller g c =
     let number = g.P.Inx.PtrInxCore.number in
     let within = c.is_within.ensures.0 c.note-test.true in
-    let comes : prev_at (ends_in number c.args.arena.now) (number c.note.at) ≡ Some (number c.in-Some.to) =
-    prev_found number c.args.arena.now _ _ c.get_inx_unwrap.ensures ∙ ap (option_map number) (sym c.prev.ensures ∙ c.in-Some.is) in
-    let further = (led_by (ends_in number c.args.arena.now) c.args.placed _ _ _ c.note.invariant.on.1 within comes).0 in
+    let comes : prev_at (ends_in number c.args.arena.now) (number c.note.at)
+    ≡ Some (number c.in-Some.to) =
+    prev_found number c.args.arena.now _ _ c.get_inx_unwrap.ensures
+    ∙ ap (option_map number) (sym c.prev.ensures ∙ c.in-Some.is) in
+    let further = (led_by (ends_in number c.args.arena.now) c.args.placed _ _ _
+    c.note.invariant.on.1 within comes).0 in
     omega (arith, within, further)
 
 pub note-preserved : goal.note-preserved
 note-preserved g c =
     let number = g.P.Inx.PtrInxCore.number in
     let within = c.is_within.ensures.0 c.note-test.true in
-    let comes : prev_at (ends_in number c.args.arena.now) (number c.note.at) ≡ Some (number c.in-Some.to) =
-    prev_found number c.args.arena.now _ _ c.get_inx_unwrap.ensures ∙ ap (option_map number) (sym c.prev.ensures ∙ c.in-Some.is) in
+    let comes : prev_at (ends_in number c.args.arena.now) (number c.note.at)
+    ≡ Some (number c.in-Some.to) =
+    prev_found number c.args.arena.now _ _ c.get_inx_unwrap.ensures
+    ∙ ap (option_map number) (sym c.prev.ensures ∙ c.in-Some.is) in
     record {
-      on = (c.note.invariant.on.0, (led_by (ends_in number c.args.arena.now) c.args.placed _ _ _ c.note.invariant.on.1 within comes).1);
-      same = λ k l. (led_by (ends_in number c.args.arena.now) c.args.placed _ _ k (c.note.invariant.same k l) within comes).1;
+      on = (
+        c.note.invariant.on.0,
+        (led_by (ends_in number c.args.arena.now) c.args.placed _ _ _ c.note.invariant.on.1 within
+            comes).1,
+      );
+      same = λ k l. (led_by (ends_in number c.args.arena.now) c.args.placed _ _ k
+          (c.note.invariant.same k l) within comes).1;
     }
 
 pub returns : goal.returns
 returns g c =
     λ k l.
-    led_end (ends_in g.P.Inx.PtrInxCore.number c.args.arena.now) c.args.placed _ k (c.note.invariant.same k l)
+    led_end (ends_in g.P.Inx.PtrInxCore.number c.args.arena.now) c.args.placed _ k
+    (c.note.invariant.same k l)
     (not_within _ _ (λ low. true≢false (sym (c.is_within.ensures.1 low) ∙ c.note-test.false)))

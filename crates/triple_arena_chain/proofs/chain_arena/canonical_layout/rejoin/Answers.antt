@@ -3,19 +3,25 @@ use Rattle.triple_arena_chain.specs.Chains.{next_at}
 use Rattle.triple_arena_chain.specs.Links.{ends_in}
 use Rattle.triple_arena_chain.specs.Notes.{up_to, before_past}
 use Rattle.triple_arena_chain.proofs.PassLemmas.{live_ends}
-use Rattle.triple_arena_chain.proofs.RejoinLemmas.{IsRejoined, rejoined_none, rejoined_more, rejoined_all, link_live, link_there, next_one, back_live}
+use Rattle.triple_arena_chain.proofs.RejoinLemmas.{IsRejoined, rejoined_none, rejoined_more}
+use Rattle.triple_arena_chain.proofs.RejoinLemmas.{rejoined_all, link_live, link_there, next_one}
+use Rattle.triple_arena_chain.proofs.RejoinLemmas.{back_live}
 use Rattle.triple_arena_chain.proofs.SwappedLinkLemmas.{next_found}
 use Rattle.triple_arena_chain.proofs.chain_arena.canonical_layout.rejoin.Goals as goal
 
 pub link-init : goal.link-init
-link-init g c = record { rejoined = rejoined_none g.P.Inx.PtrInxCore.number c.args.arena.now c.requires.formed; within = omega arith }
+link-init g c = record {
+  rejoined = rejoined_none g.P.Inx.PtrInxCore.number c.args.arena.now c.requires.formed;
+  within = omega arith;
+}
 
 pub behind-i-requires : goal.behind-i-requires
 behind-i-requires g c =
     let number = g.P.Inx.PtrInxCore.number in
     let more = c.link-test.true in
     let live = c.requires.rejoinable.live (c.link.count + 1) (omega arith) (omega (arith, more)) in
-    let within = c.capacity.ensures.indexes (c.link.count + 1) (sym (live_ends number c.args.arena.now (c.link.count + 1)) ∙ live) in
+    let within = c.capacity.ensures.indexes (c.link.count + 1)
+    (sym (live_ends number c.args.arena.now (c.link.count + 1)) ∙ live) in
     let bounded = c.capacity.ensures.bounded in
     omega (arith, within, bounded)
 
@@ -24,14 +30,17 @@ set_prev-requires g c =
     let number = g.P.Inx.PtrInxCore.number in
     let r = c.link.invariant.rejoined in
     let more = c.link-test.true in
-    link_live number c.args.len c.link.count (number c.behind-i.result) _ c.args.arena.now c.link.arena c.requires.rejoinable r more c.behind-i.ensures
+    link_live number c.args.len c.link.count (number c.behind-i.result) _ c.args.arena.now
+    c.link.arena c.requires.rejoinable r more c.behind-i.ensures
 
 pub get_inx_unwrap-requires : goal.get_inx_unwrap-requires
 get_inx_unwrap-requires g c =
     let number = g.P.Inx.PtrInxCore.number in
     let r = c.link.invariant.rejoined in
     let more = c.link-test.true in
-    link_there number c.args.len c.link.count c.link.before c.args.arena.now c.link.arena c.set_prev.new.arena c.set_prev.new.arena c.behind-i.result None c.requires.rejoinable r more c.behind-i.ensures
+    link_there number c.args.len c.link.count c.link.before c.args.arena.now c.link.arena
+    c.set_prev.new.arena c.set_prev.new.arena c.behind-i.result None c.requires.rejoinable r
+    more c.behind-i.ensures
     c.set_prev.ensures
 
 pub set_prev-requires-in-link : goal.set_prev-requires-in-link
@@ -39,14 +48,21 @@ set_prev-requires-in-link g c =
     let number = g.P.Inx.PtrInxCore.number in
     let r = c.link.invariant.rejoined in
     let more = c.link-test.true in
-    let next_is : option_map number c.next.result ≡ next_at (ends_in number c.args.arena.now) (c.link.count + 1) =
-    sym (next_found number c.set_prev.new.arena _ _ c.get_inx_unwrap.ensures ∙ ap (option_map number) (sym c.next.ensures))
-    ∙ next_one number c.args.len c.link.count c.link.before c.args.arena.now c.link.arena c.set_prev.new.arena c.set_prev.new.arena c.behind-i.result None c.requires.rejoinable r more c.behind-i.ensures
+    let next_is : option_map number c.next.result
+    ≡ next_at (ends_in number c.args.arena.now) (c.link.count + 1) =
+    sym (next_found number c.set_prev.new.arena _ _ c.get_inx_unwrap.ensures
+    ∙ ap (option_map number) (sym c.next.ensures))
+    ∙ next_one number c.args.len c.link.count c.link.before c.args.arena.now c.link.arena
+    c.set_prev.new.arena c.set_prev.new.arena c.behind-i.result None c.requires.rejoinable r
+    more c.behind-i.ensures
     c.set_prev.ensures (number c.behind-i.result)
     ∙ ap (next_at (ends_in number c.args.arena.now)) c.behind-i.ensures in
-    let back_is : option_map number c.parted-back.result.0 ≡ up_to (c.link.count + 1) (next_at (ends_in number c.args.arena.now) (c.link.count + 1)) =
+    let back_is : option_map number c.parted-back.result.0
+    ≡ up_to (c.link.count + 1) (next_at (ends_in number c.args.arena.now) (c.link.count + 1)) =
     c.parted-back.ensures.back ∙ ap (up_to (c.link.count + 1)) next_is in
-    back_live number c.args.len c.link.count c.link.before c.args.arena.now c.link.arena c.set_prev.new.arena c.set_prev.new.arena c.behind-i.result c.parted-back.result.0 c.requires.rejoinable r more
+    back_live number c.args.len c.link.count c.link.before c.args.arena.now c.link.arena
+    c.set_prev.new.arena c.set_prev.new.arena c.behind-i.result c.parted-back.result.0
+    c.requires.rejoinable r more
     c.behind-i.ensures c.set_prev.ensures back_is
 
 pub link-preserved : goal.link-preserved
@@ -54,18 +70,28 @@ link-preserved g c =
     let number = g.P.Inx.PtrInxCore.number in
     let r = c.link.invariant.rejoined in
     let more = c.link-test.true in
-    let next_is : option_map number c.next.result ≡ next_at (ends_in number c.args.arena.now) (c.link.count + 1) =
-    sym (next_found number c.set_prev.new.arena _ _ c.get_inx_unwrap.ensures ∙ ap (option_map number) (sym c.next.ensures))
-    ∙ next_one number c.args.len c.link.count c.link.before c.args.arena.now c.link.arena c.set_prev.new.arena c.set_prev.new.arena c.behind-i.result None c.requires.rejoinable r more c.behind-i.ensures
+    let next_is : option_map number c.next.result
+    ≡ next_at (ends_in number c.args.arena.now) (c.link.count + 1) =
+    sym (next_found number c.set_prev.new.arena _ _ c.get_inx_unwrap.ensures
+    ∙ ap (option_map number) (sym c.next.ensures))
+    ∙ next_one number c.args.len c.link.count c.link.before c.args.arena.now c.link.arena
+    c.set_prev.new.arena c.set_prev.new.arena c.behind-i.result None c.requires.rejoinable r
+    more c.behind-i.ensures
     c.set_prev.ensures (number c.behind-i.result)
     ∙ ap (next_at (ends_in number c.args.arena.now)) c.behind-i.ensures in
-    let back_is : option_map number c.parted-back.result.0 ≡ up_to (c.link.count + 1) (next_at (ends_in number c.args.arena.now) (c.link.count + 1)) =
+    let back_is : option_map number c.parted-back.result.0
+    ≡ up_to (c.link.count + 1) (next_at (ends_in number c.args.arena.now) (c.link.count + 1)) =
     c.parted-back.ensures.back ∙ ap (up_to (c.link.count + 1)) next_is in
     record {
       rejoined =
-          rejoined_more number c.args.len c.link.count c.link.before c.args.arena.now c.link.arena c.set_prev.new.arena c.set_prev-in-link.new.arena c.behind-i.result c.parted-back.result.0 c.requires.rejoinable r more
-          c.behind-i.ensures c.set_prev.ensures back_is c.set_prev-in-link.ensures c.parted-back.result.1
-          (c.parted-back.ensures.before ∙ ap (λ i. before_past (c.link.count + 1) i (option_map number c.next.result)) c.behind-i.ensures
+          rejoined_more number c.args.len c.link.count c.link.before c.args.arena.now c.link.arena
+          c.set_prev.new.arena c.set_prev-in-link.new.arena c.behind-i.result
+          c.parted-back.result.0 c.requires.rejoinable r more
+          c.behind-i.ensures c.set_prev.ensures back_is c.set_prev-in-link.ensures
+          c.parted-back.result.1
+          (c.parted-back.ensures.before
+          ∙ ap (λ i. before_past (c.link.count + 1) i (option_map number c.next.result))
+          c.behind-i.ensures
           ∙ ap (before_past (c.link.count + 1) (c.link.count + 1)) next_is);
       within = omega (arith, more);
     }
@@ -79,5 +105,7 @@ returns-clause-agreed g c =
     let within = c.link.invariant.within in
     let past = c.link-test.false in
     let all : c.link.count ≡ c.args.len = omega (arith, within, past) in
-    rejoined_all number c.args.len (option_map number c.link.before) c.args.arena.now c.link.arena c.requires.rejoinable
-    (subst (λ k. IsRejoined number k (option_map number c.link.before) c.args.arena.now c.link.arena) all c.link.invariant.rejoined)
+    rejoined_all number c.args.len (option_map number c.link.before) c.args.arena.now c.link.arena
+    c.requires.rejoinable
+    (subst (λ k. IsRejoined number k (option_map number c.link.before) c.args.arena.now
+    c.link.arena) all c.link.invariant.rejoined)

@@ -11,8 +11,11 @@ invariant-chain g l =
       callable : goal.F-IsAlwaysCallable g l.map;
       rises : l.advancer.falls ≡ false;
       reaches : (j : ℕ) → IsSome (entry_at l.source j) → j ≤ l.advancer.high;
-      moved : AreChainsMoved g.Q.PtrCore.index g.Q.PtrCore.generation g.P.PtrCore.index g.P.PtrCore.generation g.Q.Inx.PtrInxCore.number g.P.Inx.PtrInxCore.number
-          (goal.F-step g) l.fn.map g.Q.Gen.PtrGenCore.last l.fn.source (g.P.Gen.PtrGenCore.number l.generation) l.fn.target.room l.advancer.low l.map l.source l.target;
+      moved : AreChainsMoved g.Q.PtrCore.index g.Q.PtrCore.generation g.P.PtrCore.index
+          g.P.PtrCore.generation g.Q.Inx.PtrInxCore.number g.P.Inx.PtrInxCore.number
+          (goal.F-step g) l.fn.map g.Q.Gen.PtrGenCore.last l.fn.source
+          (g.P.Gen.PtrGenCore.number l.generation) l.fn.target.room l.advancer.low l.map
+          l.source l.target;
     }
 
 abbrev pub decreases-chain : goal.decreases-chain
@@ -27,9 +30,12 @@ invariant-link g l =
       reaches : (j : ℕ) → IsSome (entry_at l.source j) → j ≤ l.advancer.high;
       live : IsSome (entry_at l.source (g.Q.Inx.PtrInxCore.number l.at));
       way : (k : ℕ) × (l.advancer.low ≡ k + 1)
-          × IsOnWay g.Q.PtrCore.index g.Q.PtrCore.generation g.P.PtrCore.index g.P.PtrCore.generation g.Q.Inx.PtrInxCore.number g.P.Inx.PtrInxCore.number
-          (goal.F-step g) l.fn.map g.Q.Gen.PtrGenCore.last l.fn.source (g.P.Gen.PtrGenCore.number l.generation) l.fn.target.room
-          k (g.Q.Inx.PtrInxCore.number l.start) (g.Q.Inx.PtrInxCore.number l.at) (g.P.Inx.PtrInxCore.number l.first)
+          × IsOnWay g.Q.PtrCore.index g.Q.PtrCore.generation g.P.PtrCore.index
+          g.P.PtrCore.generation g.Q.Inx.PtrInxCore.number g.P.Inx.PtrInxCore.number
+          (goal.F-step g) l.fn.map g.Q.Gen.PtrGenCore.last l.fn.source
+          (g.P.Gen.PtrGenCore.number l.generation) l.fn.target.room
+          k (g.Q.Inx.PtrInxCore.number l.start) (g.Q.Inx.PtrInxCore.number l.at)
+          (g.P.Inx.PtrInxCore.number l.first)
           (option_map g.P.Inx.PtrInxCore.number l.last) l.map l.source l.target;
     }
 

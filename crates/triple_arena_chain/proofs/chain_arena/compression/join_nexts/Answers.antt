@@ -3,7 +3,9 @@ use Rattle.triple_arena.specs.Content.{entry_at}
 use Rattle.triple_arena.specs.Walk.{past}
 use Rattle.triple_arena_chain.specs.Chains.{next_at}
 use Rattle.triple_arena_chain.specs.Links.{ends_in}
-use Rattle.triple_arena_chain.proofs.PassLemmas.{found_live, IsJoined, passed_by, unchanged, live_as, joined_none, next_live, joined_one}
+use Rattle.triple_arena.specs.WalkLaws.{passed_by}
+use Rattle.triple_arena_chain.proofs.PassLemmas.{found_live, IsJoined, unchanged, live_as}
+use Rattle.triple_arena_chain.proofs.PassLemmas.{joined_none, next_live, joined_one}
 use Rattle.triple_arena_chain.proofs.SwappedLinkLemmas.{next_found}
 use Rattle.triple_arena_chain.proofs.chain_arena.compression.join_nexts.Goals as goal
 
@@ -12,7 +14,8 @@ loop-p-init g c =
     record {
       rises = c.advancer-advancer.ensures.rises;
       reaches = c.advancer-advancer.ensures.high;
-      joined = joined_none g.P.Inx.PtrInxCore.number c.args.arena.now _ c.advancer-advancer.ensures.low c.requires.alone c.requires.formed;
+      joined = joined_none g.P.Inx.PtrInxCore.number c.args.arena.now _
+          c.advancer-advancer.ensures.low c.requires.alone c.requires.formed;
     }
 
 pub get_inx_unwrap-requires : goal.get_inx_unwrap-requires
@@ -23,35 +26,47 @@ get_inx_unwrap-requires g c =
 pub relink-requires-clause-after : goal.relink-requires-clause-after
 relink-requires-clause-after g c =
     let next_is : option_map g.P.Inx.PtrInxCore.number c.next-next.result
-    ≡ next_at (ends_in g.P.Inx.PtrInxCore.number c.loop-p.arena) (g.P.Inx.PtrInxCore.number c.inx-i.result) =
+    ≡ next_at (ends_in g.P.Inx.PtrInxCore.number c.loop-p.arena)
+    (g.P.Inx.PtrInxCore.number c.inx-i.result) =
     ap (option_map g.P.Inx.PtrInxCore.number) c.next-next.ensures
     ∙ sym (next_found g.P.Inx.PtrInxCore.number c.loop-p.arena _ _ c.get_inx_unwrap.ensures) in
-    next_live g.P.Inx.PtrInxCore.number c.args.arena.now c.loop-p.advancer.low c.loop-p.arena c.next-next.result _ c.loop-p.invariant.joined c.requires.live
+    next_live g.P.Inx.PtrInxCore.number c.args.arena.now c.loop-p.advancer.low c.loop-p.arena
+    c.next-next.result _ c.loop-p.invariant.joined c.requires.live
     next_is
 
 pub loop-p-preserved : goal.loop-p-preserved
 loop-p-preserved g c =
     let next_is : option_map g.P.Inx.PtrInxCore.number c.next-next.result
-    ≡ next_at (ends_in g.P.Inx.PtrInxCore.number c.loop-p.arena) (g.P.Inx.PtrInxCore.number c.inx-i.result) =
+    ≡ next_at (ends_in g.P.Inx.PtrInxCore.number c.loop-p.arena)
+    (g.P.Inx.PtrInxCore.number c.inx-i.result) =
     ap (option_map g.P.Inx.PtrInxCore.number) c.next-next.ensures
     ∙ sym (next_found g.P.Inx.PtrInxCore.number c.loop-p.arena _ _ c.get_inx_unwrap.ensures) in
-    let after : c.advance.new.self ≡ past c.loop-p.advancer (g.P.PtrCore.index c.in-Some.p) = (c.in-Some.ensures).given.1 in
+    let after : c.advance.new.self ≡ past c.loop-p.advancer (g.P.PtrCore.index c.in-Some.p) =
+    (c.in-Some.ensures).given.1 in
     let rises = c.loop-p.invariant.rises in
-    let next = passed_by c.loop-p.advancer c.advance.new.self (g.P.PtrCore.index c.in-Some.p) rises after in
+    let next = passed_by c.loop-p.advancer c.advance.new.self (g.P.PtrCore.index c.in-Some.p) rises
+    after in
     let same =
     live_as c.loop-p.arena c.relink.new.arena
-    (unchanged g.P.Inx.PtrInxCore.number c.loop-p.arena c.relink.new.arena c.next-next.result (Some c.inx-i.result) c.relink.ensures) in
+    (unchanged g.P.Inx.PtrInxCore.number c.loop-p.arena c.relink.new.arena c.next-next.result
+    (Some c.inx-i.result) c.relink.ensures) in
     record {
       rises = next.rises;
-      reaches = λ j some. subst (λ h. j ≤ h) (sym next.high) (c.loop-p.invariant.reaches j (sym (same j) ∙ some));
+      reaches = λ j some. subst (λ h. j ≤ h) (sym next.high)
+          (c.loop-p.invariant.reaches j (sym (same j) ∙ some));
       joined =
-          subst (λ n. IsJoined g.P.Inx.PtrInxCore.number c.args.arena.now n c.relink.new.arena) (sym next.low)
-          (joined_one g.P.Inx.PtrInxCore.number c.args.arena.now c.requires.apart c.loop-p.arena c.relink.new.arena c.loop-p.advancer
-          (g.P.PtrCore.index c.in-Some.p) (g.P.PtrCore.generation c.in-Some.p) c.inx-i.result c.loop-p.invariant.joined rises (c.in-Some.ensures).given.0
+          subst (λ n. IsJoined g.P.Inx.PtrInxCore.number c.args.arena.now n c.relink.new.arena)
+          (sym next.low)
+          (joined_one g.P.Inx.PtrInxCore.number c.args.arena.now c.requires.apart c.loop-p.arena
+          c.relink.new.arena c.loop-p.advancer
+          (g.P.PtrCore.index c.in-Some.p) (g.P.PtrCore.generation c.in-Some.p) c.inx-i.result
+          c.loop-p.invariant.joined rises (c.in-Some.ensures).given.0
           c.inx-i.ensures c.next-next.result
-          (subst (λ n. option_map g.P.Inx.PtrInxCore.number c.next-next.result ≡ next_at (ends_in g.P.Inx.PtrInxCore.number c.loop-p.arena) n) c.inx-i.ensures
+          (subst (λ n. option_map g.P.Inx.PtrInxCore.number c.next-next.result
+          ≡ next_at (ends_in g.P.Inx.PtrInxCore.number c.loop-p.arena) n) c.inx-i.ensures
           next_is)
-          (next_live g.P.Inx.PtrInxCore.number c.args.arena.now c.loop-p.advancer.low c.loop-p.arena c.next-next.result _ c.loop-p.invariant.joined
+          (next_live g.P.Inx.PtrInxCore.number c.args.arena.now c.loop-p.advancer.low c.loop-p.arena
+          c.next-next.result _ c.loop-p.invariant.joined
           c.requires.live next_is)
           c.relink.ensures);
     }

@@ -12,9 +12,12 @@ invariant-loop-p g l =
     record {
       rises : l.advancer.falls ≡ false;
       reaches : (j : ℕ) → IsSome (entry_at l.arena j) → j ≤ l.advancer.high;
-      indexes : (j : ℕ) → IsSome (entry_at l.arena j) → j ≤ max_index_of g.P.Inx.PtrInxCore.greatest;
+      indexes : (j : ℕ) → IsSome (entry_at l.arena j)
+          → j ≤ max_index_of g.P.Inx.PtrInxCore.greatest;
       count : l.count ≡ live_below (ends_in g.P.Inx.PtrInxCore.number l.fn.arena) l.advancer.low;
-      passed : IsPassed g.P.Inx.PtrInxCore.number (numbered (ends_in g.P.Inx.PtrInxCore.number l.fn.arena)) l.advancer.low l.fn.arena l.arena;
+      passed : IsPassed g.P.Inx.PtrInxCore.number
+          (numbered (ends_in g.P.Inx.PtrInxCore.number l.fn.arena)) l.advancer.low l.fn.arena
+          l.arena;
     }
 
 abbrev pub decreases-loop-p : goal.decreases-loop-p

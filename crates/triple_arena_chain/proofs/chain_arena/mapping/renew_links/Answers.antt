@@ -6,7 +6,8 @@ use Rattle.triple_arena_chain.proofs.chain_arena.mapping.renew_links.Goals as go
 
 pub compress_by-requires-clause-callable : goal.compress_by-requires-clause-callable
 compress_by-requires-clause-callable g c =
-    mut_by _ (λ s. always_mut g.F.FnMut s.0) (λ s a i. search (rules, of_calls)) (λ s a r t i e. search rules) _ c.requires.callable
+    mut_by _ (λ s. always_mut g.F.FnMut s.0) (λ s a i. search (rules, of_calls))
+    (λ s a r t i e. search rules) _ c.requires.callable
 
 pub returns-clause-mapped : goal.returns-clause-mapped
 returns-clause-mapped g c =
@@ -14,4 +15,5 @@ returns-clause-mapped g c =
 
 pub returns-clause-links : goal.returns-clause-links
 returns-clause-links g c =
-    entries_related c.compress_by.ensures.mapped (λ _. Unit {0}) _ tt (λ s from l to m t kept e. (search rules, tt))
+    entries_related c.compress_by.ensures.mapped (λ _. Unit {0}) _ tt
+    (λ s from l to m t kept e. (search rules, tt))

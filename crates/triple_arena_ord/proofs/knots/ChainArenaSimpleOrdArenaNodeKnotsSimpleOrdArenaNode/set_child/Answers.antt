@@ -8,23 +8,33 @@ use Rattle.triple_arena_ord.proofs.WriteLemmas.{written_in}
 use Rattle.triple_arena_ord.proofs.knots.ChainArenaSimpleOrdArenaNodeKnotsSimpleOrdArenaNode.set_child.Goals as goal
 
 pub returns-in-Left-clause-keeps : goal.returns-in-Left-clause-keeps
-returns-in-Left-clause-keeps g c = rest-write c.args.self.now (g.P.Inx.PtrInxCore.number c.args.i) c.get_inx_mut_unwrap.result.now _ c.get_inx_mut_unwrap.ensures.value refl
+returns-in-Left-clause-keeps g c =
+    rest-write c.args.self.now (g.P.Inx.PtrInxCore.number c.args.i) c.get_inx_mut_unwrap.result.now
+    _ c.get_inx_mut_unwrap.ensures.value refl
 
 pub returns-in-Left-clause-does : goal.returns-in-Left-clause-does
 returns-in-Left-clause-does g c =
     let number = g.P.Inx.PtrInxCore.number in
     let child = option_map number c.args.child.now in
-    written_in number c.args.self.now (number c.args.i) c.get_inx_mut_unwrap.result.now _ (with_child c.args.side child) c.requires c.get_inx_mut_unwrap.ensures.value
-    (ap (λ p. with_child Left (option_map number p) (knot_of number c.get_inx_mut_unwrap.result.now)) c.of.ensures
-    ∙ ap (λ side. with_child side child (knot_of number c.get_inx_mut_unwrap.result.now)) (sym c.in-Left.is))
+    written_in number c.args.self.now (number c.args.i) c.get_inx_mut_unwrap.result.now _
+    (with_child c.args.side child) c.requires c.get_inx_mut_unwrap.ensures.value
+    (ap (λ p. with_child Left (option_map number p)
+    (knot_of number c.get_inx_mut_unwrap.result.now)) c.of.ensures
+    ∙ ap (λ side. with_child side child (knot_of number c.get_inx_mut_unwrap.result.now))
+    (sym c.in-Left.is))
 
 pub returns-in-Right-clause-keeps : goal.returns-in-Right-clause-keeps
-returns-in-Right-clause-keeps g c = rest-write c.args.self.now (g.P.Inx.PtrInxCore.number c.args.i) c.get_inx_mut_unwrap-in-Right.result.now _ c.get_inx_mut_unwrap-in-Right.ensures.value refl
+returns-in-Right-clause-keeps g c =
+    rest-write c.args.self.now (g.P.Inx.PtrInxCore.number c.args.i)
+    c.get_inx_mut_unwrap-in-Right.result.now _ c.get_inx_mut_unwrap-in-Right.ensures.value refl
 
 pub returns-in-Right-clause-does : goal.returns-in-Right-clause-does
 returns-in-Right-clause-does g c =
     let number = g.P.Inx.PtrInxCore.number in
     let child = option_map number c.args.child.now in
-    written_in number c.args.self.now (number c.args.i) c.get_inx_mut_unwrap-in-Right.result.now _ (with_child c.args.side child) c.requires c.get_inx_mut_unwrap-in-Right.ensures.value
-    (ap (λ p. with_child Right (option_map number p) (knot_of number c.get_inx_mut_unwrap-in-Right.result.now)) c.of-in-Right.ensures
-    ∙ ap (λ side. with_child side child (knot_of number c.get_inx_mut_unwrap-in-Right.result.now)) (sym c.in-Right.is))
+    written_in number c.args.self.now (number c.args.i) c.get_inx_mut_unwrap-in-Right.result.now _
+    (with_child c.args.side child) c.requires c.get_inx_mut_unwrap-in-Right.ensures.value
+    (ap (λ p. with_child Right (option_map number p)
+    (knot_of number c.get_inx_mut_unwrap-in-Right.result.now)) c.of-in-Right.ensures
+    ∙ ap (λ side. with_child side child (knot_of number c.get_inx_mut_unwrap-in-Right.result.now))
+    (sym c.in-Right.is))

@@ -7,11 +7,16 @@ use Rattle.triple_arena_ord.proofs.WriteLemmas.{written_in}
 use Rattle.triple_arena_ord.proofs.knots.ChainArenaSimpleOrdArenaNodeKnotsSimpleOrdArenaNode.set_parent.Goals as goal
 
 pub returns-clause-keeps : goal.returns-clause-keeps
-returns-clause-keeps g c = rest-write c.args.self.now (g.P.Inx.PtrInxCore.number c.args.i) c.get_inx_mut_unwrap.result.now _ c.get_inx_mut_unwrap.ensures.value refl
+returns-clause-keeps g c =
+    rest-write c.args.self.now (g.P.Inx.PtrInxCore.number c.args.i) c.get_inx_mut_unwrap.result.now
+    _ c.get_inx_mut_unwrap.ensures.value refl
 
 pub returns-clause-does : goal.returns-clause-does
 returns-clause-does g c =
-    written_in g.P.Inx.PtrInxCore.number c.args.self.now (g.P.Inx.PtrInxCore.number c.args.i) c.get_inx_mut_unwrap.result.now _
-    (with_parent (option_map g.P.Inx.PtrInxCore.number c.args.parent.now)) c.requires c.get_inx_mut_unwrap.ensures.value
-    (ap (λ p. with_parent (option_map g.P.Inx.PtrInxCore.number p) (knot_of g.P.Inx.PtrInxCore.number c.get_inx_mut_unwrap.result.now))
+    written_in g.P.Inx.PtrInxCore.number c.args.self.now (g.P.Inx.PtrInxCore.number c.args.i)
+    c.get_inx_mut_unwrap.result.now _
+    (with_parent (option_map g.P.Inx.PtrInxCore.number c.args.parent.now)) c.requires
+    c.get_inx_mut_unwrap.ensures.value
+    (ap (λ p. with_parent (option_map g.P.Inx.PtrInxCore.number p)
+    (knot_of g.P.Inx.PtrInxCore.number c.get_inx_mut_unwrap.result.now))
     c.of.ensures)

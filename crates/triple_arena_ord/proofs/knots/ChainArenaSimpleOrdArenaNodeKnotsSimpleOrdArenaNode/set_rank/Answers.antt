@@ -5,9 +5,12 @@ use Rattle.triple_arena_ord.proofs.WriteLemmas.{written_in}
 use Rattle.triple_arena_ord.proofs.knots.ChainArenaSimpleOrdArenaNodeKnotsSimpleOrdArenaNode.set_rank.Goals as goal
 
 pub returns-clause-keeps : goal.returns-clause-keeps
-returns-clause-keeps g c = rest-write c.args.self.now (g.P.Inx.PtrInxCore.number c.args.i) c.get_inx_mut_unwrap.result.now _ c.get_inx_mut_unwrap.ensures.value refl
+returns-clause-keeps g c =
+    rest-write c.args.self.now (g.P.Inx.PtrInxCore.number c.args.i) c.get_inx_mut_unwrap.result.now
+    _ c.get_inx_mut_unwrap.ensures.value refl
 
 pub returns-clause-does : goal.returns-clause-does
 returns-clause-does g c =
-    written_in g.P.Inx.PtrInxCore.number c.args.self.now (g.P.Inx.PtrInxCore.number c.args.i) c.get_inx_mut_unwrap.result.now _ (with_rank c.args.rank) c.requires.live
+    written_in g.P.Inx.PtrInxCore.number c.args.self.now (g.P.Inx.PtrInxCore.number c.args.i)
+    c.get_inx_mut_unwrap.result.now _ (with_rank c.args.rank) c.requires.live
     c.get_inx_mut_unwrap.ensures.value refl

@@ -4,9 +4,12 @@ use Rattle.triple_arena_ord.proofs.WriteLemmas.{written}
 use Rattle.triple_arena_ord.proofs.knots.ChainArenaSimpleOrdArenaNodeKnotsSimpleOrdArenaNode.write.Goals as goal
 
 pub returns-clause-keeps : goal.returns-clause-keeps
-returns-clause-keeps g c = rest-write c.args.self.now (g.P.Inx.PtrInxCore.number c.args.i) c.get_inx_mut_unwrap-node.result.now _ c.get_inx_mut_unwrap-node.ensures.value refl
+returns-clause-keeps g c =
+    rest-write c.args.self.now (g.P.Inx.PtrInxCore.number c.args.i)
+    c.get_inx_mut_unwrap-node.result.now _ c.get_inx_mut_unwrap-node.ensures.value refl
 
 pub returns-clause-written : goal.returns-clause-written
 returns-clause-written g c =
     rw (← c.of-node.ensures, ← c.of-node-2.ensures, ← c.of-node-3.ensures)
-    (written g.P.Inx.PtrInxCore.number c.args.self.now (g.P.Inx.PtrInxCore.number c.args.i) _ c.requires.live)
+    (written g.P.Inx.PtrInxCore.number c.args.self.now (g.P.Inx.PtrInxCore.number c.args.i) _
+    c.requires.live)

@@ -9,8 +9,10 @@ returns-in_default-clause-ascends g c =
     let number = g.P.Inx.PtrInxCore.number in
     let cmp = g.T.Key.Ord.cmp in
     let key = g.T.SimpleOrdItem.key_of in
-    let o : Ordered g.row.P-Inx.Denot g.row.T.Denot = record { chains = c.this.inside.chains; root = option_map number c.this.inside.root } in
-    let empty = empty_ascends number cmp key o (sym c.this.invariant.1 ∙ ap (option_map number) c.in_default.is) in
+    let o : Ordered g.row.P-Inx.Denot g.row.T.Denot =
+    record { chains = c.this.inside.chains; root = option_map number c.this.inside.root } in
+    let empty = empty_ascends number cmp key o
+    (sym c.this.invariant.1 ∙ ap (option_map number) c.in_default.is) in
     (λ _. subst (λ z. IsAscending number cmp key z) c.this.view_is empty, λ _. refl)
 
 pub returns-then-ascends-clause-ascends : goal.returns-then-ascends-clause-ascends
@@ -18,21 +20,33 @@ returns-then-ascends-clause-ascends g c =
     let number = g.P.Inx.PtrInxCore.number in
     let cmp = g.T.Key.Ord.cmp in
     let key = g.T.SimpleOrdItem.key_of in
-    let o : Ordered g.row.P-Inx.Denot g.row.T.Denot = record { chains = c.this.inside.chains; root = option_map number c.this.inside.root } in
+    let o : Ordered g.row.P-Inx.Denot g.row.T.Denot =
+    record { chains = c.this.inside.chains; root = option_map number c.this.inside.root } in
     let is = c.this.invariant.0 in
     let counted = is.counted in
     let most = c.len-most.ensures.value in
-    let tells = c.ascends.ensures (order_in number o) is.linear (sym c.this.invariant.1 ∙ ap (option_map number) c.in-Some.is) (omega (arith, counted, most)) in
-    (λ _. subst (λ z. IsAscending number cmp key z) c.this.view_is (tells.0 c.if-ascends.true), λ _. refl)
+    let tells = c.ascends.ensures (order_in number o) is.linear
+    (sym c.this.invariant.1 ∙ ap (option_map number) c.in-Some.is)
+    (omega (arith, counted, most)) in (
+      λ _. subst (λ z. IsAscending number cmp key z) c.this.view_is (tells.0 c.if-ascends.true),
+      λ _. refl,
+    )
 
 pub returns-else-ascends-clause-ascends : goal.returns-else-ascends-clause-ascends
 returns-else-ascends-clause-ascends g c =
     let number = g.P.Inx.PtrInxCore.number in
     let cmp = g.T.Key.Ord.cmp in
     let key = g.T.SimpleOrdItem.key_of in
-    let o : Ordered g.row.P-Inx.Denot g.row.T.Denot = record { chains = c.this.inside.chains; root = option_map number c.this.inside.root } in
+    let o : Ordered g.row.P-Inx.Denot g.row.T.Denot =
+    record { chains = c.this.inside.chains; root = option_map number c.this.inside.root } in
     let is = c.this.invariant.0 in
     let counted = is.counted in
     let most = c.len-most.ensures.value in
-    let tells = c.ascends.ensures (order_in number o) is.linear (sym c.this.invariant.1 ∙ ap (option_map number) c.in-Some.is) (omega (arith, counted, most)) in
-    (λ t. absurd (cc), λ a. let yes = tells.1 (subst (λ z. IsAscending number cmp key z) (sym c.this.view_is) a) in let no = c.if-ascends.false in absurd (cc))
+    let tells = c.ascends.ensures (order_in number o) is.linear
+    (sym c.this.invariant.1 ∙ ap (option_map number) c.in-Some.is)
+    (omega (arith, counted, most)) in (
+      λ t. absurd (cc),
+      λ a. let yes =
+          tells.1 (subst (λ z. IsAscending number cmp key z) (sym c.this.view_is) a) in let no =
+          c.if-ascends.false in absurd (cc),
+    )

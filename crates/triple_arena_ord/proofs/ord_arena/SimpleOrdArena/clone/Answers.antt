@@ -12,28 +12,41 @@ use Rattle.triple_arena_ord.proofs.ord_arena.SimpleOrdArena.clone.Goals as goal
 use Rattle.triple_arena_ord.proofs.ord_arena.SimpleOrdArena.clone.Goals.{In-Ok}
 
 abbrev source : (g : _) (c : In-Ok g) → Ordered g.row.P-Inx.Denot g.row.T.Denot
-source g c = record { chains = c.self.inside.chains; root = option_map g.P.Inx.PtrInxCore.number c.self.inside.root }
+source g c = record {
+  chains = c.self.inside.chains;
+  root = option_map g.P.Inx.PtrInxCore.number c.self.inside.root;
+}
 
-abbrev clone_of : (g : _) (c : In-Ok g) (s : Ordered g.row.P-Inx.Denot g.row.T.Denot) → Ordered g.row.P-Inx.Denot g.row.T.Denot → Type 0
+abbrev clone_of : (g : _) (c : In-Ok g) (s : Ordered g.row.P-Inx.Denot g.row.T.Denot)
+    → Ordered g.row.P-Inx.Denot g.row.T.Denot → Type 0
 clone_of g c s new =
     IsClone g.P.Inx.PtrInxCore.number
-    (empty (second_generation g.P.Gen.PtrGenCore.last) (room_of g.P.Inx.PtrInxCore.greatest (g.S.NonZeroInxGenericStack.room_at (last_inx s)))) s new
+    (empty (second_generation g.P.Gen.PtrGenCore.last)
+    (room_of g.P.Inx.PtrInxCore.greatest (g.S.NonZeroInxGenericStack.room_at (last_inx s)))) s
+    new
 
 made : (g : _) (c : In-Ok g) → Cloned g.P.Inx.PtrInxCore.number
-    (empty (second_generation g.P.Gen.PtrGenCore.last) (room_of g.P.Inx.PtrInxCore.greatest (g.S.NonZeroInxGenericStack.room_at (last_inx (source g c)))))
+    (empty (second_generation g.P.Gen.PtrGenCore.last)
+    (room_of g.P.Inx.PtrInxCore.greatest
+    (g.S.NonZeroInxGenericStack.room_at (last_inx (source g c)))))
     (source g c) (record { chains = c.in-Ok.chains; root = (source g c).root })
-made g c = cloned g.P.Inx.PtrInxCore.number _ c.in-Ok.chains (source g c) (c.in-Ok.ensures).exact c.self.invariant.0
+made g c = cloned g.P.Inx.PtrInxCore.number _ c.in-Ok.chains (source g c) (c.in-Ok.ensures).exact
+    c.self.invariant.0
 
 pub invariant_of-result : goal.invariant_of-result
 invariant_of-result g c =
     let clone = made g (goal.at.invariant_of-result g c).In-Ok in
-    let order = clone.clone.order in
-    (clone.ordered, c.self.invariant.1 ∙ ap (λ l. first_or l None) (sym order), c.self.invariant.2 ∙ ap (last_or None) (sym order))
+    let order = clone.clone.order in (
+      clone.ordered,
+      c.self.invariant.1 ∙ ap (λ l. first_or l None) (sym order),
+      c.self.invariant.2 ∙ ap (last_or None) (sym order),
+    )
 
 pub returns-in-Ok-clause-cloned : goal.returns-in-Ok-clause-cloned
 returns-in-Ok-clause-cloned g c =
     let at = (goal.at.returns-in-Ok-clause-cloned g c).In-Ok in
-    subst (λ s. clone_of g at s (record { chains = c.in-Ok.chains; root = (source g at).root })) c.self.view_is (made g at).clone
+    subst (λ s. clone_of g at s (record { chains = c.in-Ok.chains; root = (source g at).root }))
+    c.self.view_is (made g at).clone
 
 pub returns-in-Ok-clause-ordered : goal.returns-in-Ok-clause-ordered
 returns-in-Ok-clause-ordered g c = (made g (goal.at.returns-in-Ok-clause-ordered g c).In-Ok).ordered
@@ -45,6 +58,7 @@ returns-in-Err-clause-unmade g c =
       | inl memory ↦ inl memory
       | inr refused ↦
           inr (λ never. refused (λ k e at.
-          let sure : g.T.Clone.is_infallible e.1.1.t = never k (listed_item e) (listed_as_item _ k e at) in
+          let sure : g.T.Clone.is_infallible e.1.1.t =
+          never k (listed_item e) (listed_as_item _ k e at) in
           search (rules, g.met.P.Inx.PtrInxCore.always_clones)))
     ])

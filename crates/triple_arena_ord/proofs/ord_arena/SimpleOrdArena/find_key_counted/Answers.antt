@@ -12,9 +12,14 @@ returns-clause-found g c =
     let key = g.T.SimpleOrdItem.key_of in
     let k = c.args.k.now in
     let o = c.args.self.now in
-    found_from number g.P.PtrCore.index g.P.PtrCore.generation (asked_at cmp key k o) (IsAscending number cmp key o) o c.seek-place.ensures.ordered
-    (parts_at number cmp key k g.met.T.Key.Ord.total o c.seek-place.ensures.ordered) _ c.seek-place.ensures.answer c.found_at.result c.found_at.ensures.some c.found_at.ensures.none
-    (subst (λ z. IfSome c.found_at.result (λ p. generation_at (entry_in z) (g.P.PtrCore.index p) ≡ Some (g.P.PtrCore.generation p))) c.self.view_is c.found_at.ensures.live)
+    found_from number g.P.PtrCore.index g.P.PtrCore.generation (asked_at cmp key k o)
+    (IsAscending number cmp key o) o c.seek-place.ensures.ordered
+    (parts_at number cmp key k g.met.T.Key.Ord.total o c.seek-place.ensures.ordered) _
+    c.seek-place.ensures.answer c.found_at.result c.found_at.ensures.some
+    c.found_at.ensures.none
+    (subst (λ z. IfSome c.found_at.result
+    (λ p. generation_at (entry_in z) (g.P.PtrCore.index p) ≡ Some (g.P.PtrCore.generation p)))
+    c.self.view_is c.found_at.ensures.live)
 
 pub returns-clause-bound : goal.returns-clause-bound
 returns-clause-bound g c = few _ _ _ _ c.seek-place.ensures.ordered c.seek-place.ensures.bound

@@ -13,16 +13,23 @@ returns-clause-similar g c =
     let key = g.T.SimpleOrdItem.key_of in
     let k = c.args.k.now in
     let o = c.args.self.now in
-    similar_from number g.P.PtrCore.index g.P.PtrCore.generation (asked_at cmp key k o) (IsAscending number cmp key o) o c.seek_linear-place.ensures.ordered
-    (parts_at number cmp key k g.met.T.Key.Ord.total o c.seek_linear-place.ensures.ordered) _ c.seek_linear-place.ensures.answer c.similar_at.result c.similar_at.ensures.same
-    (subst (λ z. IfSome c.similar_at.result (λ x. generation_at (entry_in z) (g.P.PtrCore.index x.0) ≡ Some (g.P.PtrCore.generation x.0))) c.self.view_is c.similar_at.ensures.live)
+    similar_from number g.P.PtrCore.index g.P.PtrCore.generation (asked_at cmp key k o)
+    (IsAscending number cmp key o) o c.seek_linear-place.ensures.ordered
+    (parts_at number cmp key k g.met.T.Key.Ord.total o c.seek_linear-place.ensures.ordered) _
+    c.seek_linear-place.ensures.answer c.similar_at.result c.similar_at.ensures.same
+    (subst (λ z. IfSome c.similar_at.result
+    (λ x. generation_at (entry_in z) (g.P.PtrCore.index x.0)
+    ≡ Some (g.P.PtrCore.generation x.0))) c.self.view_is c.similar_at.ensures.live)
 
 pub similar_at-requires-clause-live : goal.similar_at-requires-clause-live
 similar_at-requires-clause-live g c =
-    places_live g.P.Inx.PtrInxCore.number c.args.self.now _ c.self.view_is c.seek_linear-place.ensures.ordered c.seek_linear-place.result c.seek_linear-place.ensures.answer
+    places_live g.P.Inx.PtrInxCore.number c.args.self.now _ c.self.view_is
+    c.seek_linear-place.ensures.ordered c.seek_linear-place.result
+    c.seek_linear-place.ensures.answer
 
 pub returns-clause-bound : goal.returns-clause-bound
-returns-clause-bound g c = few_more _ _ _ _ _ c.seek_linear-place.ensures.ordered c.seek_linear-place.ensures.ticks
+returns-clause-bound g c =
+    few_more _ _ _ _ _ c.seek_linear-place.ensures.ordered c.seek_linear-place.ensures.ticks
 
 pub returns-clause-near : goal.returns-clause-near
 returns-clause-near g c = λ ascending lives hand.
@@ -31,4 +38,6 @@ returns-clause-near g c = λ ascending lives hand.
     let key = g.T.SimpleOrdItem.key_of in
     let k = c.args.k.now in
     let o = c.args.self.now in
-    c.seek_linear-place.ensures.near (parts_at number cmp key k g.met.T.Key.Ord.total o c.seek_linear-place.ensures.ordered ascending) lives hand
+    c.seek_linear-place.ensures.near
+    (parts_at number cmp key k g.met.T.Key.Ord.total o c.seek_linear-place.ensures.ordered
+    ascending) lives hand

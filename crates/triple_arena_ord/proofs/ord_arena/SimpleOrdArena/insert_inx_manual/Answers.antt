@@ -4,12 +4,18 @@ use Rattle.triple_arena_ord.proofs.SettleLemmas.{numbered_ok, numbered_err}
 use Rattle.triple_arena_ord.proofs.ord_arena.SimpleOrdArena.insert_inx_manual.Goals as goal
 
 pub settle-place-requires-clause-live : goal.settle-place-requires-clause-live
-settle-place-requires-clause-live g c = item-some g.P.Inx.PtrInxCore.number (values_in c.args.self.now.chains (g.P.Inx.PtrInxCore.number c.args.p)) c.requires
+settle-place-requires-clause-live g c =
+    item-some g.P.Inx.PtrInxCore.number
+    (values_in c.args.self.now.chains (g.P.Inx.PtrInxCore.number c.args.p)) c.requires
 
 pub returns-in-Ok-clause-inserted : goal.returns-in-Ok-clause-inserted
 returns-in-Ok-clause-inserted g c =
-    numbered_ok g.P.Inx.PtrInxCore.number g.P.PtrCore.index g.P.PtrCore.generation _ _ _ _ _ _ _ _ c.in-Ok.replaced c.in-Ok.is c.settle-place.ensures.same c.insert_at_reallocating.ensures.inserted
+    numbered_ok g.P.Inx.PtrInxCore.number g.P.PtrCore.index g.P.PtrCore.generation _ _ _ _ _ _ _ _
+    c.in-Ok.replaced c.in-Ok.is c.settle-place.ensures.same
+    c.insert_at_reallocating.ensures.inserted
 
 pub returns-in-Err-clause-inserted : goal.returns-in-Err-clause-inserted
 returns-in-Err-clause-inserted g c =
-    numbered_err g.P.Inx.PtrInxCore.number g.P.PtrCore.index g.P.PtrCore.generation _ _ _ _ _ _ _ c.in-Err.error c.in-Err.is c.settle-place.ensures.same c.insert_at_reallocating.ensures.inserted
+    numbered_err g.P.Inx.PtrInxCore.number g.P.PtrCore.index g.P.PtrCore.generation _ _ _ _ _ _ _
+    c.in-Err.error c.in-Err.is c.settle-place.ensures.same
+    c.insert_at_reallocating.ensures.inserted

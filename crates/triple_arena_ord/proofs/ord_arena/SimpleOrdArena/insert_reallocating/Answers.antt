@@ -10,17 +10,23 @@ use Rattle.triple_arena_ord.proofs.ord_arena.SimpleOrdArena.insert_reallocating.
 
 pub returns-clause-inserted : goal.returns-clause-inserted
 returns-clause-inserted g c =
-    inserted_by_key g.P.Inx.PtrInxCore.number g.T.Key.Ord.cmp g.T.SimpleOrdItem.key_of g.met.T.Key.Ord.total g.P.PtrCore.index g.P.PtrCore.generation _
+    inserted_by_key g.P.Inx.PtrInxCore.number g.T.Key.Ord.cmp g.T.SimpleOrdItem.key_of
+    g.met.T.Key.Ord.total g.P.PtrCore.index g.P.PtrCore.generation _
     c.args.self.now c.insert_at_reallocating.new.self c.args.t _ c.key.ensures _ _
-    c.seek-found.ensures.ordered c.insert_at_reallocating.ensures.ordered c.seek-found.ensures.answer c.insert_at_reallocating.ensures.inserted
+    c.seek-found.ensures.ordered c.insert_at_reallocating.ensures.ordered
+    c.seek-found.ensures.answer c.insert_at_reallocating.ensures.inserted
 
 pub returns-clause-ascending : goal.returns-clause-ascending
 returns-clause-ascending g c = λ ascending.
     let number = g.P.Inx.PtrInxCore.number in
     let key = g.T.SimpleOrdItem.key_of in
     let place : Option (ℕ × Ordering) = option_map (λ a. (number a.0, a.1)) c.seek-found.result in
-    let at = subst (λ k. IsAnswer (asked_at g.T.Key.Ord.cmp key k c.args.self.now) (tree_in number c.args.self.now) place) c.key.ensures c.seek-found.ensures.answer in
-    placed_ascending number g.T.Key.Ord.cmp key g.met.T.Key.Ord.total c.args.self.now c.insert_at_reallocating.new.self g.P.PtrCore.index g.P.PtrCore.generation _ c.args.t place
-    c.insert_at_reallocating.result c.seek-found.ensures.ordered c.insert_at_reallocating.ensures.ordered
-    (placed_by_key number g.T.Key.Ord.cmp key (key c.args.t) c.args.self.now g.met.T.Key.Ord.total c.seek-found.ensures.ordered place at)
+    let at = subst (λ k. IsAnswer (asked_at g.T.Key.Ord.cmp key k c.args.self.now)
+    (tree_in number c.args.self.now) place) c.key.ensures c.seek-found.ensures.answer in
+    placed_ascending number g.T.Key.Ord.cmp key g.met.T.Key.Ord.total c.args.self.now
+    c.insert_at_reallocating.new.self g.P.PtrCore.index g.P.PtrCore.generation _ c.args.t place
+    c.insert_at_reallocating.result c.seek-found.ensures.ordered
+    c.insert_at_reallocating.ensures.ordered
+    (placed_by_key number g.T.Key.Ord.cmp key (key c.args.t) c.args.self.now g.met.T.Key.Ord.total
+    c.seek-found.ensures.ordered place at)
     c.insert_at_reallocating.ensures.inserted ascending

@@ -9,8 +9,10 @@ invariant_of-result g c =
     let number = g.P.Inx.PtrInxCore.number in
     let o = c.args.self.now in
     let ordered = c.first_index.ensures.ordered in
-    let along = whole number o ordered c.from.result (c.from.ensures.at ∙ c.first_index.ensures.at) c.from.ensures.back in
-    c.len.ensures.value ∙ sym (all_listed number o ordered) ∙ sym (ap (λ w. length (entries_at o w)) along)
+    let along = whole number o ordered c.from.result (c.from.ensures.at ∙ c.first_index.ensures.at)
+    c.from.ensures.back in
+    c.len.ensures.value ∙ sym (all_listed number o ordered)
+    ∙ sym (ap (λ w. length (entries_at o w)) along)
 
 pub returns : goal.returns
 returns g c =

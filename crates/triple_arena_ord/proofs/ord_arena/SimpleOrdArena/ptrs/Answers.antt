@@ -4,4 +4,5 @@ use Rattle.triple_arena_ord.proofs.IndexedLemmas.{pointers_same}
 use Rattle.triple_arena_ord.proofs.ord_arena.SimpleOrdArena.ptrs.Goals as goal
 
 pub returns : goal.returns
-returns g c = rw (← c.self.view_is) (c.ptrs.ensures ∙ sym (pointers_same (live_entries c.self.inside.chains)))
+returns g c = rw (← c.self.view_is)
+    (c.ptrs.ensures ∙ sym (pointers_same (live_entries c.self.inside.chains)))

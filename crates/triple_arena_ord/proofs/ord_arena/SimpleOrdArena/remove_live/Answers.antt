@@ -16,30 +16,44 @@ take_entry-taken-requires-clause-next g c = ap next_in c.neighbors.ensures
 pub invariant_of-self : goal.invariant_of-self
 invariant_of-self g c =
     let number = g.P.Inx.PtrInxCore.number in
-    let o : Ordered g.row.P-Inx.Denot g.row.T.Denot = record { chains = c.self.inside.chains; root = option_map number c.self.inside.root } in
-    let p : Ordered g.row.P-Inx.Denot g.row.T.Denot = record { chains = c.take_entry-taken.new.chains; root = option_map number c.take_entry-taken.new.root } in
+    let o : Ordered g.row.P-Inx.Denot g.row.T.Denot =
+    record { chains = c.self.inside.chains; root = option_map number c.self.inside.root } in
+    let p : Ordered g.row.P-Inx.Denot g.row.T.Denot =
+    record {
+      chains = c.take_entry-taken.new.chains;
+      root = option_map number c.take_entry-taken.new.root;
+    } in
     let h = number c.args.gone in
     let prev = option_map number c.neighbors.result.0 in
     let next = option_map number c.neighbors.result.1 in (
       c.take_entry-taken.ensures.ordered,
-      c.end_at.ensures ∙ first_lost number o p c.self.invariant.0 h c.take_entry-taken.ensures.order prev next c.neighbors.ensures _ c.self.invariant.1,
-      c.end_at-2.ensures ∙ last_lost number o p c.self.invariant.0 h c.take_entry-taken.ensures.order prev next c.neighbors.ensures _ c.self.invariant.2,
+      c.end_at.ensures ∙ first_lost number o p c.self.invariant.0 h c.take_entry-taken.ensures.order
+          prev next c.neighbors.ensures _ c.self.invariant.1,
+      c.end_at-2.ensures ∙ last_lost number o p c.self.invariant.0 h
+          c.take_entry-taken.ensures.order prev next c.neighbors.ensures _ c.self.invariant.2,
     )
 
 pub returns-clause-removed : goal.returns-clause-removed
 returns-clause-removed g c =
     let number = g.P.Inx.PtrInxCore.number in
-    let o : Ordered g.row.P-Inx.Denot g.row.T.Denot = record { chains = c.self.inside.chains; root = option_map number c.self.inside.root } in
-    let p : Ordered g.row.P-Inx.Denot g.row.T.Denot = record { chains = c.take_entry-taken.new.chains; root = option_map number c.take_entry-taken.new.root } in
+    let o : Ordered g.row.P-Inx.Denot g.row.T.Denot =
+    record { chains = c.self.inside.chains; root = option_map number c.self.inside.root } in
+    let p : Ordered g.row.P-Inx.Denot g.row.T.Denot =
+    record {
+      chains = c.take_entry-taken.new.chains;
+      root = option_map number c.take_entry-taken.new.root;
+    } in
     let h = number c.args.gone in
     let last = g.P.Gen.PtrGenCore.last in
     let done = c.take_entry-taken.ensures in
     subst (λ z. IsEntryRemoved number last h z p) c.self.view_is
-    (removed number last o p h c.self.invariant.0 done.ordered done.order done.entries done.counter done.free done.slots done.room)
+    (removed number last o p h c.self.invariant.0 done.ordered done.order done.entries done.counter
+    done.free done.slots done.room)
 
 pub returns-clause-overflow : goal.returns-clause-overflow
 returns-clause-overflow g c =
     let last = g.P.Gen.PtrGenCore.last in
     let done = c.take_entry-taken.ensures in
-    c.item_of.ensures.overflow ∙ mapped_if overflowed (answer_of c.take_entry-taken.result) _ done.some done.overflow
+    c.item_of.ensures.overflow
+    ∙ mapped_if overflowed (answer_of c.take_entry-taken.result) _ done.some done.overflow
     ∙ ap (λ z. Some (next_wraps last z.chains.counter)) c.self.view_is

@@ -9,8 +9,11 @@ use Rattle.triple_arena_ord.proofs.ord_arena.SimpleOrdArena.settle_after.Goals a
 pub unreached-unreachable-requires : goal.unreached-unreachable-requires
 unreached-unreachable-requires g c =
     let number = g.P.Inx.PtrInxCore.number in
-    let o : Ordered g.row.P-Inx.Denot g.row.T.Denot = record { chains = c.self.inside.chains; root = option_map number c.self.inside.root } in
-    let s = settled_next number o c.self.invariant.0 (number c.args.i) _ c.read.ensures c.read.result.right c.if-is_none.ensures refl c.neighbors_beside.result.1 c.neighbors_beside.ensures.next in
+    let o : Ordered g.row.P-Inx.Denot g.row.T.Denot =
+    record { chains = c.self.inside.chains; root = option_map number c.self.inside.root } in
+    let s = settled_next number o c.self.invariant.0 (number c.args.i) _ c.read.ensures
+    c.read.result.right c.if-is_none.ensures refl c.neighbors_beside.result.1
+    c.neighbors_beside.ensures.next in
     let here = c.in-None.is in
     let there = s.1.0 in
     absurd (cc)
@@ -18,13 +21,21 @@ unreached-unreachable-requires g c =
 pub returns-clause-free : goal.returns-clause-free
 returns-clause-free g c =
     let number = g.P.Inx.PtrInxCore.number in
-    let o : Ordered g.row.P-Inx.Denot g.row.T.Denot = record { chains = c.self.inside.chains; root = option_map number c.self.inside.root } in
-    let s = settled_next number o c.self.invariant.0 (number c.args.i) _ c.read.ensures c.read.result.right c.if-is_none.ensures refl c.neighbors_beside.result.1 c.neighbors_beside.ensures.next in
-    (settled_at number o c.args.self.now Right (number c.args.i) Less c.neighbors_beside.result.1 s c.in-Some.next c.in-Some.is c.self.view_is).free
+    let o : Ordered g.row.P-Inx.Denot g.row.T.Denot =
+    record { chains = c.self.inside.chains; root = option_map number c.self.inside.root } in
+    let s = settled_next number o c.self.invariant.0 (number c.args.i) _ c.read.ensures
+    c.read.result.right c.if-is_none.ensures refl c.neighbors_beside.result.1
+    c.neighbors_beside.ensures.next in
+    (settled_at number o c.args.self.now Right (number c.args.i) Less c.neighbors_beside.result.1 s
+    c.in-Some.next c.in-Some.is c.self.view_is).free
 
 pub returns-clause-same : goal.returns-clause-same
 returns-clause-same g c =
     let number = g.P.Inx.PtrInxCore.number in
-    let o : Ordered g.row.P-Inx.Denot g.row.T.Denot = record { chains = c.self.inside.chains; root = option_map number c.self.inside.root } in
-    let s = settled_next number o c.self.invariant.0 (number c.args.i) _ c.read.ensures c.read.result.right c.if-is_none.ensures refl c.neighbors_beside.result.1 c.neighbors_beside.ensures.next in
-    (settled_at number o c.args.self.now Right (number c.args.i) Less c.neighbors_beside.result.1 s c.in-Some.next c.in-Some.is c.self.view_is).same
+    let o : Ordered g.row.P-Inx.Denot g.row.T.Denot =
+    record { chains = c.self.inside.chains; root = option_map number c.self.inside.root } in
+    let s = settled_next number o c.self.invariant.0 (number c.args.i) _ c.read.ensures
+    c.read.result.right c.if-is_none.ensures refl c.neighbors_beside.result.1
+    c.neighbors_beside.ensures.next in
+    (settled_at number o c.args.self.now Right (number c.args.i) Less c.neighbors_beside.result.1 s
+    c.in-Some.next c.in-Some.is c.self.view_is).same

@@ -12,20 +12,29 @@ returns-in_err-i g c =
 pub remove_live-requires-clause-live : goal.remove_live-requires-clause-live
 remove_live-requires-clause-live g c =
     let number = g.P.Inx.PtrInxCore.number in
-    first_knot number c.args.self.now c.first_index.ensures.ordered (number c.in_ok-i.i) (sym c.in_ok-i.ensures.at)
+    first_knot number c.args.self.now c.first_index.ensures.ordered (number c.in_ok-i.i)
+    (sym c.in_ok-i.ensures.at)
 
 pub returns-then-wrapped : goal.returns-then-wrapped
 returns-then-wrapped g c =
     let number = g.P.Inx.PtrInxCore.number in
-    taken_by g.P.Gen.PtrGenCore.number number g.P.Gen.PtrGenCore.last g.P.PtrCore.index g.P.PtrCore.generation c.args.self.now c.remove_live.new.self (number c.in_ok-i.i)
-    (answer_of c.remove_live.result) c._from_raw.result c.in_ok-generation.generation c.in_ok-generation.t c.in_ok-generation.wrapped _
-    c.first_index.ensures.ordered (sym c.in_ok-i.ensures.at) c._from_raw.ensures.has_index c._from_raw.ensures.has_generation refl (sym c.if-wrapped.true)
-    (search rules) c.remove_live.ensures.value c.remove_live.ensures.overflow c.remove_live.ensures.removed
+    taken_by g.P.Gen.PtrGenCore.number number g.P.Gen.PtrGenCore.last g.P.PtrCore.index
+    g.P.PtrCore.generation c.args.self.now c.remove_live.new.self (number c.in_ok-i.i)
+    (answer_of c.remove_live.result) c._from_raw.result c.in_ok-generation.generation
+    c.in_ok-generation.t c.in_ok-generation.wrapped _
+    c.first_index.ensures.ordered (sym c.in_ok-i.ensures.at) c._from_raw.ensures.has_index
+    c._from_raw.ensures.has_generation refl (sym c.if-wrapped.true)
+    (search rules) c.remove_live.ensures.value c.remove_live.ensures.overflow
+    c.remove_live.ensures.removed
 
 pub returns-else-wrapped : goal.returns-else-wrapped
 returns-else-wrapped g c =
     let number = g.P.Inx.PtrInxCore.number in
-    taken_by g.P.Gen.PtrGenCore.number number g.P.Gen.PtrGenCore.last g.P.PtrCore.index g.P.PtrCore.generation c.args.self.now c.remove_live.new.self (number c.in_ok-i.i)
-    (answer_of c.remove_live.result) c._from_raw.result c.in_ok-generation.generation c.in_ok-generation.t c.in_ok-generation.wrapped _
-    c.first_index.ensures.ordered (sym c.in_ok-i.ensures.at) c._from_raw.ensures.has_index c._from_raw.ensures.has_generation refl (sym c.if-wrapped.false)
-    (search rules) c.remove_live.ensures.value c.remove_live.ensures.overflow c.remove_live.ensures.removed
+    taken_by g.P.Gen.PtrGenCore.number number g.P.Gen.PtrGenCore.last g.P.PtrCore.index
+    g.P.PtrCore.generation c.args.self.now c.remove_live.new.self (number c.in_ok-i.i)
+    (answer_of c.remove_live.result) c._from_raw.result c.in_ok-generation.generation
+    c.in_ok-generation.t c.in_ok-generation.wrapped _
+    c.first_index.ensures.ordered (sym c.in_ok-i.ensures.at) c._from_raw.ensures.has_index
+    c._from_raw.ensures.has_generation refl (sym c.if-wrapped.false)
+    (search rules) c.remove_live.ensures.value c.remove_live.ensures.overflow
+    c.remove_live.ensures.removed

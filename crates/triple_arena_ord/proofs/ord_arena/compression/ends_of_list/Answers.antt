@@ -1,5 +1,5 @@
 use Rattle.std.proofs.Common.{◌≤◌, sym, subst}
-use Rattle.triple_arena_chain.proofs.PassLemmas.{passed_by}
+use Rattle.triple_arena.specs.WalkLaws.{passed_by}
 use Rattle.triple_arena_chain.specs.Links.{ends_in}
 use Rattle.triple_arena_ord.proofs.ListEndLemmas.{noted_step, noted_whole, first_found, last_found}
 use Rattle.triple_arena_ord.proofs.ord_arena.compression.ends_of_list.Goals as goal
@@ -18,10 +18,12 @@ loop-p-preserved g c =
       rises = next.rises;
       reaches = λ j some. subst (λ h. j ≤ h) (sym next.high) (inv.reaches j some);
       first =
-          noted_step number c.args.chains.now (λ v. v.0) before after i stamp (number c.inx-i.result) _ _ _ inv.first inv.rises step.0 next.low c.inx-i.ensures
+          noted_step number c.args.chains.now (λ v. v.0) before after i stamp
+          (number c.inx-i.result) _ _ _ inv.first inv.rises step.0 next.low c.inx-i.ensures
           c.neighbors-sides.ensures c.noted-first.ensures;
       last =
-          noted_step number c.args.chains.now (λ v. v.1) before after i stamp (number c.inx-i.result) _ _ _ inv.last inv.rises step.0 next.low c.inx-i.ensures
+          noted_step number c.args.chains.now (λ v. v.1) before after i stamp
+          (number c.inx-i.result) _ _ _ inv.last inv.rises step.0 next.low c.inx-i.ensures
           c.neighbors-sides.ensures c.noted-last.ensures;
     }
 
@@ -30,11 +32,13 @@ returns-clause-first g c w linear all =
     let number = g.P.Inx.PtrInxCore.number in
     let inv = c.loop-p.invariant in
     first_found (ends_in number c.args.chains.now) w _
-    (noted_whole number c.args.chains.now (λ v. v.0) c.loop-p.advancer _ inv.first inv.reaches c.in_default.ensures.given.0) linear all
+    (noted_whole number c.args.chains.now (λ v. v.0) c.loop-p.advancer _ inv.first inv.reaches
+    c.in_default.ensures.given.0) linear all
 
 pub returns-clause-last : goal.returns-clause-last
 returns-clause-last g c w linear all =
     let number = g.P.Inx.PtrInxCore.number in
     let inv = c.loop-p.invariant in
     last_found (ends_in number c.args.chains.now) w _
-    (noted_whole number c.args.chains.now (λ v. v.1) c.loop-p.advancer _ inv.last inv.reaches c.in_default.ensures.given.0) linear all
+    (noted_whole number c.args.chains.now (λ v. v.1) c.loop-p.advancer _ inv.last inv.reaches
+    c.in_default.ensures.given.0) linear all

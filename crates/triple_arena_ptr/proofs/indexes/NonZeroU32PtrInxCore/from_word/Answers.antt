@@ -5,4 +5,5 @@ use Rattle.triple_arena_ptr.specs.Words.{made_held}
 use Rattle.triple_arena_ptr.proofs.indexes.NonZeroU32PtrInxCore.from_word.Goals as goal
 
 pub returns : goal.returns
-returns c = made_held (λ n ok. record { value = n; ok = ok }) non_zero_u32_get (λ n ok. refl) u32_determined (λ i. i.ok) c.args.word_raw c.new.result c.new.ensures
+returns c = made_held (λ n ok. record { value = n; ok = ok }) non_zero_u32_get (λ n ok. refl)
+    u32_determined (λ i. i.ok) c.args.word_raw c.new.result c.new.ensures

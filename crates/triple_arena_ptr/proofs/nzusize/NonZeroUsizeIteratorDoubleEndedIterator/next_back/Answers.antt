@@ -11,7 +11,8 @@ returns-clause-steps c =
     let last' = c.get-3.ensures in
     let taken = c.in_ok-last.ensures in
     sym c.self.view_is
-    ∙ numbers_back (non_zero_usize_get c.self.inside.first) c.self.inside.last (c.get-3.result - 1) (non_zero_usize_get c.in_ok-last.last) (omega arith) (omega arith) taken
+    ∙ numbers_back (non_zero_usize_get c.self.inside.first) c.self.inside.last (c.get-3.result - 1)
+    (non_zero_usize_get c.in_ok-last.last) (omega arith) (omega arith) taken
 
 pub returns-clause-goes : goal.returns-clause-goes
 returns-clause-goes c =

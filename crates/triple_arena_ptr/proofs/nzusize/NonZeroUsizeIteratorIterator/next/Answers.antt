@@ -8,7 +8,8 @@ returns-in-Some-clause-steps c =
     let within = c.if-self-get.false in
     let first = c.get.ensures.value in
     sym c.self.view_is
-    ∙ numbers_front (non_zero_usize_get c.self.inside.first) (non_zero_usize_get c.in-Some.second) c.self.inside.last (omega arith) c.in-Some.ensures
+    ∙ numbers_front (non_zero_usize_get c.self.inside.first) (non_zero_usize_get c.in-Some.second)
+    c.self.inside.last (omega arith) c.in-Some.ensures
 
 pub returns-in-Some-clause-goes : goal.returns-in-Some-clause-goes
 returns-in-Some-clause-goes c = fewer_left _ _ _ (ap length (returns-in-Some-clause-steps c))

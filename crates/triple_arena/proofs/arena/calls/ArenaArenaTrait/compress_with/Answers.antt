@@ -5,15 +5,21 @@ use Rattle.triple_arena.proofs.arena.calls.ArenaArenaTrait.compress_with.Goals a
 
 pub invariant_of-self : goal.invariant_of-self
 invariant_of-self g c =
-    rw c.none-self-inside.ensures (compressed_arena c.compact.ensures.moved c.self.invariant c.self.view_is (ap (room_of g.P.Inx.PtrInxCore.greatest) c.compact.ensures.room)
+    rw c.none-self-inside.ensures
+    (compressed_arena c.compact.ensures.moved c.self.invariant c.self.view_is
+    (ap (room_of g.P.Inx.PtrInxCore.greatest) c.compact.ensures.room)
     c.renewal-generation.ensures.next).sound
 
 pub returns-clause-compressed : goal.returns-clause-compressed
 returns-clause-compressed g c =
-    rw c.none-self-inside.ensures (compressed_arena c.compact.ensures.moved c.self.invariant c.self.view_is (ap (room_of g.P.Inx.PtrInxCore.greatest) c.compact.ensures.room)
+    rw c.none-self-inside.ensures
+    (compressed_arena c.compact.ensures.moved c.self.invariant c.self.view_is
+    (ap (room_of g.P.Inx.PtrInxCore.greatest) c.compact.ensures.room)
     c.renewal-generation.ensures.next).compressed
 
 pub returns-clause-exact : goal.returns-clause-exact
 returns-clause-exact g c =
-    rw c.none-self-inside.ensures (compressed_arena c.compact.ensures.moved c.self.invariant c.self.view_is (ap (room_of g.P.Inx.PtrInxCore.greatest) c.compact.ensures.room)
+    rw c.none-self-inside.ensures
+    (compressed_arena c.compact.ensures.moved c.self.invariant c.self.view_is
+    (ap (room_of g.P.Inx.PtrInxCore.greatest) c.compact.ensures.room)
     c.renewal-generation.ensures.next).exact

@@ -9,7 +9,8 @@ invariant_of-self g c =
     (ap (room_of g.P.Inx.PtrInxCore.greatest) c.compact-wrapped.ensures.room)).sound
 
 pub returns-clause-overflow : goal.returns-clause-overflow
-returns-clause-overflow g c = c.answer.ensures.overflow ∙ wraps_told _ c.compact-wrapped.ensures.wraps c.self.view_is
+returns-clause-overflow g c = c.answer.ensures.overflow
+    ∙ wraps_told _ c.compact-wrapped.ensures.wraps c.self.view_is
 
 pub returns-clause-mapped : goal.returns-clause-mapped
 returns-clause-mapped g c =

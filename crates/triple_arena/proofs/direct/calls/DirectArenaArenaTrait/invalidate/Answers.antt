@@ -4,4 +4,5 @@ use Rattle.triple_arena.proofs.direct.calls.DirectArenaArenaTrait.invalidate.Goa
 pub returns-in-Some-clause-invalidated : goal.returns-in-Some-clause-invalidated
 returns-in-Some-clause-invalidated g c =
     rw (c.valid.ensures, c.answer.ensures.value)
-    (is_invalidated c.renew_at-renewed.ensures.value c.in-Some.ensures.value c.renew_at-renewed.ensures.has_generation)
+    (is_invalidated c.renew_at-renewed.ensures.value c.in-Some.ensures.value
+    c.renew_at-renewed.ensures.has_generation)

@@ -9,16 +9,19 @@ use Rattle.triple_arena.proofs.direct.reading.DirectArenaValueAtMut.value_at_mut
 
 pub value_mut-requires-clause-used : goal.value_mut-requires-clause-used
 value_mut-requires-clause-used g c =
-    value_some _ (rw (held_at _ c.self.view_is c.args.i.ok c.item_mut.ensures.value) at c.requires.used)
+    value_some _ (rw (held_at _ c.self.view_is c.args.i.ok c.item_mut.ensures.value) at
+    c.requires.used)
 
 pub invariant_of-self-lent : goal.invariant_of-self-lent
 invariant_of-self-lent g c w =
     (written _ w c.self.invariant c.self.view_is c.args.i.ok c.item_mut.ensures.value
     (g.met.S.NonZeroInxGenericStack.items_with_items c.self.inside.slots
-    (with_item (g.S.NonZeroInxGenericStack.items c.self.inside.slots) (non_zero_usize_get c.args.i) (with_slot_value c.item_mut.result.now w)))
+    (with_item (g.S.NonZeroInxGenericStack.items c.self.inside.slots) (non_zero_usize_get c.args.i)
+    (with_slot_value c.item_mut.result.now w)))
     (ap (room_of g.P.Inx.PtrInxCore.greatest)
     (g.met.S.NonZeroInxGenericStack.room_with_items c.self.inside.slots
-    (with_item (g.S.NonZeroInxGenericStack.items c.self.inside.slots) (non_zero_usize_get c.args.i) (with_slot_value c.item_mut.result.now w))))).sound
+    (with_item (g.S.NonZeroInxGenericStack.items c.self.inside.slots) (non_zero_usize_get c.args.i)
+    (with_slot_value c.item_mut.result.now w))))).sound
 
 pub returns : goal.returns
 returns g c = (
@@ -27,14 +30,17 @@ returns g c = (
     λ w.
         (written _ w c.self.invariant c.self.view_is c.args.i.ok c.item_mut.ensures.value
         (g.met.S.NonZeroInxGenericStack.items_with_items c.self.inside.slots
-        (with_item (g.S.NonZeroInxGenericStack.items c.self.inside.slots) (non_zero_usize_get c.args.i) (with_slot_value c.item_mut.result.now w)))
+        (with_item (g.S.NonZeroInxGenericStack.items c.self.inside.slots)
+        (non_zero_usize_get c.args.i) (with_slot_value c.item_mut.result.now w)))
         (ap (room_of g.P.Inx.PtrInxCore.greatest)
         (g.met.S.NonZeroInxGenericStack.room_with_items c.self.inside.slots
-        (with_item (g.S.NonZeroInxGenericStack.items c.self.inside.slots) (non_zero_usize_get c.args.i)
+        (with_item (g.S.NonZeroInxGenericStack.items c.self.inside.slots)
+        (non_zero_usize_get c.args.i)
         (with_slot_value c.item_mut.result.now w))))).content,
   ),
   record {
     writes_back = tt;
-    value = ap (option_map (λ e. e.1)) (held_at _ c.self.view_is c.args.i.ok c.item_mut.ensures.value) ∙ c.value_mut.ensures.value;
+    value = ap (option_map (λ e. e.1))
+        (held_at _ c.self.view_is c.args.i.ok c.item_mut.ensures.value) ∙ c.value_mut.ensures.value;
   },
 )

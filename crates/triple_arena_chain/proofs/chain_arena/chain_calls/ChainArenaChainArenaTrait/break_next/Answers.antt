@@ -1,39 +1,62 @@
 use Rattle.std.proofs.Common.{rules, ◌≡◌, ℕ, Some, None, IsSome, option_map}
 use Rattle.triple_arena.specs.Content.{entry_at}
 use Rattle.triple_arena_chain.specs.Chains.{next_at, unlinked}
-use Rattle.triple_arena_chain.specs.Links.{ends_in, ends_found, with_next_of, with_prev_of, IsChained}
+use Rattle.triple_arena_chain.specs.Links.{ends_in, ends_found, with_next_of, with_prev_of}
+use Rattle.triple_arena_chain.specs.Links.{IsChained}
 use Rattle.triple_arena_chain.proofs.ListLemmas.{is_split}
-use Rattle.triple_arena_chain.proofs.ConnectionLemmas.{next_live, parted_next, next_found, next_read, Relinked}
+use Rattle.triple_arena_chain.proofs.ConnectionLemmas.{next_live, parted_next, next_found}
+use Rattle.triple_arena_chain.proofs.ConnectionLemmas.{next_read, Relinked}
 use Rattle.triple_arena_chain.proofs.chain_arena.chain_calls.ChainArenaChainArenaTrait.break_next.Given.{Over}
 use Rattle.triple_arena_chain.proofs.chain_arena.chain_calls.ChainArenaChainArenaTrait.break_next.Goals as goal
 
 pub relink-requires-clause-after : goal.relink-requires-clause-after
 relink-requires-clause-after g c =
     let number = g.P.Inx.PtrInxCore.number in
-    let is = next_read number (ends_found number c.args.self.now (g.P.PtrCore.index c.args.p) (g.P.PtrCore.generation c.args.p)) c.in-Some-default-Some.field-0-0
-    c.in-Some-default-Some.field-0-1 c.in-Some-default-Some.next (c.in-Some-default-Some.ensures).numbers c.in-Some-default-Some.field-0-1-is in
+    let is = next_read number
+    (ends_found number c.args.self.now (g.P.PtrCore.index c.args.p)
+    (g.P.PtrCore.generation c.args.p)) c.in-Some-default-Some.field-0-0
+    c.in-Some-default-Some.field-0-1 c.in-Some-default-Some.next
+    (c.in-Some-default-Some.ensures).numbers c.in-Some-default-Some.field-0-1-is in
     let live : IsSome (entry_at c.args.self.now (number c.in-Some-default-Some.next)) =
-    next_live number c.args.self.now (g.P.PtrCore.index c.args.p) (g.P.PtrCore.generation c.args.p) (number c.in-Some-default-Some.next)
+    next_live number c.args.self.now (g.P.PtrCore.index c.args.p) (g.P.PtrCore.generation c.args.p)
+    (number c.in-Some-default-Some.next)
     (option_map number c.in-Some-default-Some.field-0-0) c.recall_chained.ensures is in
     search rules
 
-done : (g : Over) (c : goal.After-relink g) (q : ℕ) → next_at (ends_in g.P.Inx.PtrInxCore.number c.args.self.now) (g.P.PtrCore.index c.args.p) ≡ Some q
-    → Relinked g.P.Inx.PtrInxCore.number (unlinked (ends_in g.P.Inx.PtrInxCore.number c.args.self.now) (g.P.PtrCore.index c.args.p) q) c.args.self.now c.relink.new.arena
+done : (g : Over) (c : goal.After-relink g) (q : ℕ)
+    → next_at (ends_in g.P.Inx.PtrInxCore.number c.args.self.now) (g.P.PtrCore.index c.args.p)
+    ≡ Some q
+    → Relinked g.P.Inx.PtrInxCore.number
+    (unlinked (ends_in g.P.Inx.PtrInxCore.number c.args.self.now) (g.P.PtrCore.index c.args.p)
+    q) c.args.self.now c.relink.new.arena
 done g c =
     let number = g.P.Inx.PtrInxCore.number in
-    let is = next_read number (ends_found number c.args.self.now (g.P.PtrCore.index c.args.p) (g.P.PtrCore.generation c.args.p)) c.in-Some-default-Some.field-0-0
-    c.in-Some-default-Some.field-0-1 c.in-Some-default-Some.next (c.in-Some-default-Some.ensures).numbers c.in-Some-default-Some.field-0-1-is in
-    let made : c.relink.new.arena ≡ with_prev_of number (with_next_of number c.args.self.now (Some c.inx.result) None) (Some c.in-Some-default-Some.next) None =
+    let is = next_read number
+    (ends_found number c.args.self.now (g.P.PtrCore.index c.args.p)
+    (g.P.PtrCore.generation c.args.p)) c.in-Some-default-Some.field-0-0
+    c.in-Some-default-Some.field-0-1 c.in-Some-default-Some.next
+    (c.in-Some-default-Some.ensures).numbers c.in-Some-default-Some.field-0-1-is in
+    let made : c.relink.new.arena
+    ≡ with_prev_of number (with_next_of number c.args.self.now (Some c.inx.result) None)
+    (Some c.in-Some-default-Some.next) None =
     search rules in
-    parted_next number c.args.self.now c.relink.new.arena c.inx.result c.in-Some-default-Some.next (g.P.PtrCore.index c.args.p) (g.P.PtrCore.generation c.args.p)
-    (option_map number c.in-Some-default-Some.field-0-0) c.recall_chained.ensures c.inx.ensures is made
+    parted_next number c.args.self.now c.relink.new.arena c.inx.result c.in-Some-default-Some.next
+    (g.P.PtrCore.index c.args.p) (g.P.PtrCore.generation c.args.p)
+    (option_map number c.in-Some-default-Some.field-0-0) c.recall_chained.ensures c.inx.ensures is
+    made
 
-chained : (g : Over) (c : goal.After-relink g) → IsChained g.P.Inx.PtrInxCore.number c.relink.new.arena
+chained : (g : Over) (c : goal.After-relink g)
+    → IsChained g.P.Inx.PtrInxCore.number c.relink.new.arena
 chained g c =
     let number = g.P.Inx.PtrInxCore.number in
-    let is = next_read number (ends_found number c.args.self.now (g.P.PtrCore.index c.args.p) (g.P.PtrCore.generation c.args.p)) c.in-Some-default-Some.field-0-0
-    c.in-Some-default-Some.field-0-1 c.in-Some-default-Some.next (c.in-Some-default-Some.ensures).numbers c.in-Some-default-Some.field-0-1-is in
-    (done g c (number c.in-Some-default-Some.next) (next_found number c.args.self.now (g.P.PtrCore.index c.args.p) (g.P.PtrCore.generation c.args.p) (number c.in-Some-default-Some.next)
+    let is = next_read number
+    (ends_found number c.args.self.now (g.P.PtrCore.index c.args.p)
+    (g.P.PtrCore.generation c.args.p)) c.in-Some-default-Some.field-0-0
+    c.in-Some-default-Some.field-0-1 c.in-Some-default-Some.next
+    (c.in-Some-default-Some.ensures).numbers c.in-Some-default-Some.field-0-1-is in
+    (done g c (number c.in-Some-default-Some.next)
+    (next_found number c.args.self.now (g.P.PtrCore.index c.args.p)
+    (g.P.PtrCore.generation c.args.p) (number c.in-Some-default-Some.next)
     (option_map number c.in-Some-default-Some.field-0-0) is)).chained
 
 pub invariant_of-self : goal.invariant_of-self
@@ -45,7 +68,8 @@ returns-clause-formed g c = chained g c
 pub returns-clause-lists : goal.returns-clause-lists
 returns-clause-lists g c q next =
     let number = g.P.Inx.PtrInxCore.number in
-    is_split (ends_in number c.args.self.now) (ends_in number c.relink.new.arena) (g.P.PtrCore.index c.args.p) q c.recall_chained.ensures.agreed
+    is_split (ends_in number c.args.self.now) (ends_in number c.relink.new.arena)
+    (g.P.PtrCore.index c.args.p) q c.recall_chained.ensures.agreed
     (chained g c).agreed next (done g c q next).relinked.ends
 
 pub returns-clause-relinked : goal.returns-clause-relinked

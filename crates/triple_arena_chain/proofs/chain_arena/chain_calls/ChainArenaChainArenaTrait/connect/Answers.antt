@@ -8,7 +8,9 @@ use Rattle.triple_arena_chain.proofs.chain_arena.chain_calls.ChainArenaChainAren
 use Rattle.triple_arena_chain.proofs.chain_arena.chain_calls.ChainArenaChainArenaTrait.connect.Goals as goal
 
 done : (g : Over) (c : goal.After-relink g)
-    → Relinked g.P.Inx.PtrInxCore.number (linked (ends_in g.P.Inx.PtrInxCore.number c.args.self.now) (g.P.PtrCore.index c.args.p) (g.P.PtrCore.index c.args.q)) c.args.self.now
+    → Relinked g.P.Inx.PtrInxCore.number
+    (linked (ends_in g.P.Inx.PtrInxCore.number c.args.self.now) (g.P.PtrCore.index c.args.p)
+    (g.P.PtrCore.index c.args.q)) c.args.self.now
     c.relink.new.arena
 done g c =
     let number = g.P.Inx.PtrInxCore.number in
@@ -18,10 +20,14 @@ done g c =
     let gp = g.P.PtrCore.generation c.args.p in
     let gq = g.P.PtrCore.generation c.args.q in
     let place = place_by number c.in-Some.field-0 in
-    let bridge : at_bridge p q (ends_found number old p gp) (ends_found number old q gq) ≡ Some place = search rules in
-    let made : c.relink.new.arena ≡ with_prev_of number (with_next_of number old (Some c.inx-i.result) (Some c.inx-j.result)) (Some c.inx-j.result) (Some c.inx-i.result) =
+    let bridge : at_bridge p q (ends_found number old p gp) (ends_found number old q gq)
+    ≡ Some place = search rules in
+    let made : c.relink.new.arena
+    ≡ with_prev_of number (with_next_of number old (Some c.inx-i.result) (Some c.inx-j.result))
+    (Some c.inx-j.result) (Some c.inx-i.result) =
     search rules in
-    connected number old c.relink.new.arena c.inx-i.result c.inx-j.result p gp q gq place c.recall_chained.ensures c.inx-i.ensures c.inx-j.ensures bridge made
+    connected number old c.relink.new.arena c.inx-i.result c.inx-j.result p gp q gq place
+    c.recall_chained.ensures c.inx-i.ensures c.inx-j.ensures bridge made
 
 pub invariant_of-self : goal.invariant_of-self
 invariant_of-self g c = (done g c).chained
@@ -33,7 +39,8 @@ pub returns-clause-lists : goal.returns-clause-lists
 returns-clause-lists g c =
     let number = g.P.Inx.PtrInxCore.number in
     let d = done g c in
-    is_appended (ends_in number c.args.self.now) (ends_in number c.relink.new.arena) (g.P.PtrCore.index c.args.p) (g.P.PtrCore.index c.args.q) d.chained.agreed
+    is_appended (ends_in number c.args.self.now) (ends_in number c.relink.new.arena)
+    (g.P.PtrCore.index c.args.p) (g.P.PtrCore.index c.args.q) d.chained.agreed
     d.relinked.ends
 
 pub returns-clause-formed : goal.returns-clause-formed

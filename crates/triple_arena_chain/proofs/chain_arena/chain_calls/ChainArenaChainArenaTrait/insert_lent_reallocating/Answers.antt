@@ -10,8 +10,10 @@ returns-clause-placed g c =
     let number = g.P.Inx.PtrInxCore.number in
     let old = c.args.self.now in
     let grown : c.place_reallocating.new.self ≡ grown_if_full old = search rules in
-    let is : place_among g.P.PtrCore.index g.P.PtrCore.generation number old c.args.kind.now ≡ Some (place_by number c.in_ok-place.place) = search rules in
+    let is : place_among g.P.PtrCore.index g.P.PtrCore.generation number old c.args.kind.now
+    ≡ Some (place_by number c.in_ok-place.place) = search rules in
     let placed =
-    placed-grown number old c.place_reallocating.new.self c.put.new.self (place_by number c.in_ok-place.place) (g.P.PtrCore.index c.put.result)
+    placed-grown number old c.place_reallocating.new.self c.put.new.self
+    (place_by number c.in_ok-place.place) (g.P.PtrCore.index c.put.result)
     (g.P.PtrCore.generation c.put.result) c.args.t grown c.put.ensures.placed in
     rw is placed

@@ -9,5 +9,7 @@ put-requires-clause-place g c =
     let number = g.P.Inx.PtrInxCore.number in
     let old = c.args.self.now in
     let place = place_by number c.in-Some.place in
-    let is : place_among g.P.PtrCore.index g.P.PtrCore.generation number old c.args.kind.now ≡ Some place = search rules in
-    placeable g.P.PtrCore.index g.P.PtrCore.generation number old c.args.kind.now place c.recall_chained.ensures is
+    let is : place_among g.P.PtrCore.index g.P.PtrCore.generation number old c.args.kind.now
+    ≡ Some place = search rules in
+    placeable g.P.PtrCore.index g.P.PtrCore.generation number old c.args.kind.now place
+    c.recall_chained.ensures is

@@ -10,29 +10,41 @@ use Rattle.triple_arena_chain.proofs.chain_arena.chain_calls.ChainArenaChainAren
 pub relink-requires-clause-before : goal.relink-requires-clause-before
 relink-requires-clause-before g c =
     let number = g.P.Inx.PtrInxCore.number in
-    let at : entry_at c.args.self.now (number c.args.i) ≡ Some (g.P.Gen.PtrGenCore.number c.in-Some.field-0-0, c.in-Some.link.now) = search rules in
-    let live = (neighbors_live number c.args.self.now (number c.args.i) (g.P.Gen.PtrGenCore.number c.in-Some.field-0-0) c.in-Some.link.now
+    let at : entry_at c.args.self.now (number c.args.i)
+    ≡ Some (g.P.Gen.PtrGenCore.number c.in-Some.field-0-0, c.in-Some.link.now) = search rules in
+    let live = (neighbors_live number c.args.self.now (number c.args.i)
+    (g.P.Gen.PtrGenCore.number c.in-Some.field-0-0) c.in-Some.link.now
     (subst (IsChained g.P.Inx.PtrInxCore.number) c.self.view_is c.self.invariant) at).0 in
     search rules
 
 pub relink-requires-clause-after : goal.relink-requires-clause-after
 relink-requires-clause-after g c =
     let number = g.P.Inx.PtrInxCore.number in
-    let at : entry_at c.args.self.now (number c.args.i) ≡ Some (g.P.Gen.PtrGenCore.number c.in-Some.field-0-0, c.in-Some.link.now) = search rules in
-    let live = (neighbors_live number c.args.self.now (number c.args.i) (g.P.Gen.PtrGenCore.number c.in-Some.field-0-0) c.in-Some.link.now
+    let at : entry_at c.args.self.now (number c.args.i)
+    ≡ Some (g.P.Gen.PtrGenCore.number c.in-Some.field-0-0, c.in-Some.link.now) = search rules in
+    let live = (neighbors_live number c.args.self.now (number c.args.i)
+    (g.P.Gen.PtrGenCore.number c.in-Some.field-0-0) c.in-Some.link.now
     (subst (IsChained g.P.Inx.PtrInxCore.number) c.self.view_is c.self.invariant) at).1 in
     search rules
 
 done : (g : Over) (c : goal.After-remove_inx g)
-    → Removed g.P.Inx.PtrInxCore.number (λ a. (g.P.Gen.PtrGenCore.number (value_of a).0, (value_of a).1)) (answer_of c.remove_inx.result) (λ a. (value_of a).1) (λ o. o) g.P.Gen.PtrGenCore.last
+    → Removed g.P.Inx.PtrInxCore.number
+    (λ a. (g.P.Gen.PtrGenCore.number (value_of a).0, (value_of a).1))
+    (answer_of c.remove_inx.result) (λ a. (value_of a).1) (λ o. o) g.P.Gen.PtrGenCore.last
     (g.P.Inx.PtrInxCore.number c.args.i) c.args.self.now c.remove_inx.new.self
 done g c =
     let number = g.P.Inx.PtrInxCore.number in
-    let at : entry_at c.args.self.now (number c.args.i) ≡ Some (g.P.Gen.PtrGenCore.number c.in-Some.field-0-0, c.in-Some.link.now) = search rules in
-    let joined : c.relink.new.arena ≡ bridged_over number c.args.self.now c.in-Some.link.now = search rules in
-    removed_by number (λ a. (g.P.Gen.PtrGenCore.number (value_of a).0, (value_of a).1)) (answer_of c.remove_inx.result) (λ a. (value_of a).1) (λ o. o) g.P.Gen.PtrGenCore.last c.args.self.now
-    c.relink.new.arena c.remove_inx.new.self (number c.args.i) (g.P.Gen.PtrGenCore.number c.in-Some.field-0-0) c.in-Some.link.now
-    (g.P.Gen.PtrGenCore.number c.in-Some.field-0-0, c.in-Some.link.now) (subst (IsChained g.P.Inx.PtrInxCore.number) c.self.view_is c.self.invariant) at refl joined
+    let at : entry_at c.args.self.now (number c.args.i)
+    ≡ Some (g.P.Gen.PtrGenCore.number c.in-Some.field-0-0, c.in-Some.link.now) = search rules in
+    let joined : c.relink.new.arena ≡ bridged_over number c.args.self.now c.in-Some.link.now =
+    search rules in
+    removed_by number (λ a. (g.P.Gen.PtrGenCore.number (value_of a).0, (value_of a).1))
+    (answer_of c.remove_inx.result) (λ a. (value_of a).1) (λ o. o) g.P.Gen.PtrGenCore.last
+    c.args.self.now
+    c.relink.new.arena c.remove_inx.new.self (number c.args.i)
+    (g.P.Gen.PtrGenCore.number c.in-Some.field-0-0) c.in-Some.link.now
+    (g.P.Gen.PtrGenCore.number c.in-Some.field-0-0, c.in-Some.link.now)
+    (subst (IsChained g.P.Inx.PtrInxCore.number) c.self.view_is c.self.invariant) at refl joined
     c.remove_inx.ensures.value c.remove_inx.ensures.exact (λ a is. ap (λ v. v.1) is)
 
 pub invariant_of-self : goal.invariant_of-self

@@ -10,11 +10,14 @@ invariant_of-self g c =
     let number = g.P.Inx.PtrInxCore.number in
     let chains = c.self.inside.chains.now in
     let i = number c.in_ok-i.i in
-    let here : Some (g.P.Gen.PtrGenCore.number c.in-Some.generation, c.in-Some.link.now) ≡ entry_at chains i = search rules in
+    let here : Some (g.P.Gen.PtrGenCore.number c.in-Some.generation, c.in-Some.link.now)
+    ≡ entry_at chains i = search rules in
     let shown = ap (option_map (entry_ends number)) (sym here) in
     let next : option_map number c.turned-start.result.1 ≡ Some i = search rules in
-    (link_given number chains _ (option_map number c.turned-start.result.0) (option_map number c.turned-start.result.1)
-    (option_map number c.onward-start.result.0) (option_map number c.onward-start.result.1) i _ _ c.self.invariant c.turned-start.ensures.same next here
+    (link_given number chains _ (option_map number c.turned-start.result.0)
+    (option_map number c.turned-start.result.1)
+    (option_map number c.onward-start.result.0) (option_map number c.onward-start.result.1) i _ _
+    c.self.invariant c.turned-start.ensures.same next here
     (c.onward-start.ensures (ends_in number chains) i (search (shown, rules)))).1
 
 pub returns-clause-steps : goal.returns-clause-steps
@@ -22,11 +25,14 @@ returns-clause-steps g c =
     let number = g.P.Inx.PtrInxCore.number in
     let chains = c.self.inside.chains.now in
     let i = number c.in_ok-i.i in
-    let here : Some (g.P.Gen.PtrGenCore.number c.in-Some.generation, c.in-Some.link.now) ≡ entry_at chains i = search rules in
+    let here : Some (g.P.Gen.PtrGenCore.number c.in-Some.generation, c.in-Some.link.now)
+    ≡ entry_at chains i = search rules in
     let shown = ap (option_map (entry_ends number)) (sym here) in
     let next : option_map number c.turned-start.result.1 ≡ Some i = search rules in
-    let given = link_given number chains _ (option_map number c.turned-start.result.0) (option_map number c.turned-start.result.1)
-    (option_map number c.onward-start.result.0) (option_map number c.onward-start.result.1) i _ _ c.self.invariant c.turned-start.ensures.same next here
+    let given = link_given number chains _ (option_map number c.turned-start.result.0)
+    (option_map number c.turned-start.result.1)
+    (option_map number c.onward-start.result.0) (option_map number c.onward-start.result.1) i _ _
+    c.self.invariant c.turned-start.ensures.same next here
     (c.onward-start.ensures (ends_in number chains) i (search (shown, rules))) in
     sym c.self.view_is ∙ given.0 ∙ search rules
 

@@ -6,35 +6,49 @@ use Rattle.triple_arena_chain.specs.Chains.{first_or, last_or}
 use Rattle.triple_arena_ord.specs.Compressed.{IsCompressedInOrder}
 use Rattle.triple_arena_ord.specs.Indexed.{indexed}
 use Rattle.triple_arena_ord.specs.Ordered.{Ordered, entry_in, size_in, counter_in, room_in}
-use Rattle.triple_arena_ord.proofs.CompressedLemmas.{Compressed, compressed_by, mapped_by, moved, moved_linear, moved_long, moved_all}
+use Rattle.triple_arena_ord.proofs.CompressedLemmas.{Compressed, compressed_by, mapped_by, moved}
+use Rattle.triple_arena_ord.proofs.CompressedLemmas.{moved_linear, moved_long, moved_all}
 use Rattle.triple_arena_ord.proofs.ord_arena.arena_calls.SimpleOrdArenaArenaTrait.compress_with.Goals as goal
 
 pub rebuild-self-inside-requires : goal.rebuild-self-inside-requires
 rebuild-self-inside-requires g c =
     let number = g.P.Inx.PtrInxCore.number in
     let last = g.P.Gen.PtrGenCore.last in
-    let o : Ordered g.row.P-Inx.Denot g.row.T.Denot = record { chains = c.self.inside.chains; root = option_map number c.self.inside.root } in
+    let o : Ordered g.row.P-Inx.Denot g.row.T.Denot =
+    record { chains = c.self.inside.chains; root = option_map number c.self.inside.root } in
     let mid = c.compact_nodes-answer.new.arena in
     let made = c.compact_nodes-answer.ensures in
     let w = moved number last c.args.reset o mid c.self.invariant.0 made.compressed made.exact in
-    let linear = moved_linear number last c.args.reset o mid c.self.invariant.0 made.compressed made.exact in (
+    let linear = moved_linear number last c.args.reset o mid c.self.invariant.0 made.compressed
+    made.exact in (
       w,
       linear,
       moved_long number last c.args.reset o mid c.self.invariant.0 made.compressed made.exact,
-      c.ends_of_list-ends.ensures.first w linear (moved_all number last c.args.reset o mid c.self.invariant.0 made.compressed made.exact),
+      c.ends_of_list-ends.ensures.first w linear
+          (moved_all number last c.args.reset o mid c.self.invariant.0 made.compressed made.exact),
     )
 
 done : (g : _) (c : goal.After-len g)
     → Compressed g.P.Inx.PtrInxCore.number g.P.Gen.PtrGenCore.last c.args.reset
-    (record { chains = c.self.inside.chains; root = option_map g.P.Inx.PtrInxCore.number c.self.inside.root }) c.compact_nodes-answer.new.arena c.self.invariant.0
+    (record {
+      chains = c.self.inside.chains;
+      root = option_map g.P.Inx.PtrInxCore.number c.self.inside.root;
+    }) c.compact_nodes-answer.new.arena
+    c.self.invariant.0
     c.compact_nodes-answer.ensures.compressed c.compact_nodes-answer.ensures.exact
-    (record { chains = c.rebuild-self-inside.new.chains; root = option_map g.P.Inx.PtrInxCore.number c.rebuild-self-inside.result })
+    (record {
+      chains = c.rebuild-self-inside.new.chains;
+      root = option_map g.P.Inx.PtrInxCore.number c.rebuild-self-inside.result;
+    })
 done g c =
     let made = c.compact_nodes-answer.ensures in
     let linear = moved_linear _ _ _ _ _ c.self.invariant.0 made.compressed made.exact in
-    compressed_by _ _ _ _ _ c.self.invariant.0 made.compressed made.exact _ c.rebuild-self-inside.ensures.keeps
-    (c.rebuild-self-inside.ensures.rebuilt _ linear (moved_long _ _ _ _ _ c.self.invariant.0 made.compressed made.exact)
-    (c.ends_of_list-ends.ensures.first _ linear (moved_all _ _ _ _ _ c.self.invariant.0 made.compressed made.exact)))
+    compressed_by _ _ _ _ _ c.self.invariant.0 made.compressed made.exact _
+    c.rebuild-self-inside.ensures.keeps
+    (c.rebuild-self-inside.ensures.rebuilt _ linear
+    (moved_long _ _ _ _ _ c.self.invariant.0 made.compressed made.exact)
+    (c.ends_of_list-ends.ensures.first _ linear
+    (moved_all _ _ _ _ _ c.self.invariant.0 made.compressed made.exact)))
 
 pub invariant_of-self : goal.invariant_of-self
 invariant_of-self g c =
@@ -48,19 +62,29 @@ invariant_of-self g c =
     )
 
 pub returns-clause-mapped : goal.returns-clause-mapped
-returns-clause-mapped g c = mapped_by (ap indexed c.self.view_is) (done g c).listed c.compact_nodes-answer.ensures.mapped
+returns-clause-mapped g c =
+    mapped_by (ap indexed c.self.view_is) (done g c).listed c.compact_nodes-answer.ensures.mapped
 
 pub returns-clause-compressed : goal.returns-clause-compressed
 returns-clause-compressed g c =
     let p : Ordered g.row.P-Inx.Denot g.row.T.Denot =
-    record { chains = c.rebuild-self-inside.new.chains; root = option_map g.P.Inx.PtrInxCore.number c.rebuild-self-inside.result } in
-    subst (λ z. IsCompressed entry_in size_in counter_in room_in g.P.Gen.PtrGenCore.last indexed c.args.reset z p) c.self.view_is (done g c).compressed
+    record {
+      chains = c.rebuild-self-inside.new.chains;
+      root = option_map g.P.Inx.PtrInxCore.number c.rebuild-self-inside.result;
+    } in
+    subst (λ z. IsCompressed entry_in size_in counter_in room_in g.P.Gen.PtrGenCore.last indexed
+    c.args.reset z p) c.self.view_is (done g c).compressed
 
 pub returns-clause-exact : goal.returns-clause-exact
 returns-clause-exact g c =
     let number = g.P.Inx.PtrInxCore.number in
-    let p : Ordered g.row.P-Inx.Denot g.row.T.Denot = record { chains = c.rebuild-self-inside.new.chains; root = option_map number c.rebuild-self-inside.result } in
-    subst (λ z. IsCompressedInOrder number g.P.Gen.PtrGenCore.last c.args.reset (map value_of (indexed p)) z p) c.self.view_is (done g c).exact
+    let p : Ordered g.row.P-Inx.Denot g.row.T.Denot =
+    record {
+      chains = c.rebuild-self-inside.new.chains;
+      root = option_map number c.rebuild-self-inside.result;
+    } in
+    subst (λ z. IsCompressedInOrder number g.P.Gen.PtrGenCore.last c.args.reset
+    (map value_of (indexed p)) z p) c.self.view_is (done g c).exact
 
 pub returns-clause-formed : goal.returns-clause-formed
 returns-clause-formed g c =

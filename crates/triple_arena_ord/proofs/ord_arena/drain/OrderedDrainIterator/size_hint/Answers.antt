@@ -5,10 +5,20 @@ use Rattle.triple_arena_ord.proofs.ord_arena.drain.OrderedDrainIterator.size_hin
 
 pub returns-clause-lower : goal.returns-clause-lower
 returns-clause-lower g c = λ _.
-    omega (arith, c.len-len.ensures.value, removals_left g.P.Inx.PtrInxCore.number (drain_arena c.args.self.now) c.len-len.ensures.formed.ordered g.P.Gen.PtrGenCore.last)
+    omega (
+      arith,
+      c.len-len.ensures.value,
+      removals_left g.P.Inx.PtrInxCore.number
+          (drain_arena c.args.self.now) c.len-len.ensures.formed.ordered g.P.Gen.PtrGenCore.last,
+    )
 
 pub returns-clause-upper : goal.returns-clause-upper
 returns-clause-upper g c = (
   tt,
-  omega (arith, c.len-len.ensures.value, removals_left g.P.Inx.PtrInxCore.number (drain_arena c.args.self.now) c.len-len.ensures.formed.ordered g.P.Gen.PtrGenCore.last),
+  omega (
+    arith,
+    c.len-len.ensures.value,
+    removals_left g.P.Inx.PtrInxCore.number
+        (drain_arena c.args.self.now) c.len-len.ensures.formed.ordered g.P.Gen.PtrGenCore.last,
+  ),
 )

@@ -4,15 +4,28 @@ use Rattle.triple_arena_ord.proofs.ord_arena.into_iter.CapacityDrainIterator.siz
 
 pub returns-clause-lower : goal.returns-clause-lower
 returns-clause-lower g c =
-    rw (← c.self.view_is) (λ _. omega (arith, c.len-len.ensures.value, all_listed g.P.Inx.PtrInxCore.number c.self.inside.arena c.len-len.ensures.formed.ordered))
+    rw (← c.self.view_is)
+    (λ _. omega (
+      arith,
+      c.len-len.ensures.value,
+      all_listed g.P.Inx.PtrInxCore.number c.self.inside.arena c.len-len.ensures.formed.ordered,
+    ))
 
 pub returns-clause-upper : goal.returns-clause-upper
-returns-clause-upper g c =
-    (tt, rw (← c.self.view_is) (omega (arith, c.len-len.ensures.value, all_listed g.P.Inx.PtrInxCore.number c.self.inside.arena c.len-len.ensures.formed.ordered)))
+returns-clause-upper g c = (
+  tt,
+  rw (← c.self.view_is)
+      (omega (
+        arith,
+        c.len-len.ensures.value,
+        all_listed g.P.Inx.PtrInxCore.number c.self.inside.arena c.len-len.ensures.formed.ordered,
+      )),
+)
 
 pub returns-clause-exact : goal.returns-clause-exact
 returns-clause-exact g c =
     let left : c.len-len.result ≡ length c.args.self.now = c.len-len.ensures.value
-    ∙ sym (all_listed g.P.Inx.PtrInxCore.number c.self.inside.arena c.len-len.ensures.formed.ordered)
+    ∙ sym (all_listed g.P.Inx.PtrInxCore.number c.self.inside.arena
+    c.len-len.ensures.formed.ordered)
     ∙ ap length c.self.view_is in
     ap (λ n. (let hint : ℕ × Option ℕ = (n, Some n) in hint)) left

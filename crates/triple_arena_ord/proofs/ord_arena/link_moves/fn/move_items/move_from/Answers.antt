@@ -3,6 +3,12 @@ use Rattle.triple_arena_ord.proofs.ord_arena.link_moves.fn.move_items.move_from.
 
 pub returns : goal.returns
 returns g c = record {
-  step = (c.item_of.result, (c.item_of.ensures.value, (c.item_of.ensures.wraps, (c.map.result, (c.leaf.ensures, c.map.ensures)))));
+  step = (
+    c.item_of.result,
+    (
+      c.item_of.ensures.value,
+      (c.item_of.ensures.wraps, (c.map.result, (c.leaf.ensures, c.map.ensures))),
+    ),
+  );
   again = search (rules, of_calls);
 }

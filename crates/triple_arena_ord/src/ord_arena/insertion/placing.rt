@@ -1,0 +1,104 @@
+//! Where a kind of insertion puts its item.
+ghost use Rattle.std.specs.Prelude.{◌≡◌, ◌↔◌, None, IsSome, IfSome};
+ghost use Rattle.std.specs.Option.{option_map};
+ghost use Rattle.triple_arena_ord.specs.Placing.{Meets, IsPlaceByKey, IsPlaceBeforeEqual};
+ghost use Rattle.triple_arena_ord.specs.Placing.{IsPlaceFor, before_equal};
+ghost use Rattle.triple_arena_ord.specs.Ordered.{IsOrdered, entry_in, size_in};
+
+use crate::kind::InsertKind;
+use crate::{OrdInsertKind, OrdSlots, SimpleOrdArena, SimpleOrdItem};
+use std::cmp::Ordering;
+use triple_arena::{ArenaTrait, PtrCore, PtrInxCore};
+use triple_arena_ptr::Probes;
+
+// Directly before an entry in place of in it.
+fn before_equal<I: PtrInxCore>(place: Option<(I, Ordering)>) -> Option<(I, Ordering)>
+    ensures { option_map (λ a. (I.number a.0, a.1)) result
+        ≡ before_equal (option_map (λ a. (I.number a.0, a.1)) place) }
+{
+    match place {
+        Some((i, direction)) => match direction {
+            Ordering::Less => Some((i, Ordering::Less)),
+            Ordering::Equal => Some((i, Ordering::Less)),
+            Ordering::Greater => Some((i, Ordering::Greater)),
+        },
+        None => None,
+    }
+}
+
+impl<P: PtrCore, T: SimpleOrdItem + Drop, S: OrdSlots<P, T>> SimpleOrdArena<P, T, S> {
+    // The place for a key.
+    fn place_by_key(&self, k: &T::Key) -> Option<(P::Inx, Ordering)>
+        ensures by_key { IsPlaceByKey P.Inx.number T.Key.cmp T.key_of k.now self.now
+            (option_map (λ a. (P.Inx.number a.0, a.1)) result) }
+        ensures live { IfSome result (λ a. IsSome (entry_in self.now (P.Inx.number a.0))) }
+        ensures empty { result ≡ None → size_in self.now ≡ 0 }
+    {
+        self.seek(k, &mut Probes::new())
+    }
+
+    // The same, after a search along the list.
+    fn place_near(&self, p_init: P::Inx, num: usize, k: &T::Key) -> Option<(P::Inx, Ordering)>
+        ensures by_key { IsPlaceByKey P.Inx.number T.Key.cmp T.key_of k.now self.now
+            (option_map (λ a. (P.Inx.number a.0, a.1)) result) }
+        ensures live { IfSome result (λ a. IsSome (entry_in self.now (P.Inx.number a.0))) }
+        ensures empty { result ≡ None → size_in self.now ≡ 0 }
+    {
+        self.seek_linear(p_init, num, k, &mut Probes::new())
+    }
+
+    // The same as either, but directly before an entry with an equal key.
+    fn place_before_equal(
+        &self,
+        k: &T::Key,
+        near: Option<(P::Inx, usize)>,
+    ) -> Option<(P::Inx, Ordering)>
+        ensures before { IsPlaceBeforeEqual P.Inx.number T.Key.cmp T.key_of k.now self.now
+            (option_map (λ a. (P.Inx.number a.0, a.1)) result) }
+        ensures live { IfSome result (λ a. IsSome (entry_in self.now (P.Inx.number a.0))) }
+        ensures empty { result ≡ None → size_in self.now ≡ 0 }
+    {
+        let found = match near {
+            Some((p_init, num)) => self.place_near(p_init, num, k),
+            None => self.place_by_key(k),
+        };
+        before_equal(found)
+    }
+
+    // The place that a kind asks for, if the entries are as it requires.
+    pub(crate) fn place_for(
+        &self,
+        kind: OrdInsertKind<P, &T::Key>,
+    ) -> Option<Option<(P::Inx, Ordering)>>
+        ensures meets { IsSome result ↔ Meets P.Inx.number kind.entry self.now }
+        ensures place { IfSome result
+            (λ place. IsPlaceFor P.Inx.number T.Key.cmp T.key_of kind.entry self.now
+            (option_map (λ a. (P.Inx.number a.0, a.1)) place)) }
+        ensures live { IfSome result
+            (λ place. IfSome place (λ a. IsSome (entry_in self.now (P.Inx.number a.0)))) }
+        ensures empty { IfSome result (λ place. place ≡ None → size_in self.now ≡ 0) }
+        ensures ordered { IsOrdered P.Inx.number self.now }
+    {
+        // The list is as it must be.
+        let len = self.len();
+        match kind {
+            InsertKind::Empty => if len == 0 { Some(None) } else { None },
+            InsertKind::Normal(k) => Some(self.place_by_key(k)),
+            InsertKind::Nonhereditary(k) => Some(self.place_before_equal(k, None)),
+            InsertKind::Linear { p_init, num, k } => Some(self.place_near(p_init, num, k)),
+            InsertKind::NonhereditaryLinear { p_init, num, k } => {
+                Some(self.place_before_equal(k, Some((p_init, num))))
+            }
+            InsertKind::Manual {
+                p_target,
+                direction,
+            } => {
+                if self.chains.get_inx(p_target).is_some() {
+                    Some(Some((p_target, direction)))
+                } else {
+                    None
+                }
+            }
+        }
+    }
+}

@@ -1,0 +1,173 @@
+//! Searches by key that go along the list first.
+ghost use Rattle.std.specs.Prelude.{◌≡◌, ◌+◌, ◌≤◌, None, IsSome};
+ghost use Rattle.std.specs.Option.{option_map};
+ghost use Rattle.rank_tree.specs.Comparisons.{most_comparisons};
+ghost use Rattle.triple_arena.specs.Entries.{value_if};
+ghost use Rattle.rank_tree.specs.Tree.{rank_of};
+ghost use Rattle.rank_tree.specs.Search.{IsParted, IsAnswer, asked_down};
+ghost use Rattle.triple_arena_chain.specs.Chains.{On};
+ghost use Rattle.triple_arena_ord.specs.Near.{IsEndNear, IsAtHand, IsPlaceCounted, IsKeyCounted};
+ghost use Rattle.triple_arena_ord.specs.Near.{path_from};
+ghost use Rattle.triple_arena_ord.specs.Found.{IsFound, IsSimilar};
+ghost use Rattle.triple_arena_ord.specs.Ordered.{IsOrdered, IsAscending, tree_in, order_in};
+ghost use Rattle.triple_arena_ord.specs.Ordered.{entry_in, size_in, asked_at};
+
+use crate::list_searches::walk_from;
+use crate::ord_arena::search::found::{found_at, similar_at};
+use crate::{OrdSlots, SimpleOrdArena, SimpleOrdArenaNode, SimpleOrdItem};
+use std::cmp::Ordering;
+use triple_arena::{ArenaTrait, PtrCore};
+use triple_arena_chain::ChainArena;
+use triple_arena_ptr::Probes;
+
+impl<P: PtrCore, T: SimpleOrdItem + Drop, S: OrdSlots<P, T>> SimpleOrdArena<P, T, S> {
+    // Where a search by key ends that goes along the list first, from an index, for at most `num`
+    // comparisons. The entry there may have a child on the side of the gap.
+    pub(crate) fn seek_linear(
+        &self,
+        p_init: P::Inx,
+        num: usize,
+        k: &T::Key,
+        probes: &mut Probes,
+    ) -> Option<(P::Inx, Ordering)>
+        ensures answer { IsAnswer (asked_at T.Key.cmp T.key_of k.now self.now)
+            (tree_in P.Inx.number self.now) (option_map (λ a. (P.Inx.number a.0, a.1)) result) }
+        ensures rises { probes.old ≤ probes.new }
+        ensures ticks { probes.new ≤ probes.old + (num + rank_of (tree_in P.Inx.number self.now)) }
+        ensures gone { entry_in self.now (P.Inx.number p_init) ≡ None
+            → probes.new ≡ probes.old + asked_down (asked_at T.Key.cmp T.key_of k.now self.now)
+            (tree_in P.Inx.number self.now) }
+        ensures counted { IsSome (entry_in self.now (P.Inx.number p_init))
+            → (on : On (order_in P.Inx.number self.now) (P.Inx.number p_init))
+            → IsPlaceCounted num (asked_down (asked_at T.Key.cmp T.key_of k.now self.now)
+            (tree_in P.Inx.number self.now))
+            (path_from (asked_at T.Key.cmp T.key_of k.now self.now) on) probes.old probes.new }
+        ensures near { IsParted (asked_at T.Key.cmp T.key_of k.now self.now)
+            (order_in P.Inx.number self.now)
+            → IsSome (entry_in self.now (P.Inx.number p_init))
+            → IsAtHand num (asked_at T.Key.cmp T.key_of k.now self.now)
+            (order_in P.Inx.number self.now) (P.Inx.number p_init)
+            → probes.new ≤ probes.old + num }
+        ensures ordered { IsOrdered P.Inx.number self.now }
+    {
+        if self.chains.get_inx(p_init).is_none() {
+            return self.seek(k, probes);
+        }
+        match walk_from::<P, T, ChainArena<P, SimpleOrdArenaNode<P, T>, S>>(
+            &self.chains,
+            p_init,
+            num,
+            k,
+            probes,
+        ) {
+            Some(place) => Some(place),
+            None => self.seek(k, probes),
+        }
+    }
+
+    /// As `find_key_counted`, but first it compares with the entry of `p_init` and goes on from
+    /// there along the list, in one direction, for at most `num` comparisons, one at each entry,
+    /// and a tick each. If these find no equal key, or `p_init` points to no entry, it searches
+    /// from the root. In a list whose keys ascend `num` comparisons are enough if an entry with an
+    /// equal key stands less than `num` steps from that of `p_init`.
+    pub fn find_key_linear_counted(
+        &self,
+        p_init: P,
+        num: usize,
+        k: &T::Key,
+        probes: &mut Probes,
+    ) -> Option<P>
+        ensures found { IsFound P.index P.generation (asked_at T.Key.cmp T.key_of k.now self.now)
+            (IsAscending P.Inx.number T.Key.cmp T.key_of self.now) result self.now }
+        ensures rises { probes.old ≤ probes.new }
+        ensures bound { probes.new ≤ probes.old + (num + most_comparisons (size_in self.now)) }
+        ensures gone { value_if (P.generation p_init) (entry_in self.now (P.index p_init)) ≡ None
+            → probes.new ≡ probes.old + asked_down (asked_at T.Key.cmp T.key_of k.now self.now)
+            (tree_in P.Inx.number self.now) }
+        ensures counted { IsSome
+            (value_if (P.generation p_init) (entry_in self.now (P.index p_init)))
+            → (on : On (order_in P.Inx.number self.now) (P.index p_init))
+            → IsKeyCounted num (asked_down (asked_at T.Key.cmp T.key_of k.now self.now)
+            (tree_in P.Inx.number self.now)) (asked_at T.Key.cmp T.key_of k.now self.now)
+            (path_from (asked_at T.Key.cmp T.key_of k.now self.now) on) probes.old probes.new }
+        ensures near { IsAscending P.Inx.number T.Key.cmp T.key_of self.now
+            → IsSome (value_if (P.generation p_init) (entry_in self.now (P.index p_init)))
+            → IsEndNear num (asked_at T.Key.cmp T.key_of k.now self.now)
+            (order_in P.Inx.number self.now) (P.index p_init)
+            → probes.new ≤ probes.old + num }
+    {
+        if !self.chains.contains(p_init) {
+            return self.find_key_counted(k, probes);
+        }
+        let place = walk_from::<P, T, ChainArena<P, SimpleOrdArenaNode<P, T>, S>>(
+            &self.chains,
+            p_init.inx(),
+            num,
+            k,
+            probes,
+        );
+        match found_at(&self.chains, place) {
+            Some(p) => Some(p),
+            None => self.find_key_counted(k, probes),
+        }
+    }
+
+    /// The same, with no count.
+    pub fn find_key_linear(&self, p_init: P, num: usize, k: &T::Key) -> Option<P>
+        ensures { IsFound P.index P.generation (asked_at T.Key.cmp T.key_of k.now self.now)
+            (IsAscending P.Inx.number T.Key.cmp T.key_of self.now) result self.now }
+    {
+        self.find_key_linear_counted(p_init, num, k, &mut Probes::new())
+    }
+
+    /// As `find_similar_key_counted`, but first it compares with the entry at `p_init`, whatever
+    /// its generation, and goes on from there along the list, in one direction, for at most `num`
+    /// comparisons, one at each entry, and a tick each. It ends at an equal key, at an end of the
+    /// list, and where it comes over the place of the key; else, and if `p_init` is not live, it
+    /// searches from the root. In a list whose keys ascend `num` comparisons are enough if an entry
+    /// with an equal key, or each entry beside the place of the key, stands less than `num` steps
+    /// from that at `p_init`.
+    pub fn find_similar_key_linear_counted(
+        &self,
+        p_init: P::Inx,
+        num: usize,
+        k: &T::Key,
+        probes: &mut Probes,
+    ) -> Option<(P, Ordering)>
+        ensures similar { IsSimilar P.index P.generation P.Inx.number
+            (asked_at T.Key.cmp T.key_of k.now self.now)
+            (IsAscending P.Inx.number T.Key.cmp T.key_of self.now) result self.now }
+        ensures rises { probes.old ≤ probes.new }
+        ensures bound { probes.new ≤ probes.old + (num + most_comparisons (size_in self.now)) }
+        ensures gone { entry_in self.now (P.Inx.number p_init) ≡ None
+            → probes.new ≡ probes.old + asked_down (asked_at T.Key.cmp T.key_of k.now self.now)
+            (tree_in P.Inx.number self.now) }
+        ensures counted { IsSome (entry_in self.now (P.Inx.number p_init))
+            → (on : On (order_in P.Inx.number self.now) (P.Inx.number p_init))
+            → IsPlaceCounted num (asked_down (asked_at T.Key.cmp T.key_of k.now self.now)
+            (tree_in P.Inx.number self.now))
+            (path_from (asked_at T.Key.cmp T.key_of k.now self.now) on) probes.old probes.new }
+        ensures near { IsAscending P.Inx.number T.Key.cmp T.key_of self.now
+            → IsSome (entry_in self.now (P.Inx.number p_init))
+            → IsAtHand num (asked_at T.Key.cmp T.key_of k.now self.now)
+            (order_in P.Inx.number self.now) (P.Inx.number p_init)
+            → probes.new ≤ probes.old + num }
+    {
+        let place = self.seek_linear(p_init, num, k, probes);
+        similar_at(&self.chains, place)
+    }
+
+    /// The same, with no count.
+    pub fn find_similar_key_linear(
+        &self,
+        p_init: P::Inx,
+        num: usize,
+        k: &T::Key,
+    ) -> Option<(P, Ordering)>
+        ensures { IsSimilar P.index P.generation P.Inx.number
+            (asked_at T.Key.cmp T.key_of k.now self.now)
+            (IsAscending P.Inx.number T.Key.cmp T.key_of self.now) result self.now }
+    {
+        self.find_similar_key_linear_counted(p_init, num, k, &mut Probes::new())
+    }
+}
