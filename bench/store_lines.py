@@ -1,9 +1,10 @@
 """store_lines.py places|all|churn|pack|refused LINES: lines for the store, the same each time.
 
-`places` has the lines on places alone: a new place, at a key that is there another word or one more place, look-ups, and
-`all` once, at the end. `all` has routes, marks and removals too: routes are short, so that walks cost as much at each size. `churn` puts
-in places, stops and marks, and once as many live as a quarter of the lines, a removal follows each. `pack` is `churn` with
-that line behind it. `refused` has lines that spell no command: they are read and answered, and nothing is done.
+`places` has the lines on places alone: a new place, at a key that is there another word or one more
+place, look-ups, and `all` once, at the end. `all` has routes, marks and removals too: routes are
+short, so that walks cost as much at each size. `churn` puts in places, stops and marks, and once as
+many live as a quarter of the lines, a removal follows each. `pack` is `churn` with that line behind
+it. `refused` has lines that spell no command: they are read and answered, and nothing is done.
 """
 import random
 import sys
@@ -149,6 +150,12 @@ def refused(pick, lines):
 
 if __name__ == '__main__':
     kind, count = sys.argv[1], int(sys.argv[2])
-    kinds = {'places': places, 'all': everything, 'churn': churn, 'pack': packed, 'refused': refused}
+    kinds = {
+        'places': places,
+        'all': everything,
+        'churn': churn,
+        'pack': packed,
+        'refused': refused,
+    }
     made = kinds[kind](random.Random(count), count)
     sys.stdout.write(''.join(line + '\n' for line in made))

@@ -19,11 +19,18 @@ TRACED = 50_000
 # By layer: the title, the program, its first words, and how many bytes an entry has in the table of
 # what finds it. Ratios are of the first program to each other. One that is not built is left out.
 PROGRAMS = {
-    'arena': [('Arena', 'own', ['timed-arena'], 16), ('SlotMap', 'slotmap', ['timed'], 8),
-              ('by hand', 'plain', ['timed'], 16)],
+    'arena': [
+        ('Arena', 'own', ['timed-arena'], 16),
+        ('SlotMap', 'slotmap', ['timed'], 8),
+        ('by hand', 'plain', ['timed'], 16),
+    ],
     'chains': [('ChainArena', 'own', ['timed-chains'], 16), ('slab', 'plain', ['timed'], 8)],
-    'ord': [('OrdArena', 'own', ['timed-ord'], 16), ('BTreeMap', 'plain', ['timed', 'map'], 0),
-            ('with slab', 'plain', ['timed', 'slab'], 8), ('std::map', 'std_map', [], 8)],
+    'ord': [
+        ('OrdArena', 'own', ['timed-ord'], 16),
+        ('BTreeMap', 'plain', ['timed', 'map'], 0),
+        ('with slab', 'plain', ['timed', 'slab'], 8),
+        ('std::map', 'std_map', [], 8),
+    ],
     'store': [('RouteBook', 'own', [], 0), ('plain', 'plain', [], 0)],
 }
 OPERATIONS = {
@@ -39,8 +46,8 @@ TRACES = {
     'ord': ['insert', 'find', 'walk', 'canonical_walk'],
     'store': ['places', 'all'],
 }
-# The nodes of a `std::map` stay where they are. A `BTreeMap` has no other reference to an entry than
-# its key, and so `cancel` has a slab beside it, which is there for that alone.
+# The nodes of a `std::map` stay where they are. A `BTreeMap` has no other reference to an entry
+# than its key, and so `cancel` has a slab beside it, which is there for that alone.
 NEVER = {('BTreeMap', 'cancel')}
 NEVER |= {('with slab', it) for it in OPERATIONS['ord'] if it != 'cancel'}
 NEVER |= {('std::map', it) for it in ('canonical_find', 'canonical_walk')}
@@ -103,7 +110,8 @@ class Layer:
         print(f'{operation:<16}{entries:>9,}', *cells, sep='', flush=True)
 
     def head(self, words):
-        cells = [f'{it:>11}' for it in self.titles] + [f'{"to " + it:>13}' for it in self.titles[1:]]
+        cells = [f'{it:>11}' for it in self.titles]
+        cells += [f'{"to " + it:>13}' for it in self.titles[1:]]
         print(f'{words:<25}', *cells, sep='', flush=True)
 
     def time(self):
@@ -180,10 +188,12 @@ class Traces:
         if key not in self.known:
             words = ['valgrind', '--tool=lackey', '--trace-mem=yes', '--log-fd=2', *command]
             with open(path) as lines:
-                traced = subprocess.Popen(words, stdin=lines, stdout=subprocess.DEVNULL,
-                                          stderr=subprocess.PIPE)
-            counted = subprocess.run([self.layer.build / 'leaps'], stdin=traced.stderr,
-                                     capture_output=True, check=True)
+                traced = subprocess.Popen(
+                    words, stdin=lines, stdout=subprocess.DEVNULL, stderr=subprocess.PIPE
+                )
+            counted = subprocess.run(
+                [self.layer.build / 'leaps'], stdin=traced.stderr, capture_output=True, check=True
+            )
             traced.stderr.close()
             if traced.wait():
                 sys.exit(f'bench/run: no trace of {command}')
@@ -207,7 +217,8 @@ class Traces:
         return row
 
     def show(self):
-        print(f'{f"a step, of {TRACED:,}":<25}{"instructions":>24}{"ratio":>8}{"leaps":>16}{"ratio":>8}')
+        words = f'a step, of {TRACED:,}'
+        print(f'{words:<25}{"instructions":>24}{"ratio":>8}{"leaps":>16}{"ratio":>8}')
         for operation in TRACES[self.layer.name]:
             (own, own_leaps), (peer, peer_leaps) = self.row(operation)
             leaps = f'{own_leaps:>8.2f}{peer_leaps:>8.2f}'

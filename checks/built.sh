@@ -1,4 +1,5 @@
-# Builds the program route_book if it is not built yet, and sets `program`. What its status is, the caller looks at.
+# Builds the program route_book if it is not built yet, and sets `program`. What its status is, the
+# caller looks at.
 crate=$top/crates/route_book_program
 
 (cd -- "$crate" && rt run -- 0 0 0 </dev/null) >"$work/log" 2>&1 || true

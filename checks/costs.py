@@ -1,8 +1,10 @@
 #!/usr/bin/env python3
 """costs.py FOLDER COUNT: what the functions of a crate cost to prove, the dearest first.
 
-A check with kept work writes a file for each module of a function as it ends, so at one job the time between two files is
-what a module cost. FOLDER is that of the kept work, written by one check from nothing."""
+A check with kept work writes a file for each module of a function as it ends, so at one job the
+time between two files is what a module cost. FOLDER is that of the kept work, written by one check
+from nothing.
+"""
 import collections
 import pathlib
 import sys
@@ -16,8 +18,13 @@ PARTS = {
     "Reads": "the same, as a proof reads them",
     "contract": "its own clauses",
 }
-# The last words of a module's name that are parts of a function; the others count to the whole alone.
-INNER = {*PARTS, *"Mir Key TheLink Code Symbol Statement Kinds Met Layout Named TheImpl Given TheInside TheBound Invariants View".split()}
+# The last words of a module's name that are parts of a function; the others count to the whole
+# alone.
+OTHERS = """
+    Mir Key TheLink Code Symbol Statement Kinds Met Layout Named TheImpl Given TheInside TheBound
+    Invariants View
+""".split()
+INNER = {*PARTS, *OTHERS}
 
 
 def function_and_part(module):
@@ -38,8 +45,12 @@ def main(folder, count):
         function, part = function_and_part(module)
         costs[function][part] += (after - before) / 1e9
     for function, parts in sorted(costs.items(), key=lambda it: -it[1].total())[:count]:
-        dear = ", ".join(f"{part} {cost:.1f}" for part, cost in parts.most_common(4) if part in PARTS and cost >= 0.3)
-        print(f"{parts.total():7.1f}  {function}  ({dear})" if dear else f"{parts.total():7.1f}  {function}")
+        dear = [
+            f"{part} {cost:.1f}"
+            for part, cost in parts.most_common(4)
+            if part in PARTS and cost >= 0.3
+        ]
+        print(f"{parts.total():7.1f}  {function}" + (f"  ({', '.join(dear)})" if dear else ""))
     print(f"{sum(it.total() for it in costs.values()):7.1f}  in all")
     for part, meaning in PARTS.items():
         print(f"{sum(it[part] for it in costs.values()):7.1f}  {part}: {meaning}")

@@ -1,6 +1,7 @@
-"""fuzz.py MODELS PROGRAM SEEDS LINES: plays lines, broken lines and random bytes, cut at random, and compares the replies.
+"""fuzz.py MODELS PROGRAM SEEDS LINES: plays lines, broken ones and random bytes, cut at random.
 
-The first difference ends it, with the seed and the two texts up to it.
+It compares the replies with those of the model. The first difference ends it, with the seed and the
+two texts up to it.
 """
 import random
 import subprocess
@@ -15,12 +16,18 @@ from store_rules import Store
 
 
 def broken(pick, line, other):
-    """A line that was cut, joined, repeated or written over at one place, and may be a command still."""
+    """A line that was cut, joined, repeated or written over at one place.
+
+    It may be a command still.
+    """
     at, to = sorted(pick.randrange(len(line) + 1) for _ in range(2))
-    return pick.choice([
-        line[:at], line[at:], line[:at] + line[to:], line + other, line[:at] + other[at:], line[:to] + line[at:],
-        line[:at] + bytes([pick.randrange(256)]) + line[at:], line[:at] + bytes([pick.randrange(256)]) + line[at + 1:],
-        line[:at] + pick.choice([b' ', b'0', b'\n', b'\r', b'\0', b'\t', b'9' * 20]) + line[at:]])
+    ways = [line[:at], line[at:], line[:at] + line[to:]]
+    ways += [line + other, line[:at] + other[at:], line[:to] + line[at:]]
+    ways.append(line[:at] + bytes([pick.randrange(256)]) + line[at:])
+    ways.append(line[:at] + bytes([pick.randrange(256)]) + line[at + 1 :])
+    word = pick.choice([b' ', b'0', b'\n', b'\r', b'\0', b'\t', b'9' * 20])
+    ways.append(line[:at] + word + line[at:])
+    return pick.choice(ways)
 
 
 def noise(pick):
@@ -51,19 +58,32 @@ def lines_of(seed, count):
 def replies(seed, program, rooms, data):
     """What the program writes, if it is given its input in pieces."""
     pick = random.Random(seed)
-    child = subprocess.Popen([program, *map(str, rooms)], stdin=subprocess.PIPE, stdout=subprocess.PIPE)
+    words = [program, *map(str, rooms)]
+    child = subprocess.Popen(words, stdin=subprocess.PIPE, stdout=subprocess.PIPE)
     text = []
     reader = threading.Thread(target=lambda: text.append(child.stdout.read()))
     reader.start()
     at = 0
     while at < len(data):
-        piece = data[at:at + pick.choice([1, 2, 7, 69, 70, 500, 4096, 9000])]
+        piece = data[at : at + pick.choice([1, 2, 7, 69, 70, 500, 4096, 9000])]
         child.stdin.write(piece)
         child.stdin.flush()
         at += len(piece)
     child.stdin.close()
     reader.join()
     return text[0] + f'the status is {child.wait()}\n'.encode()
+
+
+def difference(seed, got, wanted):
+    """The first difference between two texts, with what stands around it."""
+    same = min(len(got), len(wanted))
+    same = next((i for i in range(same) if got[i] != wanted[i]), same)
+    got, wanted = (text[max(same - 60, 0) : same + 60] for text in (got, wanted))
+    return (
+        f'the first difference, by seed {seed}, behind {same} bytes:\n'
+        f'the program {got!r}\n'
+        f'the model   {wanted!r}'
+    )
 
 
 def main(program, seeds, count):
@@ -73,9 +93,7 @@ def main(program, seeds, count):
         wanted = Store(*rooms).text(data).encode() + b'the status is 0\n'
         got = replies(seed, program, rooms, data)
         if got != wanted:
-            same = next((i for i, pair in enumerate(zip(got, wanted)) if pair[0] != pair[1]), min(len(got), len(wanted)))
-            sys.exit(f'the first difference, by seed {seed}, behind {same} bytes:\n'
-                     f'the program {got[max(same - 60, 0):same + 60]!r}\nthe model   {wanted[max(same - 60, 0):same + 60]!r}')
+            sys.exit(difference(seed, got, wanted))
         lines += data.count(b'\n')
     print(f'seeds 1 to {seeds}: the replies to {lines} lines agree')
 

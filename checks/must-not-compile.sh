@@ -1,7 +1,8 @@
-# Shows that the compiler refuses each program of must-not-compile/ with the words of its first line. A wrong body in the
-# gate cannot show that, since those must compile. Each is tried with the pointer of its second line too, and then runs,
-# so that it is refused for nothing else. It takes about two minutes. The programs end in .txt, since the gate lets no
-# .rt file stand outside a crate.
+# Shows that the compiler refuses each program of must-not-compile/ with the words of its first
+# line. A wrong body in the gate cannot show that, since those must compile. Each is tried with the
+# pointer of its second line too, and then runs, so that it is refused for nothing else. It takes
+# about two minutes. The programs end in .txt, since the gate lets no .rt file stand outside a
+# crate.
 libraries=(unreached triple_arena_ptr triple_arena_stack triple_arena)
 for library in "${libraries[@]}"; do
     mkdir -p "$work/crates/$library"

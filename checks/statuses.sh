@@ -1,6 +1,6 @@
-# Runs the built program route_book to each of its exit statuses, and compares the status and what it writes on both of
-# its outputs. No clause can show this, since a contract says nothing of what `main` does with the status that it was
-# handed, nor of a real file.
+# Runs the built program route_book to each of its exit statuses, and compares the status and what
+# it writes on both of its outputs. No clause can show this, since a contract says nothing of what
+# `main` does with the status that it was handed, nor of a real file.
 source "$here/built.sh"
 
 printf 'place 50 oak\nshow 1\n' >"$work/input"
@@ -8,7 +8,8 @@ usage='usage: route_book PLACES STOPS MARKS'
 most=18446744073709551615
 failed=0
 
-# ends STATUS OUTPUT ERRORS INPUT ARGUMENT..: the standard output goes to the file $to where that is set.
+# ends STATUS OUTPUT ERRORS INPUT ARGUMENT..
+# The standard output goes to the file $to where that is set.
 ends() {
     local status=0 want="$1|$2|$3" input=$4
     shift 4
@@ -16,7 +17,8 @@ ends() {
     "$program" "$@" <"$input" >"${to:-$work/output}" 2>"$work/errors" || status=$?
     local got="$status|$(<"$work/output")|$(<"$work/errors")"
     if [[ $got != "$want" ]]; then
-        printf 'with the arguments (%s):\n  %s\nwhere this is wanted:\n  %s\n' "$*" "$got" "$want" >&2
+        printf 'with the arguments (%s):\n  %s\n' "$*" "$got" >&2
+        printf 'where this is wanted:\n  %s\n' "$want" >&2
         failed=1
     fi
 }

@@ -1,6 +1,7 @@
 """streams.py MODELS PROGRAM: plays the program over pipes, and says what was not as it must be.
 
-The status and both outputs are compared, and the greatest resident size of a short input with that of a long one.
+The status and both outputs are compared, and the greatest resident size of a short input with that
+of a long one.
 """
 import os
 import subprocess
@@ -29,18 +30,24 @@ def check(what, holds):
 
 
 def start(rooms, **streams):
-    streams = {'stdin': subprocess.PIPE, 'stdout': subprocess.PIPE, 'stderr': subprocess.PIPE, **streams}
-    return subprocess.Popen([PROGRAM, *map(str, rooms)], **streams)
+    pipes = dict.fromkeys(('stdin', 'stdout', 'stderr'), subprocess.PIPE)
+    return subprocess.Popen([PROGRAM, *map(str, rooms)], **{**pipes, **streams})
 
 
 def greatest_size(child):
-    """The greatest resident size of a child that still runs. What `wait4` tells counts this script's own size too."""
+    """The greatest resident size of a child that still runs.
+
+    What `wait4` tells counts this script's own size too.
+    """
     with open(f'/proc/{child.pid}/status') as status:
         return next(int(line.split()[1]) for line in status if line.startswith('VmHWM'))
 
 
 def answers(what, rooms, data):
-    """Compares an input's replies with the model's, and gives the greatest resident size before the input ends."""
+    """Compares an input's replies with the model's.
+
+    It gives the greatest resident size before the input ends.
+    """
     wanted = Store(*rooms).text(data).encode()
     child = start(rooms)
     text = []
@@ -73,11 +80,13 @@ def pieces():
     child = start((4, 4, 2))
     child.stdin.write(b'place 1 a\nsho')
     child.stdin.flush()
-    check('the reply to the first line, before the second is whole', child.stdout.readline() == b'1\n')
+    reply = child.stdout.readline()
+    check('the reply to the first line, before the second is whole', reply == b'1\n')
     time.sleep(0.3)
     child.stdin.write(b'w 1\n')
     child.stdin.flush()
-    check('the reply to the second line, before the input ends', child.stdout.readline() == b'1 a\n')
+    reply = child.stdout.readline()
+    check('the reply to the second line, before the input ends', reply == b'1 a\n')
     child.stdin.close()
     check('nothing after it', (child.stdout.read(), child.wait()) == (b'', 0))
 
@@ -99,13 +108,17 @@ def slow_reader():
 
 
 def sizes():
-    """A long line, and many of them. The store takes no memory after it is made, so that neither costs any."""
+    """A long line, and many of them.
+
+    The store takes no memory after it is made, so that neither costs any.
+    """
     rooms = (1000, 1000, 1000)
     _, lines = random_lines(1, 1000)
     short = answers('a thousand lines', rooms, lines.encode())
     _, lines = random_lines(2, 1000000)
     long = answers('a million lines', rooms, lines.encode())
-    wide = answers('ten million bytes in a line', rooms, b'place 1 a\n' + b'x' * 10_000_000 + b'\nshow 1\n')
+    data = b'place 1 a\n' + b'x' * 10_000_000 + b'\nshow 1\n'
+    wide = answers('ten million bytes in a line', rooms, data)
     print(f'the greatest resident sizes: {short} KiB, {long} KiB, {wide} KiB')
     for size in (long, wide):
         check('memory after the start', size - short < MOST_GROWTH)

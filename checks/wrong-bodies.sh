@@ -1,14 +1,14 @@
-# Tries the wrong bodies that the gate does not try, those of crates/CRATE/wrong-bodies.txt: all of each crate that is
-# named, or those that are named, or with no name all of them. Each is an edit of a crate that the prover must refuse.
-# It prints a verdict for each, and ends with a count. With --fit it only sees that each text that an edit replaces
-# stands in its file, once.
+# Tries the wrong bodies that the gate does not try, those of crates/CRATE/wrong-bodies.txt: all of
+# each crate that is named, or those that are named, or with no name all of them. Each is an edit of
+# a crate that the prover must refuse. It prints a verdict for each, and ends with a count. With
+# --fit it only sees that each text that an edit replaces stands in its file, once.
 #
-# A paragraph of wrong-bodies.txt is an edit: its name, a line `file: src/x.rt`, and pairs of lines `old: TEXT` and
-# `new: TEXT`, which are made in turn. Other lines are comments.
+# A paragraph of wrong-bodies.txt is an edit: its name, a line `file: src/x.rt`, and pairs of lines
+# `old: TEXT` and `new: TEXT`, which are made in turn. Other lines are comments.
 #
-# The edits are made in a copy, N crates side by side (2 if it is not said), and those of one crate one after another.
-# The first of a crate costs a check of it, and each further one 10 to 60 seconds. Run it for a crate if its contracts
-# change.
+# The edits are made in a copy, N crates side by side (2 if it is not said), and those of one crate
+# one after another. The first of a crate costs a check of it, and each further one 10 to 60
+# seconds. Run it for a crate if its contracts change.
 edits=$here/edits.py
 
 if [[ ${1:-} == --fit ]]; then

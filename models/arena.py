@@ -1,7 +1,8 @@
 #!/usr/bin/env python3
-"""Plays the sections of the program `script_arena` by the rules of `arena_rules.py`, and writes random ones.
+"""Plays the sections of `script_arena` by the rules of `arena_rules.py`, and writes random ones.
 
-usage: arena.py SEED LINES >stdin 2>stdout     random sections with so many calls each, and what must be answered
+usage: arena.py SEED LINES >stdin 2>stdout     random sections with so many calls each,
+                                               and what must be answered
        arena.py answer <stdin >stdout          what must be answered to these sections
 
 `crates/script_arena/src/main.rt` says how a section is written.
@@ -12,7 +13,20 @@ import sys
 sys.dont_write_bytecode = True
 
 from arena_rules import (
-    Arena, Direct, Heap, POINTERS, Refused, Room, SLOTS_OF_AN_ARRAY, done, either, option, result, some, told)
+    Arena,
+    Direct,
+    Heap,
+    POINTERS,
+    Refused,
+    Room,
+    SLOTS_OF_AN_ARRAY,
+    done,
+    either,
+    option,
+    result,
+    some,
+    told,
+)
 
 NAMES_OF_AN_ARRAY = 4
 # The pointer types that the program has arrays for.
@@ -22,29 +36,39 @@ IN_ARRAYS = {'array': ('P0', 'P1', 'P5', 'N3'), 'renaming_array': ('P0',)}
 def reads(arena, verb, x, y):
     """The answers of a call that every arena has and that changes nothing, or None."""
     pointers, i, g = arena.pointers, arena.pointers.index(x), arena.pointers.generation(y)
-    entry = arena.entries.get(i)
-    live = arena.indexes()
+    entry, live = arena.entries.get(i), arena.indexes()
     lists = {
-        'walk': lambda: live, 'walk_nowhere': lambda: [], 'walk_from': lambda: [j for j in live if i <= j],
-        'walk_back_from': lambda: [j for j in reversed(live) if j <= i]}
+        'walk': lambda: live,
+        'walk_nowhere': lambda: [],
+        'walk_from': lambda: [j for j in live if i <= j],
+        'walk_back_from': lambda: [j for j in reversed(live) if j <= i],
+    }
     if verb in lists:
         return [arena.pointer_text(j) for j in lists[verb]()] + ['None']
     texts = {
-        'ptrs': arena.pointer_text, 'vals': lambda j: str(arena.entries[j][1]),
-        'iter': lambda j: f'({arena.pointer_text(j)}, {arena.entries[j][1]})'}
+        'ptrs': arena.pointer_text,
+        'vals': lambda j: str(arena.entries[j][1]),
+        'iter': lambda j: f'({arena.pointer_text(j)}, {arena.entries[j][1]})',
+    }
     if verb in texts:
         return [texts[verb](j) for j in live]
     counter = arena.source_counter()
+    counted = None if counter is None else pointers.generation_text(counter)
     one = {
-        'capacity': lambda: str(arena.room.capacity()), 'max_capacity': lambda: option(arena.room.limit()),
-        'len': lambda: str(len(live)), 'is_empty': lambda: str(not live).lower(), 'slots': lambda: str(arena.slots),
+        'capacity': lambda: str(arena.room.capacity()),
+        'max_capacity': lambda: option(arena.room.limit()),
+        'len': lambda: str(len(live)),
+        'is_empty': lambda: str(not live).lower(),
+        'slots': lambda: str(arena.slots),
         'show': arena.show,
-        'singular_generation': lambda: option(None if counter is None else pointers.generation_text(counter)),
-        'get': lambda: option(arena.value(i, g)), 'contains': lambda: str(arena.is_live(i, g)).lower(),
+        'singular_generation': lambda: option(counted),
+        'get': lambda: option(arena.value(i, g)),
+        'contains': lambda: str(arena.is_live(i, g)).lower(),
         'get_inx': lambda: option(entry and f'({pointers.generation_text(entry[0])}, {entry[1]})'),
         'get_inx_unwrap': lambda: option(entry and entry[1]),
         'find_first_inx_ptr': lambda: option(arena.pointer_text(live[0]) if live else None),
-        'find_last_inx_ptr': lambda: option(arena.pointer_text(live[-1]) if live else None)}
+        'find_last_inx_ptr': lambda: option(arena.pointer_text(live[-1]) if live else None),
+    }
     return [one[verb]()] if verb in one else None
 
 
@@ -71,10 +95,13 @@ def changes(arena, verb, x, y, z, w):
     if verb == 'walk_and_remove':
         return [remove(arena, j) for j in arena.indexes()]
     simple = {
-        'clear': lambda: [arena.clear()], 'compress': lambda: arena.compress(x == 1, False),
-        'compress_with': lambda: arena.compress(x == 1, True), 'drain': lambda: arena.drain(x),
+        'clear': lambda: [arena.clear()],
+        'compress': lambda: arena.compress(x == 1, False),
+        'compress_with': lambda: arena.compress(x == 1, True),
+        'drain': lambda: arena.drain(x),
         'swap': lambda: [arena.swap(i, g, pointers.index(z), pointers.generation(w))],
-        'swap_inx': lambda: [arena.swap_inx(i, pointers.index(y))]}
+        'swap_inx': lambda: [arena.swap_inx(i, pointers.index(y))],
+    }
     return simple[verb]() if verb in simple else None
 
 
@@ -84,7 +111,10 @@ def remove(arena, i):
 
 
 def fill(arena, count):
-    """Stores so many values, 0 and on, up to the first that is refused, and answers how many entries there are."""
+    """Stores so many values, 0 and on, up to the first that is refused.
+
+    It answers how many entries there are.
+    """
     for value in range(count):
         try:
             arena.insert(value)
@@ -94,7 +124,10 @@ def fill(arena, count):
 
 
 def walk_and_insert(arena, value, i):
-    """A walk goes on over an arena that changes after its first step, and gives nothing more once it has ended."""
+    """A walk goes on over an arena that changes after its first step.
+
+    Once it has ended it gives nothing more.
+    """
     live = arena.indexes()
     answers = [option(arena.pointer_text(live[0]) if live else None)]
     last = arena.last_index()
@@ -103,13 +136,15 @@ def walk_and_insert(arena, value, i):
         remove(arena, i)
     if live:
         if last < arena.last_index():
-            raise NotImplementedError('whether a walk comes to an entry behind its end is left open')
+            raise NotImplementedError(
+                'whether a walk comes to an entry behind its end is left open'
+            )
         answers += [arena.pointer_text(j) for j in arena.indexes() if live[0] < j]
     return answers + [result(lambda: arena.insert(value)), 'None']
 
 
 def free_links(arena, i):
-    """The free indexes before and after this one, in the order in which the free indexes are taken."""
+    """The free indexes before and after this one, in the order in which they are taken."""
     if arena.slots < i:
         return '"no such slot"'
     if i in arena.entries:
@@ -160,10 +195,12 @@ class Section:
     """The arenas of a section over a stack for numbers, and the calls at them."""
 
     def __init__(self, pointers, stack, heap, room, more):
-        made = [kind(pointers, Room(pointers, stack, heap, least)) for kind, least in (
-            (Arena, room), (Arena, room + more), (Direct, room), (Direct, room + more))]
         self.pointers, self.stack, self.heap = pointers, stack, heap
-        self.arenas = dict(zip('abde', made))
+        kinds = ('a', Arena, room), ('b', Arena, room + more)
+        kinds += ('d', Direct, room), ('e', Direct, room + more)
+        self.arenas = {
+            whom: kind(pointers, Room(pointers, stack, heap, least)) for whom, kind, least in kinds
+        }
 
     def answers(self, whom, verb, words):
         """The answers to a line, or None where it is written as it is."""
@@ -194,23 +231,34 @@ class Section:
         lines = []
         for whom in 'ad':
             arena = self.arenas[whom]
-            clone = result(lambda: Room(self.pointers, self.stack, self.heap, arena.last_index()) and arena.show())
-            lines.append(f'{whom} clone -> {clone}')
+            lines.append(f'{whom} clone -> {result(lambda: self.clone(arena))}')
         for whom in 'be':
             arena = self.arenas[whom]
-            lines += [f'{whom} into_iter -> ({arena.pointer_text(i)}, {arena.entries[i][1]})' for i in arena.indexes()]
+            for i in arena.indexes():
+                item = f'({arena.pointer_text(i)}, {arena.entries[i][1]})'
+                lines.append(f'{whom} into_iter -> {item}')
         return lines
+
+    def clone(self, arena):
+        """What a clone holds, for which there must be room."""
+        Room(self.pointers, self.stack, self.heap, arena.last_index())
+        return arena.show()
 
 
 class Renaming:
-    """The arenas `h` and `k`, whose values are numbers with a pointer or none, and the names `n` and `m`."""
+    """The arenas `h` and `k`, and the names `n` and `m`.
+
+    The values of `h` and `k` are numbers with a pointer or none.
+    """
 
     def __init__(self, pointers, stack, heap, room, _more):
         self.pointers, self.stack, self.heap = pointers, stack, heap
-        made = [kind(pointers, Room(pointers, stack, heap, room, slots)) for kind, slots in (
-            (Arena, SLOTS_OF_AN_ARRAY), (Direct, SLOTS_OF_AN_ARRAY), (Direct, NAMES_OF_AN_ARRAY),
-            (Arena, NAMES_OF_AN_ARRAY))]
-        self.arenas = dict(zip('hknm', made))
+        kinds = ('h', Arena, SLOTS_OF_AN_ARRAY), ('k', Direct, SLOTS_OF_AN_ARRAY)
+        kinds += ('n', Direct, NAMES_OF_AN_ARRAY), ('m', Arena, NAMES_OF_AN_ARRAY)
+        self.arenas = {
+            whom: kind(pointers, Room(pointers, stack, heap, room, slots))
+            for whom, kind, slots in kinds
+        }
 
     def held(self, value):
         return f'({value[0]}, {option(value[1] and self.pointers.text(*value[1]))})'
@@ -219,7 +267,8 @@ class Renaming:
         return self.pointers.index(i), self.pointers.generation(g)
 
     def answers(self, whom, verb, words):
-        x, y, z, w, v = words
+        """The answers to a line, or None where it is written as it is."""
+        x, y, *_ = words
         if verb == 'compress_recaster':
             return self.compress_recaster(x == 1)
         if whom in ('h=n', 'h=m', 'k=n', 'k=m'):
@@ -240,15 +289,30 @@ class Renaming:
                 return ['InvalidPtr']
             value = arena.take(i)[1]
             return [told(arena.step_counter(), text(value))]
-        puts = {('h', 'hold'): (x, None), ('h', 'point'): (x, self.pointer(y, z)), ('m', 'name'): (i, g)}
-        if (whom, verb) in puts:
-            return [result(lambda: arena.insert(puts[whom, verb]))]
-        direct = {('k', 'hold'): (z, None), ('k', 'point'): (z, self.pointer(w, v)), ('n', 'name'): self.pointer(z, w)}
-        if (whom, verb) in direct:
-            return either(lambda: [arena.insert(i, g, direct[whom, verb])])
         if whom == 'h' and verb == 'generation':
             return [option(self.pointers.generation_text(arena.counter))]
-        return [arena.show(text)]
+        answers = self.insertion(whom, verb, words)
+        return [arena.show(text)] if answers is None else answers
+
+    def insertion(self, whom, verb, words):
+        """The answers of a call that inserts, or None where there is no such call."""
+        x, y, z, w, v = words
+        arena, pointer = self.arenas[whom], self.pointer(x, y)
+        puts = {
+            ('h', 'hold'): (x, None),
+            ('h', 'point'): (x, self.pointer(y, z)),
+            ('m', 'name'): pointer,
+        }
+        if (whom, verb) in puts:
+            return [result(lambda: arena.insert(puts[whom, verb]))]
+        direct = {
+            ('k', 'hold'): (z, None),
+            ('k', 'point'): (z, self.pointer(w, v)),
+            ('n', 'name'): self.pointer(z, w),
+        }
+        if (whom, verb) in direct:
+            return either(lambda: [arena.insert(*pointer, direct[whom, verb])])
+        return None
 
     def recast(self, arena, names, image=None):
         """Renames in index order, up to the first pointer that has no name."""
@@ -273,7 +337,12 @@ class Renaming:
         for new, (i, g) in enumerate(old.items(), 1):
             names.insert(i, g, (new, h.entries[new][0]))
         shown = names.show(lambda p: self.pointers.text(*p))
-        return [shown, str(room.capacity()), self.recast(h, names), self.recast(self.arenas['k'], names)]
+        return [
+            shown,
+            str(room.capacity()),
+            self.recast(h, names),
+            self.recast(self.arenas['k'], names),
+        ]
 
 
 def words_of(line):
@@ -314,7 +383,7 @@ def make(kind, stack, heap, room, more):
 
 
 def play(section):
-    """The lines of a section: over each pointer type and stack, and for each request that is refused."""
+    """The lines of a section, over each pointer type and stack, and for each refused request."""
     header, _, calls = section.partition('\n')
     kinds, stacks, (_, first, last, _, _) = words_of(header)
     lines = [header]
@@ -325,23 +394,29 @@ def play(section):
     return lines
 
 
-READS = [
-    'get', 'get', 'get_inx', 'get_inx_unwrap', 'contains', 'walk', 'walk_from', 'walk_back_from', 'walk_nowhere',
-    'find_first_inx_ptr', 'find_last_inx_ptr', 'show', 'show', 'len', 'is_empty', 'capacity', 'max_capacity',
-    'singular_generation', 'slots', 'slots', 'ptrs', 'vals', 'iter']
-CHANGES = [
-    'remove', 'remove', 'remove', 'remove_inx', 'remove_inx', 'remove_inx', 'remove_inx', 'invalidate', 'invalidate',
-    'set', 'set_inx', 'set_inx_unwrap', 'swap', 'swap', 'swap_inx', 'compress_with', 'reallocate_min_capacity']
-OF_ARENAS = ['insert'] * 10 + ['insert_within_capacity', 'insert_reallocating'] * 3 + [
-    'entry_insert', 'entry_insert_reallocating', 'entry_insert_within_capacity'] * 2 + [
-    'walk_and_insert', 'inc_generation', 'generation', 'set_generation', 'freelist_root', 'freelist_root',
-    'freelist_root', 'canonicalize_freelist', 'remove_free_end_slots'] + ['free_links'] * 3
+READS = '''
+    get get get_inx get_inx_unwrap contains walk walk_from walk_back_from walk_nowhere
+    find_first_inx_ptr find_last_inx_ptr show show len is_empty capacity max_capacity
+    singular_generation slots slots ptrs vals iter
+'''.split()
+CHANGES = '''
+    remove remove remove remove_inx remove_inx remove_inx remove_inx invalidate invalidate
+    set set_inx set_inx_unwrap swap swap swap_inx compress_with reallocate_min_capacity
+'''.split()
+OF_ARENAS = ['insert'] * 10 + ['insert_within_capacity', 'insert_reallocating'] * 3
+OF_ARENAS += ['entry_insert', 'entry_insert_reallocating', 'entry_insert_within_capacity'] * 2
+OF_ARENAS += '''
+    walk_and_insert inc_generation generation set_generation
+    freelist_root freelist_root freelist_root canonicalize_freelist remove_free_end_slots
+    free_links free_links free_links
+'''.split()
 OF_DIRECT = ['direct_insert'] * 14 + ['pop_free_end_slots'] * 2
 SELDOM = ['clear', 'compress', 'drain', 'walk_and_remove']
 POINTS = {'remove', 'invalidate', 'set', 'get', 'contains', 'swap'}
-AT_INDEX = {
-    'remove_inx', 'get_inx', 'get_inx_unwrap', 'walk_from', 'walk_back_from', 'reallocate_min_capacity', 'drain',
-    'free_links'}
+AT_INDEX = '''
+    remove_inx get_inx get_inx_unwrap walk_from walk_back_from reallocate_min_capacity drain
+    free_links
+'''.split()
 
 
 class Random:
@@ -351,7 +426,9 @@ class Random:
         self.random = random.Random(seed)
 
     def index(self, top):
-        return self.random.randrange(1, top + 1) if 0.02 < self.random.random() else self.random.choice([0, 256, 70000])
+        if 0.02 < self.random.random():
+            return self.random.randrange(1, top + 1)
+        return self.random.choice([0, 256, 70000])
 
     def generation(self, pointers):
         return self.random.randrange(1, 12 if pointers.last is None else min(12, pointers.last + 1))
@@ -389,7 +466,7 @@ class Random:
         elif verb.startswith('insert'):
             words = [self.random.randrange(1000)]
         elif verb == 'direct_insert':
-            words = [self.index(top), self.generation(arena.pointers), choose([0] + list(range(1, 10)))]
+            words = [self.index(top), self.generation(arena.pointers), choose(range(10))]
         elif verb == 'set_generation':
             last = arena.pointers.last or 2
             words = [choose([2, 3, min(last, 250), max(2, min(last, 300) - 1), min(last, 300)])]
@@ -412,7 +489,11 @@ class Random:
         pairs = ['ab', 'de'] if sign == '~' else ['ab', 'ad', 'da', 'de']
         pair = self.random.choice(pairs)
         verb = {'=': 'copy', '~': 'clone_from', '<': 'transfer'}[sign]
-        words = {'=': [self.random.choice([0, 0, 0, 1, 2, 3])], '~': [], '<': [self.generation(arenas.pointers)]}[sign]
+        words = {
+            '=': [self.random.choice([0, 0, 0, 1, 2, 3])],
+            '~': [],
+            '<': [self.generation(arenas.pointers)],
+        }[sign]
         return pair[0] + sign + pair[1], verb, words
 
     def call_of_renaming(self, arenas, top):
@@ -426,20 +507,23 @@ class Random:
         arena = arenas.arenas[whom]
         other = self.pointer(arenas.arenas[self.random.choice('hknm')], top)
         value = self.random.randrange(1000)
-        gone = ('remove', self.pointer(arena, top))
-        calls = {
-            'h': [('hold', [value]), ('point', [value, *other]), ('point', [value, *other]), gone, ('show', []),
-                  ('generation', []), ('compress_recaster', [value % 2])],
-            'k': [('hold', [*two, value]), ('point', [*two, value, *other]), ('point', [*two, value, *other]),
-                  ('show', [])],
-            'n': [('name', other + two), ('name', other + two), gone, ('recast_item', other), ('show', [])],
-            'm': [('name', other), ('name', two), gone, ('recast_item', other), ('show', [])]}
-        return whom, *self.random.choice(calls[whom])
+        gone, show = ('remove', self.pointer(arena, top)), ('show', [])
+        if whom == 'h':
+            point, compress = ('point', [value, *other]), ('compress_recaster', [value % 2])
+            calls = [('hold', [value]), point, point, gone, show, ('generation', []), compress]
+        elif whom == 'k':
+            point = ('point', [*two, value, *other])
+            calls = [('hold', [*two, value]), point, point, show]
+        else:
+            names = [other + two, other + two] if whom == 'n' else [other, two]
+            calls = [('name', name) for name in names] + [gone, ('recast_item', other), show]
+        return whom, *self.random.choice(calls)
 
     def section(self, kind, stack, count):
         """A section, which may refuse some of the requests for memory that its calls make."""
         top = self.random.choice([4, 7, 20])
-        room = self.random.choice([1, 3, 6] if stack == 'boxed' else [0] if stack.endswith('array') else [0, 1, 2, 5])
+        rooms = [1, 3, 6] if stack == 'boxed' else [0, 1, 2, 5]
+        room = self.random.choice([0] if stack.endswith('array') else rooms)
         more, end = self.random.choice([0, 0, 2]) * (stack != 'array'), self.random.randrange(2)
         refuses = stack in ('heap', 'limited', 'boxed', 'renaming') and self.random.random() < 0.5
         heap = Heap(0)
@@ -463,9 +547,12 @@ class Random:
 
 def random_sections(seed, count):
     writer = Random(seed)
-    return [writer.section(kind, stack, count) for kind in POINTERS
-            for stack in ('heap', 'limited', 'boxed', 'array', 'renaming', 'renaming_array')
-            if kind in IN_ARRAYS.get(stack, POINTERS)]
+    return [
+        writer.section(kind, stack, count)
+        for kind in POINTERS
+        for stack in ('heap', 'limited', 'boxed', 'array', 'renaming', 'renaming_array')
+        if kind in IN_ARRAYS.get(stack, POINTERS)
+    ]
 
 
 def main(words):

@@ -1,6 +1,7 @@
-"""The rules of arenas in plain Python: an arena is a dict from an index to a generation and a value.
+"""The rules of arenas in plain Python.
 
-It is written from the rules and not from the library.
+An arena is a dict from an index to a generation and a value. It is written from the rules and not
+from the library.
 """
 
 SLOTS_OF_AN_ARRAY = 5
@@ -8,7 +9,10 @@ GREATEST_USIZE = 2**64 - 1
 
 
 class Pointers:
-    """A pointer type: its name, its greatest index, and its greatest generation, or None where none are counted."""
+    """A pointer type: its name, its greatest index, and its greatest generation.
+
+    The last is None where no generations are counted.
+    """
 
     def __init__(self, name, greatest_index, last_generation):
         self.name, self.last = name, last_generation
@@ -42,10 +46,19 @@ class Pointers:
         return '()' if self.last is None else str(generation)
 
 
-POINTERS = {kind.name: kind for kind in (
-    Pointers('P0', GREATEST_USIZE, 2**64 - 1), Pointers('P1', 255, 255), Pointers('P2', 2**16 - 1, 2**16 - 1),
-    Pointers('P3', 2**32 - 1, 2**32 - 1), Pointers('P4', 2**64 - 1, 2**128 - 1), Pointers('P5', GREATEST_USIZE, None),
-    Pointers('Q2', GREATEST_USIZE, 2**64 - 1), Pointers('N3', 255, 3))}
+POINTERS = {
+    kind.name: kind
+    for kind in (
+        Pointers('P0', GREATEST_USIZE, 2**64 - 1),
+        Pointers('P1', 255, 255),
+        Pointers('P2', 2**16 - 1, 2**16 - 1),
+        Pointers('P3', 2**32 - 1, 2**32 - 1),
+        Pointers('P4', 2**64 - 1, 2**128 - 1),
+        Pointers('P5', GREATEST_USIZE, None),
+        Pointers('Q2', GREATEST_USIZE, 2**64 - 1),
+        Pointers('N3', 255, 3),
+    )
+}
 
 
 class Refused(Exception):
@@ -68,11 +81,12 @@ class Heap:
 
 
 class Room:
-    """How many entries fit: the slots that are reserved, and the greatest capacity, if there is one."""
+    """How many entries fit: the reserved slots, and the greatest capacity, if there is one."""
 
     def __init__(self, pointers, stack, heap, least, slots_of_an_array=SLOTS_OF_AN_ARRAY):
         self.pointers, self.stack, self.heap = pointers, stack, heap
-        self.own_limit = {'heap': None, 'limited': None, 'boxed': least, 'array': slots_of_an_array}[stack]
+        limits = {'heap': None, 'limited': None, 'boxed': least, 'array': slots_of_an_array}
+        self.own_limit = limits[stack]
         if self.limit() is not None and self.limit() < least:
             raise Refused('BeyondMaxCapacity')
         if stack != 'array' and 0 < least:
@@ -107,7 +121,10 @@ class Room:
 
 
 class AnyArena:
-    """What an arena and a direct arena do alike. `entries` has a generation and a value at each live index."""
+    """What an arena and a direct arena do alike.
+
+    `entries` has a generation and a value at each live index.
+    """
 
     def __init__(self, pointers, room):
         self.pointers, self.room = pointers, room
@@ -143,7 +160,8 @@ class AnyArena:
         return self.pointers.text(index, self.entries[index][0])
 
     def show(self, text=str):
-        return '{' + ', '.join(f'{self.pointer_text(i)}: {text(self.entries[i][1])}' for i in self.indexes()) + '}'
+        shown = (f'{self.pointer_text(i)}: {text(self.entries[i][1])}' for i in self.indexes())
+        return '{' + ', '.join(shown) + '}'
 
     def empty(self):
         self.entries, self.slots = {}, 0
@@ -154,7 +172,10 @@ class AnyArena:
         return told(self.step_counter(), '()')
 
     def drain(self, count):
-        """Each item is taken by a step, also those that are left when the drain is let go after so many."""
+        """Each item is taken by a step.
+
+        So are those that are left when the drain is let go after so many.
+        """
         answers = []
         left = self.indexes()
         for _ in range(count):
@@ -189,7 +210,10 @@ class AnyArena:
         self.entries[i], self.entries[j] = (g, w), (h, v)
 
     def compress(self, reset, maps):
-        """The live entries go to the first indexes, in their order. A map tells what it gets, and adds 1."""
+        """The live entries go to the first indexes, in their order.
+
+        A map tells what it gets, and adds 1.
+        """
         wrapped = False
         if reset:
             self.set_counter(self.pointers.second())
@@ -198,17 +222,23 @@ class AnyArena:
         answers, moved = [], {}
         for new, old in enumerate(self.indexes(), 1):
             own, value = self.entries[old]
-            generation, own_wrapped = (self.pointers.second(), False) if reset else self.renewed(own)
+            generation, own_wrapped = self.pointers.second(), False
+            if not reset:
+                generation, own_wrapped = self.renewed(own)
             wrapped = wrapped or own_wrapped
             moved[new] = (generation, (value + 1) % 2**64 if maps else value)
             if maps:
-                answers.append(f'({self.pointers.text(old, own)}, {value}, {self.pointers.text(new, generation)})')
+                before, after = self.pointers.text(old, own), self.pointers.text(new, generation)
+                answers.append(f'({before}, {value}, {after})')
         self.entries, self.slots = moved, len(moved)
         self.set_free([])
         return answers + [told(wrapped, '()')]
 
     def copy(self, source, refused_call, maps):
-        """Becomes a copy with the source's pointers. A map tells what it gets, adds 1, and may refuse a call."""
+        """Becomes a copy with the source's pointers.
+
+        A map tells what it gets, adds 1, and may refuse a call.
+        """
         self.room.grow_to(source.last_index())
         answers, copied = [], {}
         for call, i in enumerate(source.indexes(), 1):
@@ -226,13 +256,17 @@ class AnyArena:
         return answers + ['Ok(())']
 
     def transfer(self, generation, source):
-        """Takes all entries of the source, which steps for each. The map tells what it gets, and adds 1."""
+        """Takes all entries of the source, which steps for each.
+
+        The map tells what it gets, and adds 1.
+        """
         self.room.grow_to(len(source.entries))
         answers, moved = [], {}
         for new, old in enumerate(source.indexes(), 1):
             own, value = source.entries[old]
             item = told(source.step_counter(), str(value))
-            answers.append(f'({source.pointers.text(old, own)}, {item}, {self.pointers.text(new, generation)})')
+            before, after = source.pointers.text(old, own), self.pointers.text(new, generation)
+            answers.append(f'({before}, {item}, {after})')
             moved[new] = (generation, (value + 1) % 2**64)
         source.empty()
         self.entries, self.slots = moved, len(moved)
@@ -253,7 +287,10 @@ class AnyArena:
 
 
 class Arena(AnyArena):
-    """An arena gives the pointers: the index at the head of the free list, or a new one, and the counter."""
+    """An arena gives the pointers.
+
+    Each has the index at the head of the free list, or a new one, and the counter.
+    """
 
     def __init__(self, pointers, room):
         super().__init__(pointers, room)
@@ -320,7 +357,10 @@ class Arena(AnyArena):
 
 
 class Direct(AnyArena):
-    """To a direct arena the script gives the pointers. It has no counter, and a removal leaves the slot."""
+    """To a direct arena the script gives the pointers.
+
+    It has no counter, and a removal leaves the slot.
+    """
 
     def insert(self, i, g, value):
         if self.room.capacity() < i:

@@ -1,15 +1,27 @@
 """Random lines for script_chain, which fit what the arenas of a section hold."""
-PLAIN = ['show', 'len', 'is_empty', 'capacity', 'max_capacity', 'slots', 'generation', 'singular_generation', 'next_ptr',
-         'ptrs', 'vals', 'iter', 'iter_link_no_gen', 'walk', 'find_first_inx_ptr', 'find_last_inx_ptr', 'inc_generation', 'make_room']
-AT_POINTER = ['get', 'contains', 'at', 'get_link', 'get_link_no_gen', 'break_next', 'break_prev'] + ['iter_chain', 'walk_chain'] * 4
+PLAIN = '''
+    show len is_empty capacity max_capacity slots generation singular_generation next_ptr
+    ptrs vals iter iter_link_no_gen walk find_first_inx_ptr find_last_inx_ptr
+    inc_generation make_room
+'''.split()
+AT_POINTER = 'get contains at get_link get_link_no_gen break_next break_prev'.split()
+AT_POINTER += ['iter_chain', 'walk_chain'] * 4
 REMOVE = ['remove', 'remove_link_no_gen', 'invalidate']
-AT_INDEX = ['get_inx', 'get_inx_unwrap', 'get_inx_link_no_gen', 'walk_from', 'walk_back_from', 'remove_inx', 'remove_inx_link_no_gen']
+AT_INDEX = '''
+    get_inx get_inx_unwrap get_inx_link_no_gen walk_from walk_back_from
+    remove_inx remove_inx_link_no_gen
+'''.split()
 AT_TWO = ['are_neighbors', 'connect', 'connect', 'exchange_next', 'exchange_next', 'exchange_next']
-FORMS = ['insert', 'insert_reallocating', 'insert_within_capacity', 'entry_insert', 'entry_insert_reallocating',
-         'entry_insert_within_capacity', 'meets']
-RARE = ['clear', 'compress 0', 'compress 1', 'compress_with 0', 'compress_with 1', 'walk_and_remove', 'walk_chain_and_remove',
-        'walk_chain_and_break', 'drain', 'drain_chain', 'set_generation', 'reallocate_min_capacity', 'insert_in_gap_reallocating',
-        'insert_in_gap_within_capacity']
+FORMS = '''
+    insert insert_reallocating insert_within_capacity
+    entry_insert entry_insert_reallocating entry_insert_within_capacity meets
+'''.split()
+RARE = ['clear', 'compress 0', 'compress 1', 'compress_with 0', 'compress_with 1']
+RARE += '''
+    walk_and_remove walk_chain_and_remove walk_chain_and_break drain drain_chain
+    set_generation reallocate_min_capacity
+    insert_in_gap_reallocating insert_in_gap_within_capacity
+'''.split()
 
 
 class Writer:
@@ -44,9 +56,10 @@ class Writer:
     def insertion(self, m):
         r, kind = self.r, self.r.choice(list(self.kinds))
         form, value = r.choice(FORMS), r.randrange(0 if r.random() < 0.1 else 1, 1000)
-        p = self.end(m, kind == 'ChainStart') if kind in ('ChainEnd', 'ChainStart', 'Bridge') else self.index(m)
+        is_at_end = kind in ('ChainEnd', 'ChainStart', 'Bridge')
+        p = self.end(m, kind == 'ChainStart') if is_at_end else self.index(m)
         q = self.neighbor(m, p) if kind == 'AtInterlink' else self.end(m, True)
-        named = [p, q][:self.kinds[kind]]
+        named = [p, q][: self.kinds[kind]]
         if named and r.random() < 0.5:
             return ' '.join([f'{form}:{kind}Inx {value}', *map(str, named)])
         return ' '.join([f'{form}:{kind} {value}', *(self.whole(m, i) for i in named)])
@@ -68,14 +81,16 @@ class Writer:
             return f'{r.choice(AT_INDEX)} {self.index(m)}'
         if x < 0.92:
             p, verb = self.index(m), r.choice(AT_TWO)
-            q = self.neighbor(m, p) if verb == 'are_neighbors' or r.random() < 0.3 else self.end(m, True)
+            takes_next = verb == 'are_neighbors' or r.random() < 0.3
+            q = self.neighbor(m, p) if takes_next else self.end(m, True)
             p = self.end(m, False) if verb == 'connect' else p
             return f'{verb} {self.whole(m, p)} {self.whole(m, q)}'
         if x < 0.94:
             return f'are_neighbors_inx {self.index(m)} {self.index(m)}'
         if x < 0.97:
             verb = r.choice(['set', 'put', 'set_inx'])
-            return f'{verb} {self.index(m) if verb == "set_inx" else self.pointer(m)} {r.randrange(1000)}'
+            at = self.index(m) if verb == 'set_inx' else self.pointer(m)
+            return f'{verb} {at} {r.randrange(1000)}'
         return self.rare(m)
 
     def rare(self, m):
@@ -91,8 +106,9 @@ class Writer:
         return f'{verb} {r.randrange(1000)}' if 'gap' in verb else verb
 
     def generation(self, m):
-        r = self.r
-        return r.randrange(1, 4) if m.last is None or m.last < 9 else r.choice([1, 2, 250, 253, 254, 255])
+        if m.last is None or m.last < 9:
+            return self.r.randrange(1, 4)
+        return self.r.choice([1, 2, 250, 253, 254, 255])
 
     def line(self):
         r, s = self.r, self.s
@@ -104,11 +120,13 @@ class Writer:
         if x < 0.91:
             return f'a<b transfer_canonical {self.generation(s.a)}'
         if x < 0.94:
-            return f'a=b {r.choice(["clone", "clone_from", "clone_from_with 0", f"clone_from_with {r.randrange(1, 5)}"])}'
+            refused = f'clone_from_with {r.randrange(1, 5)}'
+            return f'a=b {r.choice(["clone", "clone_from", "clone_from_with 0", refused])}'
         if x < 0.955:
             return f'v=a clone_to_arena {r.choice([0, 0, 2])}'
         if x < 0.97:
-            return r.choice(['a=l exchange_arena', 'a=l exchange_arena', 'a=l from_arena', 'l interlinks_agree'])
+            exchanges = ['a=l exchange_arena', 'a=l exchange_arena']
+            return r.choice(exchanges + ['a=l from_arena', 'l interlinks_agree'])
         if x < 0.99:
             return self.links()
         if s.stack == 'limited' and x < 0.997:

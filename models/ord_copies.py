@@ -1,12 +1,13 @@
-"""What script_ord_copies must answer to its sections, as ord.py says of the calls at one arena."""
+"""What `script_ord_copies` must answer to its sections.
+
+`ord_rules.py` has the calls at one arena.
+"""
+
+from ord_rules import option
 
 
 def pieces(entries):
     return '{' + ', '.join(f'{name}: {value}' for name, value in entries) + '}'
-
-
-def option(it):
-    return 'None' if it is None else f'Some({it})'
 
 
 def grow_for(target, last):
@@ -17,17 +18,22 @@ def grow_for(target, last):
 def become(target, source, entries):
     """The entries, the list, the tree and the counter of the source."""
     last = max(source.e, default=0)
-    target.e, target.order, target.nodes, target.counter = entries, list(source.order), source.nodes, source.counter
+    target.e, target.order, target.nodes = entries, list(source.order), source.nodes
+    target.counter = source.counter
     target.slots, target.free = last, [i for i in range(1, last) if i not in entries]
 
 
 class Copies:
-    """The ordered arenas `a` and `c`, the chain arena `h` and the arena `v` of values, made by `make`."""
+    """The ordered arenas `a` and `c`, the chain arena `h` and the arena `v` of values.
+
+    They are made by `make`.
+    """
 
     def __init__(self, make, kind, stack):
         plain = 'array' if stack == 'array' else 'heap'
         self.make, self.limited = lambda: make(kind, stack), stack == 'limited'
-        self.a, self.c, self.h, self.v = make(kind, stack), make(kind, stack), make(kind, plain), make(kind, plain)
+        self.a, self.c = make(kind, stack), make(kind, stack)
+        self.h, self.v = make(kind, plain), make(kind, plain)
 
     def answer(self, whom, verb, words):
         x = words[0] if words else 0
@@ -40,14 +46,13 @@ class Copies:
         if whom == 'h=a':
             return self.copy(self.h, lambda i: f'({self.a.name(i)}, {self.a.item(i)})', x)
         if whom == 'v=a':
-            return self.copy(self.v, lambda i: f'({self.a.name(i)}, {self.neighbors(self.a, i)}, {self.a.item(i)})', x)
+            return self.copy(self.v, self.whole_item, x)
         if whom == 'a<c':
             return self.transfer(self.a, self.c, x)
         if whom == 'a*':
             return self.compress_with(self.a, x == 1)
         if whom == 'h':
-            return [f'({self.h.name(i)}, IndexLink {{ prev: {self.prev(i)}, next: {self.next(i)}, t: {self.h.e[i][2]} }})' for i in sorted(self.h.e)] \
-                + [self.h.gen(self.h.counter)]
+            return [self.link(i) for i in sorted(self.h.e)] + [self.h.gen(self.h.counter)]
         if whom == 'v':
             return [pieces((self.v.name(i), self.v.e[i][2]) for i in sorted(self.v.e))]
         return [None]
@@ -57,24 +62,31 @@ class Copies:
 
     def a_line(self, r):
         """A line of a copy, or one that shows or limits what is copied."""
-        limits = ['a|', 'c|', 'c|']
-        whom = r.choice(['c=a', 'c=a', 'c=a', 'a<c', 'a*', *(limits if self.limited else ['h=a', 'v=a', 'h', 'v'])])
-        verbs = {'c=a': r.choice(['clone_from', 'clone_from', 'clone']), 'h=a': 'clone_to_chain_arena', 'v=a': 'clone_to_arena', 'h': 'links', 'v': 'show',
-                 'a<c': 'transfer_canonical', 'a*': 'compress_with'}
-        words = [r.randrange(8)] if whom in ('h=a', 'v=a', 'a<c') else [r.randrange(2)] if whom == 'a*' else [r.randrange(20)] if whom in limits else []
+        others = ['a|', 'c|', 'c|'] if self.limited else ['h=a', 'v=a', 'h', 'v']
+        whom = r.choice(['c=a', 'c=a', 'c=a', 'a<c', 'a*'] + others)
+        verbs = {
+            'c=a': r.choice(['clone_from', 'clone_from', 'clone']),
+            'h=a': 'clone_to_chain_arena',
+            'v=a': 'clone_to_arena',
+            'h': 'links',
+            'v': 'show',
+            'a<c': 'transfer_canonical',
+            'a*': 'compress_with',
+        }
+        below = {'h=a': 8, 'v=a': 8, 'a<c': 8, 'a*': 2, 'a|': 20, 'c|': 20}
+        words = [r.randrange(below[whom])] if whom in below else []
         return whom, verbs.get(whom, 'set_max_capacity'), words
 
     def neighbors(self, arena, i):
-        at = arena.order.index(i)
-        before = arena.order[at - 1] if at else None
-        after = arena.order[at + 1] if at + 1 < len(arena.order) else None
-        return f'({option(before)}, {option(after)})'
+        return option(arena.neighbor(i, -1)), option(arena.neighbor(i, 1))
 
-    def prev(self, i):
-        return self.neighbors(self.h, i)[1:-1].split(', ')[0]
+    def whole_item(self, i):
+        prev, next = self.neighbors(self.a, i)
+        return f'({self.a.name(i)}, ({prev}, {next}), {self.a.item(i)})'
 
-    def next(self, i):
-        return self.neighbors(self.h, i)[1:-1].split(', ')[1]
+    def link(self, i):
+        h, (prev, next) = self.h, self.neighbors(self.h, i)
+        return f'({h.name(i)}, IndexLink {{ prev: {prev}, next: {next}, t: {h.e[i][2]} }})'
 
     def limit(self, arena, most):
         last = max(arena.e, default=0)
@@ -109,7 +121,8 @@ class Copies:
             arena.counter = 2
         arena.e = {to[i]: (arena.counter, k, v + 1) for i, (_, k, v) in arena.e.items()}
         arena.rebuild([to[i] for i in arena.order])
-        return [f'({name}, {item}, {arena.name(to[i])})' for i, (name, item) in names.items()] + [answer]
+        told = [f'({name}, {item}, {arena.name(to[i])})' for i, (name, item) in names.items()]
+        return told + [answer]
 
     def clone_from(self):
         error = grow_for(self.c, max(self.a.e, default=0))
@@ -166,7 +179,9 @@ class Renaming:
         n = self.n
         if verb == 'insert':
             error = n.room(True)
-            return f'Err({error})' if error else f'Ok({n.name(n.put(len(n.order), 0, n.named(n.i(x), n.g(y))))})'
+            if error:
+                return f'Err({error})'
+            return f'Ok({n.name(n.put(len(n.order), 0, n.named(n.i(x), n.g(y))))})'
         if verb == 'remove':
             return n.step(n.take(n.i(x))[2]) if n.live(n.i(x), n.g(y)) else 'InvalidPtr'
         return pieces((n.name(i), n.e[i][2]) for i in sorted(n.e))

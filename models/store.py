@@ -1,14 +1,19 @@
 #!/usr/bin/env python3
-"""Plays the sections of the program `script_route_book` by the rules of `store_rules.py`, and writes random ones.
+"""Plays the sections of the program `script_route_book`, and writes random ones.
 
-usage: store.py SEED LINES >stdin 2>stdout     random sections with so many lines each, and what must be written
+It goes by the rules of `store_rules.py`.
+
+usage: store.py SEED LINES >stdin 2>stdout     random sections with so many lines each,
+                                               and what must be written
        store.py answer <stdin >stdout          what must be written for these sections
-       store.py faults >stdin 2>stdout         an input whose reads and writes fail at each byte in turn
-       store.py rooms SEED                     the arguments of the program `route_book` for random lines
+       store.py faults >stdin 2>stdout         an input whose reads and writes fail
+                                               at each byte in turn
+       store.py rooms SEED                     the arguments of the program `route_book`
+                                               for random lines
        store.py lines SEED LINES >stdin 2>stdout     these lines, and what must be answered to them
 
-`crates/script_route_book/src/main.rt` says how a section is written. How many comparisons a search makes hangs on the tree, so
-what a section of `inputs` or `answer` wants stands in the section.
+`crates/script_route_book/src/main.rt` says how a section is written. How many comparisons a search
+makes hangs on the tree, so what a section of `inputs` or `answer` wants stands in the section.
 """
 import random
 import sys
@@ -18,16 +23,26 @@ sys.dont_write_bytecode = True
 from store_rules import LAST_TICKET, Store
 
 # The greatest index of each pointer type, and its greatest generation.
-POINTERS = {'P0': (2**64 - 1, 2**64 - 1), 'P1': (255, 255), 'P5': (2**64 - 1, 1), 'N3': (255, 3)}
+POINTERS = {
+    'P0': (2**64 - 1, 2**64 - 1),
+    'P1': (255, 255),
+    'P5': (2**64 - 1, 1),
+    'N3': (255, 3),
+}
 BACKINGS = ('heap', 'limited', 'fixed', 'array')
 ARRAY_ROOM = 10
 # What a store that moves on the way may begin as, and what it may become.
 ANY = [(p, b) for p in POINTERS for b in BACKINGS if (p, b) != ('P5', 'array')]
-MOVING = {('P0', 'heap'): ANY, ('P1', 'limited'): [('N3', 'fixed')], ('N3', 'fixed'): [('P1', 'array')],
-          ('P1', 'array'): [('P0', 'heap')]}
+MOVING = {
+    ('P0', 'heap'): ANY,
+    ('P1', 'limited'): [('N3', 'fixed')],
+    ('N3', 'fixed'): [('P1', 'array')],
+    ('P1', 'array'): [('P0', 'heap')],
+}
 # No machine has room for so many items.
 TOO_MANY = 2**60
-# How many bytes a read takes, and a reply gathers before it is written, and the longest line of a reply with its LF.
+# How many bytes a read takes, how many a reply gathers before it is written, and how many the
+# longest line of a reply has with its LF.
 PIECE, GATHERED, LONGEST = 4096, 4096, 59
 PLAYS_OF_AN_INPUT = 5
 
@@ -121,16 +136,21 @@ def play_run(store, words, lines):
     if what == 'run':
         reader = Input(lines, how, read)
         end = run(store, reader, page)
-        return (f'>{words}\n{page.text}-> {end}, unread {len(reader.left)}, flushed {page.flushed}, '
-                f'reads and failed ones ({reader.calls}, {reader.failed}), '
-                f'writes and failed ones ({page.calls}, {page.failed})\n')
+        return (
+            f'>{words}\n{page.text}-> {end}, unread {len(reader.left)}, flushed {page.flushed}, '
+            f'reads and failed ones ({reader.calls}, {reader.failed}), '
+            f'writes and failed ones ({page.calls}, {page.failed})\n'
+        )
     for line in lines.removesuffix('\n').split('\n'):
         answer_line(store, line, page, what == 'sweeps')
     return f'>{words}\n{page.text}'
 
 
 def answer_line(store, line, page, tells_sweeps):
-    """Answers a line alone; or, if it says which comparisons are wanted of the line before, writes that."""
+    """Answers a line alone.
+
+    One that says which comparisons are wanted of the line before is written as it is.
+    """
     if line.startswith('='):
         page.text += line + '\n'
         return
@@ -153,7 +173,8 @@ def refusal(pointers, backing, rooms, refused):
         return 'room refused: stack\n' if sum(rooms) > ARRAY_ROOM else None
     if max(rooms) > TOO_MANY:
         return 'room refused: memory\n'
-    # Each arena with room takes memory for itself and for its mirror, and the ticket book for itself.
+    # Each arena with room takes memory for itself and for its mirror, and the ticket book for
+    # itself.
     if 0 < refused <= requests(rooms):
         return 'room refused: memory\nmemory was refused\n'
     return None
@@ -207,8 +228,11 @@ def play(section):
     header, _, lines = behind.partition('\n')
     pointers, backings, *numbers = header.split(' ')
     numbers = ([int(number) for number in numbers] + [0] * 5)[:5]
-    texts = [play_over(kind, backing, numbers, lines)
-             for kind in pointers.split(',') for backing in backings.split(',')]
+    texts = [
+        play_over(kind, backing, numbers, lines)
+        for kind in pointers.split(',')
+        for backing in backings.split(',')
+    ]
     assert all(text == texts[0] for text in texts), f'the stores of a section differ: {comment}'
     plays = len(texts) * (1 if lines.startswith('>') else PLAYS_OF_AN_INPUT)
     return f'#{comment}\n{header}\n{texts[0]}{plays} plays\n'
@@ -246,10 +270,12 @@ class Writer:
             # Late ones often, since they hang together.
             return self.random.choice(living[-6:] if chance < 0.4 else living)
         last = self.store.last
-        return self.random.choice([0, last + 1, self.random.randrange(last + 1), LAST_TICKET, 2**64])
+        given = self.random.randrange(last + 1)
+        return self.random.choice([0, last + 1, given, LAST_TICKET, 2**64])
 
     def word(self):
-        return ''.join(self.random.choice('abcxyz019') for _ in range(self.random.choice([1, 2, 3, 8, 16])))
+        size = self.random.choice([1, 2, 3, 8, 16])
+        return ''.join(self.random.choice('abcxyz019') for _ in range(size))
 
     def hint(self):
         return ['near', self.ticket('place')] if self.random.random() < 0.3 else []
@@ -266,7 +292,9 @@ class Writer:
     def linked(self):
         """Mostly a stop with a next one."""
         linked = [t for t in self.store.stop if t in self.store.next]
-        return self.random.choice(linked) if linked and self.random.random() < 0.85 else self.ticket('stop')
+        if linked and self.random.random() < 0.85:
+            return self.random.choice(linked)
+        return self.ticket('stop')
 
     def line(self):
         verbs = ['place'] * 4 + ['start', 'walk', 'join'] * 3 + ['extend', 'swap'] * 4
@@ -275,22 +303,42 @@ class Writer:
         verb = self.random.choice(verbs)
         fields = {
             'place': lambda: [self.key(), self.word()] + self.hint(),
-            'word': lambda: [self.ticket('place'), self.word()], 'all': lambda: [], 'pack': lambda: [],
-            'find': lambda: [self.key()], 'floor': lambda: [self.key()],
-            'after': lambda: [self.ticket('place')], 'before': lambda: [self.ticket('place')],
-            'start': lambda: [self.ticket('place')], 'extend': lambda: [self.ticket('stop'), self.ticket('place')],
-            'join': self.end, 'cut': lambda: [self.linked()], 'swap': lambda: [self.linked(), self.linked()],
-            'walk': lambda: [self.ticket('stop')], 'mark': lambda: [self.ticket('place'), self.ticket('stop')],
+            'word': lambda: [self.ticket('place'), self.word()],
+            'all': lambda: [],
+            'pack': lambda: [],
+            'find': lambda: [self.key()],
+            'floor': lambda: [self.key()],
+            'after': lambda: [self.ticket('place')],
+            'before': lambda: [self.ticket('place')],
+            'start': lambda: [self.ticket('place')],
+            'extend': lambda: [self.ticket('stop'), self.ticket('place')],
+            'join': self.end,
+            'cut': lambda: [self.linked()],
+            'swap': lambda: [self.linked(), self.linked()],
+            'walk': lambda: [self.ticket('stop')],
+            'mark': lambda: [self.ticket('place'), self.ticket('stop')],
             'show': lambda: [self.ticket(self.random.choice(['place', 'stop', 'mark']))],
-            'remove': lambda: [self.ticket(self.random.choice(['place', 'stop', 'mark']))]}[verb]()
+            'remove': lambda: [self.ticket(self.random.choice(['place', 'stop', 'mark']))],
+        }[verb]()
         return ' '.join(map(str, [verb, *fields]))
 
     def spoiled(self, line):
         """The line with a fault, which may spell another command."""
         at = self.random.randrange(len(line) + 1)
-        return self.random.choice([
-            line[:at] + ' ' + line[at:], line[:at] + line[at + 1:], line + '\r', ' ' + line, line.upper(), '',
-            line[:at] + '0' + line[at:], line + ' ' + line, line + 'x' * 70, line.replace(' ', '\t')])
+        return self.random.choice(
+            [
+                line[:at] + ' ' + line[at:],
+                line[:at] + line[at + 1 :],
+                line + '\r',
+                ' ' + line,
+                line.upper(),
+                '',
+                line[:at] + '0' + line[at:],
+                line + ' ' + line,
+                line + 'x' * 70,
+                line.replace(' ', '\t'),
+            ]
+        )
 
     def lines(self, count):
         written = []
@@ -321,7 +369,10 @@ def random_section(pick, pointers, backings, count, runs=()):
     rooms = writer.rooms
     header = f'{pointers} {backings} {rooms[0]} {rooms[1]} {rooms[2]} {last} {requests(rooms) + 1}'
     part = max(count // max(len(runs), 1), 1)
-    lines = ''.join(random_run(writer, part) if kind == 'run' else f'>{kind}\n' + writer.lines(part) for kind in runs)
+    lines = ''.join(
+        random_run(writer, part) if kind == 'run' else f'>{kind}\n' + writer.lines(part)
+        for kind in runs
+    )
     return f'{header}\n' + (lines or writer.lines(count))
 
 
@@ -347,11 +398,15 @@ def random_move(pick, kind, backing, count):
 
 def random_sections(seed, count):
     pick = random.Random(seed)
-    sections = [random_section(pick, 'P0,P1,N3', ','.join(backings), count)
-                for backings in (BACKINGS, BACKINGS[:3])]
+    sections = [
+        random_section(pick, 'P0,P1,N3', ','.join(backings), count)
+        for backings in (BACKINGS, BACKINGS[:3])
+    ]
     sections += [random_section(pick, 'P0,P1,N3', 'heap', count, ['run'] * 8)]
-    sections += [random_section(pick, kind, backing, count, ['sweeps'])
-                 for kind, backing in (('P1', 'heap'), ('N3', 'array'), ('N3', 'limited'))]
+    sections += [
+        random_section(pick, kind, backing, count, ['sweeps'])
+        for kind, backing in (('P1', 'heap'), ('N3', 'array'), ('N3', 'limited'))
+    ]
     sections += [random_move(pick, kind, backing, count) for kind, backing in MOVING]
     return ''.join(f'# random lines of seed {seed}\n{section}' for section in sections)
 
@@ -374,14 +429,23 @@ STATE = 'all\nshow 4\nwalk 2\nwalk 3\n'
 
 
 def fault_sections():
-    """The routes, by a reader that gives so many bytes and by a writer that takes so many, for each number of them."""
+    """The routes, by a reader that gives so many bytes and by a writer that takes so many.
+
+    Each number of bytes has its turn.
+    """
     size = len(Store(4, 4, 2).text(ROUTES.encode()))
-    cuts = [(f'a reader gives {k} bytes and then {end}', f'run {how}', ROUTES[:k])
-            for how, end in (('broken', 'fails'), ('plain', 'ends')) for k in range(len(ROUTES) + 1)]
-    cuts += [(f'a writer takes {k} bytes and then {end}', f'run {how} 0 0 {k}' if k else f'run {at_once}', ROUTES)
-             for how, at_once, end in (('plain', 'full', 'fails'), ('stalling', 'idle', 'takes none'))
-             for k in range(size + 1)]
-    return ''.join(f'# {shown}\nP0,N3 heap,array 4 4 2 0 8\n>{words}\n{lines}>run\n{STATE}' for shown, words, lines in cuts)
+    cuts = []
+    for how, end in (('broken', 'fails'), ('plain', 'ends')):
+        for k in range(len(ROUTES) + 1):
+            cuts.append((f'a reader gives {k} bytes and then {end}', f'run {how}', ROUTES[:k]))
+    for how, at_once, end in (('plain', 'full', 'fails'), ('stalling', 'idle', 'takes none')):
+        for k in range(size + 1):
+            words = f'run {how} 0 0 {k}' if k else f'run {at_once}'
+            cuts.append((f'a writer takes {k} bytes and then {end}', words, ROUTES))
+    return ''.join(
+        f'# {shown}\nP0,N3 heap,array 4 4 2 0 8\n>{words}\n{lines}>run\n{STATE}'
+        for shown, words, lines in cuts
+    )
 
 
 def random_lines(seed, count):

@@ -1,6 +1,7 @@
-"""What a route book must answer, by a model that knows nothing of the library: tickets, links by ticket, and a sorted list.
+"""What a route book must answer, by a model that knows nothing of the library.
 
-It is written from the rules of the lines. Places and stops have a counter each, which a removal steps, and `pack` resets.
+It has tickets, links by ticket, and a sorted list. It is written from the rules of the lines.
+Places and stops have a counter each, which a removal steps, and `pack` resets.
 """
 import re
 
@@ -8,9 +9,25 @@ LAST_TICKET = 2**64 - 1
 NUMBER = '(0|[1-9][0-9]*)'
 WORD = '([a-z0-9]{1,16})'
 # The fields of each line behind its verb: n is a number and w a word.
-FORMS = {'place': 'nw', 'word': 'nw', 'show': 'n', 'find': 'n', 'floor': 'n', 'after': 'n', 'before': 'n', 'all': '',
-         'remove': 'n', 'start': 'n', 'extend': 'nn', 'join': 'nn', 'cut': 'n', 'swap': 'nn', 'walk': 'n', 'mark': 'nn',
-         'pack': ''}
+FORMS = {
+    'place': 'nw',
+    'word': 'nw',
+    'show': 'n',
+    'find': 'n',
+    'floor': 'n',
+    'after': 'n',
+    'before': 'n',
+    'all': '',
+    'remove': 'n',
+    'start': 'n',
+    'extend': 'nn',
+    'join': 'nn',
+    'cut': 'n',
+    'swap': 'nn',
+    'walk': 'n',
+    'mark': 'nn',
+    'pack': '',
+}
 
 
 class Refused(Exception):
@@ -27,18 +44,21 @@ def spelled(line):
         hint = f'(?: near {NUMBER})?' if verb == 'place' else ''
         found = re.fullmatch(verb + fields + hint, text)
         if found:
-            values = list(found.groups())
-            values = [v if v is None or field == 'w' else int(v) for field, v in zip(form + 'n', values)]
+            values = [
+                v if v is None or field == 'w' else int(v)
+                for field, v in zip(form + 'n', found.groups())
+            ]
             if all(not isinstance(v, int) or v < 2**64 for v in values):
                 return verb, values
     return None
 
 
 class Store:
-    """A store. `next` and `previous` lead from a stop to its neighbors, and lack one that it does not have.
+    """A store.
 
-    A removal whose counter is at `generations` sweeps first, as `pack` does. `looks` is how many stored references the last
-    line looked at.
+    `next` and `previous` lead from a stop to its neighbors, and lack one that it does not have.
+    A removal whose counter is at `generations` sweeps first, as `pack` does. `looks` is how many
+    stored references the last line looked at.
     """
 
     def __init__(self, places, stops, marks, last=0, generations=LAST_TICKET):
@@ -239,7 +259,7 @@ class Store:
             return [str(refusal)]
 
     def text(self, data):
-        """The replies to the lines of an input, and to what follows the last LF, if there is anything."""
+        """The replies to the lines of an input, and to what stands behind the last LF, if any."""
         *whole, rest = data.split(b'\n')
         replies = [reply for line in whole for reply in self.reply(line)] + ['bad'] * bool(rest)
         return ''.join(reply + '\n' for reply in replies)

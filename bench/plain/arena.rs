@@ -1,5 +1,5 @@
-//! A plain arena: slots in a `Vec`, a free list through the free ones, and a counter of removals that new entries
-//! take as their generation. The benchmark compares the proved arena with it.
+//! A plain arena: slots in a `Vec`, a free list through the free ones, and a counter of removals
+//! that new entries take as their generation. The benchmark compares the proved arena with it.
 use std::num::{NonZeroU64, NonZeroUsize};
 
 #[derive(Clone, Copy)]

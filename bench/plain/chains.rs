@@ -1,5 +1,6 @@
-//! usage: chains slab|list queue|turn|rotate|walk|iterate|fill|renumber|transfer|clone STEPS, with the operations of the Rattle program `bench`, over a
-//! doubly linked list in a slab by hand, or over std's `LinkedList`.
+//! usage: chains slab|list queue|turn|rotate|walk|iterate|fill|renumber|transfer|clone STEPS, with
+//! the operations of the Rattle program `bench`, over a doubly linked list in a slab by hand, or
+//! over std's `LinkedList`.
 mod timed;
 
 use std::collections::LinkedList;
@@ -158,7 +159,8 @@ fn in_slab(operation: &str, steps: usize) -> Option<u64> {
             "clone" => slab.clone(),
             _ => slab,
         };
-        return Some(slab.along().fold(0, |sum: u64, value| sum.wrapping_mul(31).wrapping_add(value)));
+        let sum = |sum: u64, value| sum.wrapping_mul(31).wrapping_add(value);
+        return Some(slab.along().fold(0, sum));
     }
     let mut sequence = Sequence::new();
     let (mut slab, mut first, mut last) = slab(&mut sequence);
@@ -251,8 +253,9 @@ fn in_list(operation: &str, steps: usize) -> Option<u64> {
     Some(sum)
 }
 
-/// Links of one list, each of which is put in behind one that is there. The first one in is the first of the list. A link
-/// without a next one is read and removed without its value, as in the Rattle program.
+/// Links of one list, each of which is put in behind one that is there. The first one in is the
+/// first of the list. A link without a next one is read and removed without its value, as in the
+/// Rattle program.
 struct Numbered {
     slab: Slab,
     places: Vec<usize>,
@@ -295,7 +298,10 @@ impl Entries for Numbered {
 
 fn main() -> ExitCode {
     let args: Vec<String> = env::args().collect();
-    if let [_, word, words @ ..] = args.as_slice() && word == "timed" && timed::run::<Numbered>(words).is_some() {
+    if let [_, word, words @ ..] = args.as_slice()
+        && word == "timed"
+        && timed::run::<Numbered>(words).is_some()
+    {
         return ExitCode::SUCCESS;
     }
     let sum = match args.as_slice() {
@@ -312,7 +318,10 @@ fn main() -> ExitCode {
             ExitCode::SUCCESS
         }
         None => {
-            eprintln!("usage: chains slab|list queue|turn|rotate|walk|iterate STEPS, chains slab fill|renumber|transfer|clone STEPS");
+            eprintln!(
+                "usage: chains slab|list queue|turn|rotate|walk|iterate STEPS, \
+                chains slab fill|renumber|transfer|clone STEPS"
+            );
             eprintln!("       chains timed insert|remove|walk|canonical_walk LEN STEPS PASSES");
             ExitCode::from(2)
         }

@@ -1,5 +1,6 @@
-//! usage: plain insert|remove|remove_inx|get|write|advance|iterate|clone|drain|churn|loop STEPS, with the operations of the Rattle program
-//! `bench`, over the plain arena, or over that of `slotmap` where it is built with `--cfg slotmap`.
+//! usage: plain insert|remove|remove_inx|get|write|advance|iterate|clone|drain|churn|loop STEPS,
+//! with the operations of the Rattle program `bench`, over the plain arena, or over that of
+//! `slotmap` where it is built with `--cfg slotmap`.
 #[cfg_attr(slotmap, path = "slotmap.rs")]
 mod arena;
 mod timed;
@@ -258,7 +259,10 @@ fn run(operation: &str, steps: usize) -> Option<u64> {
 
 fn main() -> ExitCode {
     let args: Vec<String> = env::args().collect();
-    if let [_, word, words @ ..] = args.as_slice() && word == "timed" && timed::run::<Numbered>(words).is_some() {
+    if let [_, word, words @ ..] = args.as_slice()
+        && word == "timed"
+        && timed::run::<Numbered>(words).is_some()
+    {
         return ExitCode::SUCCESS;
     }
     let sum = match args.as_slice() {
@@ -271,7 +275,10 @@ fn main() -> ExitCode {
             ExitCode::SUCCESS
         }
         None => {
-            eprintln!("usage: plain insert|remove|remove_inx|get|write|advance|iterate|clone|drain|churn|loop STEPS");
+            eprintln!(
+                "usage: plain insert|remove|remove_inx|get|write|advance|iterate|clone|drain|churn|\
+                loop STEPS"
+            );
             eprintln!("       plain timed insert|find|remove|churn|walk LEN STEPS PASSES");
             ExitCode::from(2)
         }

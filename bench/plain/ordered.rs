@@ -1,5 +1,6 @@
-//! usage: ordered map|slab insert|find|remove|cancel|walk|renumber|transfer|clone LEN STEPS, with the operations of the Rattle program `bench`, over
-//! std's `BTreeMap` from keys to values, or over one from keys to the indexes of a slab that holds the entries.
+//! usage: ordered map|slab insert|find|remove|cancel|walk|renumber|transfer|clone LEN STEPS, with
+//! the operations of the Rattle program `bench`, over std's `BTreeMap` from keys to values, or over
+//! one from keys to the indexes of a slab that holds the entries.
 mod timed;
 
 use std::collections::BTreeMap;
@@ -317,7 +318,8 @@ impl<const BY_INDEX: bool> Entries for Numbered<BY_INDEX> {
     }
 }
 
-/// Times an operation, if these are words for that. A map has no other reference to an entry than its key.
+/// Times an operation, if these are words for that. A map has no other reference to an entry than
+/// its key.
 fn time(words: &[String]) -> Option<()> {
     let [word, kind, words @ ..] = words else {
         return None;
@@ -360,8 +362,14 @@ fn main() -> ExitCode {
             ExitCode::SUCCESS
         }
         None => {
-            eprintln!("usage: ordered map|slab insert|find|remove|cancel|walk|renumber|transfer|clone LEN STEPS");
-            eprintln!("       ordered timed map|slab insert|find|remove|cancel|churn|walk|canonical_find|canonical_walk LEN STEPS PASSES");
+            eprintln!(
+                "usage: ordered map|slab insert|find|remove|cancel|walk|renumber|transfer|clone \
+                LEN STEPS"
+            );
+            eprintln!(
+                "       ordered timed map|slab insert|find|remove|cancel|churn|walk|\
+                canonical_find|canonical_walk LEN STEPS PASSES"
+            );
             ExitCode::from(2)
         }
     }

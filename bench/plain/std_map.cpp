@@ -1,5 +1,5 @@
-// std_map OPERATION LEN STEPS PASSES: times steps on a `std::map`, a thousand at a time, as `timed.rs`
-// does for a `BTreeMap`.
+// std_map OPERATION LEN STEPS PASSES: times steps on a `std::map`, a thousand at a time, as
+// `timed.rs` does for a `BTreeMap`.
 #include <chrono>
 #include <cstdint>
 #include <cstdio>

@@ -1,5 +1,6 @@
-//! The store's line language over std's `BTreeSet` and `HashMap`: `store PLACES STOPS MARKS`, from the standard input to
-//! the standard output. A reply is written before the next line is carried out.
+//! The store's line language over std's `BTreeSet` and `HashMap`: `store PLACES STOPS MARKS`, from
+//! the standard input to the standard output. A reply is written before the next line is carried
+//! out.
 use std::collections::{BTreeSet, HashMap};
 use std::io::{self, BufRead, Write};
 use std::ops::Bound::{Excluded, Unbounded};

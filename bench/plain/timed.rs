@@ -77,7 +77,8 @@ pub fn with(sum: u64, number: u64) -> u64 {
     sum.wrapping_mul(31).wrapping_add(number)
 }
 
-/// Carries out the words OPERATION LEN STEPS PASSES: a line for each thousand steps, and a checksum.
+/// Carries out the words OPERATION LEN STEPS PASSES: a line for each thousand steps, and a
+/// checksum.
 pub fn run<T: Entries>(words: &[String]) -> Option<()> {
     let [operation, len, steps, passes] = words else {
         return None;
