@@ -11,10 +11,10 @@ use Rattle.triple_arena.specs.Content.{Content, get, entry_at, live_count}
 use Rattle.triple_arena.specs.Entries.{generation_at, value_if, with_entry, without}
 use Rattle.triple_arena_chain.specs.declared.kind.InsertKind.TheVariants.{NextTo}
 use Rattle.triple_arena_chain.specs.LinkShape.{IndexLink}
-use Rattle.triple_arena_chain.specs.declared.place.Place.{Place}
+use Rattle.triple_arena_chain.specs.declared.gap.Gap.{Gap}
 use Rattle.triple_arena_chain.specs.KindLaws.{put-next_to}
-use Rattle.triple_arena_chain.specs.Links.{link_ends, values_in, ends_in, ends_found, place_among}
-use Rattle.triple_arena_chain.specs.Links.{IsChained, IsPlaced, IsTakenOut}
+use Rattle.triple_arena_chain.specs.Links.{link_ends, values_in, ends_in, ends_found, gap_among}
+use Rattle.triple_arena_chain.specs.Links.{IsChained, IsLinkInserted, IsTakenOut}
 use Rattle.examples.proofs.PlaylistLemmas.{told, moved}
 use Rattle.examples.proofs.ReversalLemmas.{generation_of, finds, live_with}
 use Rattle.examples.specs.Playlists.{IsMoved}
@@ -64,10 +64,10 @@ pub record Settled {P I T : Type 0} (index generation : P → ℕ) (number : I �
 module _ {P I T : Type 0} (index generation : P → ℕ) (number : I → ℕ) (last : Option ℕ)
     (old between : Content (IndexLink I T)) (p q : P)
     (taken : IsTakenOut number last (index p) old between) where
-  -- another song is there as before, so that there is a place directly after it
-  pub place_left : index p ≢ index q → IsSome (get old (index q) (generation q))
-      → IsSome (place_among index generation number between (NextTo q))
-  place_left differs there =
+  -- another song is there as before, so that there is a gap directly after it
+  pub gap_left : index p ≢ index q → IsSome (get old (index q) (generation q))
+      → IsSome (gap_among index generation number between (NextTo q))
+  gap_left differs there =
       some_mapped _ (ends_found number between (index q) (generation q)) found
     where
       before : generation_at (values_in old) (index q) ≡ Some (generation q)
@@ -87,32 +87,32 @@ module _ {P I T : Type 0} (index generation : P → ℕ) (number : I → ℕ) (l
           (live_with number between (index q) (generation q) has)
 
   module _ (new : Content (IndexLink I T)) (t : T) (chained : IsChained number between)
-      (there : IsSome (place_among index generation number between (NextTo q))) where
-    settled : (n : P) → IfSome (place_among index generation number between (NextTo q))
-        (λ place. IsPlaced number place (index n) (generation n) t between new)
+      (there : IsSome (gap_among index generation number between (NextTo q))) where
+    settled : (n : P) → IfSome (gap_among index generation number between (NextTo q))
+        (λ gap. IsLinkInserted number gap (index n) (generation n) t between new)
         → Settled index generation number last old new p q t n
-    settled n placed =
+    settled n inserted =
         record {
           lists = moved (ends_in number old) (ends_in number between) (ends_in number new) (index p)
               (index q) (index n) taken.lists chained.agreed
               (put-next_to index generation number between new q (index n) (generation n) t there
-              placed);
+              inserted);
           songs = tell
-              (λ place at. put_over (values_in old) (values_in between) (values_in new) (index p)
+              (λ gap at. put_over (values_in old) (values_in between) (values_in new) (index p)
               (index n) (generation n, t) taken.values at.values);
-          live = tell (λ place at. at.live ∙ taken.live);
-          counter = tell (λ place at. at.counter ∙ taken.counter);
+          live = tell (λ gap at. at.live ∙ taken.live);
+          counter = tell (λ gap at. at.counter ∙ taken.counter);
         }
       where
-        tell : {X : Type 0} → ((place : Place ℕ)
-            → IsPlaced number place (index n) (generation n) t between new → X) → X
+        tell : {X : Type 0} → ((gap : Gap ℕ)
+            → IsLinkInserted number gap (index n) (generation n) t between new → X) → X
         tell say = told number between new (index n) (generation n) t
-            (place_among index generation number between (NextTo q)) there placed say
+            (gap_among index generation number between (NextTo q)) there inserted say
 
     -- the answer, which is there
     pub answered : {E : Type 0} (r : Result P E) (o : Option P) → IsOk r → o ≡ result_ok r
-        → IfOk r (λ n. IfSome (place_among index generation number between (NextTo q))
-        (λ place. IsPlaced number place (index n) (generation n) t between new))
+        → IfOk r (λ n. IfSome (gap_among index generation number between (NextTo q))
+        (λ gap. IsLinkInserted number gap (index n) (generation n) t between new))
         → (n : P) × (o ≡ Some n) × Settled index generation number last old new p q t n
-    answered (Ok n) o ok is placed = (n, is, settled n placed)
-    answered (Err e) o ok is placed = absurd (true≢false (sym ok))
+    answered (Ok n) o ok is inserted = (n, is, settled n inserted)
+    answered (Err e) o ok is inserted = absurd (true≢false (sym ok))

@@ -12,23 +12,23 @@ use Rattle.examples.specs.Playlists.{length_of, length_at, IsMoved}
 use Rattle.triple_arena.specs.Content.{Content}
 use Rattle.triple_arena_chain.specs.declared.kind.InsertKind.TheVariants.{NextTo}
 use Rattle.triple_arena_chain.specs.LinkShape.{IndexLink}
-use Rattle.triple_arena_chain.specs.declared.place.Place.{Place}
+use Rattle.triple_arena_chain.specs.declared.gap.Gap.{Gap}
 use Rattle.triple_arena_chain.specs.Chains.{Ends, next_at, IsAgreed, Off, IsLinear, IsRing}
 use Rattle.triple_arena_chain.specs.InsertionListLaws.{linear-put_after, ring-put_after}
 use Rattle.triple_arena_chain.specs.InsertionListLaws.{others-put_after, linear-moved}
 use Rattle.triple_arena_chain.specs.KindLaws.{put-next_to}
-use Rattle.triple_arena_chain.specs.Links.{ends_in, values_in, place_among, IsChained, IsPlaced}
+use Rattle.triple_arena_chain.specs.Links.{ends_in, values_in, gap_among, IsChained, IsLinkInserted}
 use Rattle.triple_arena_chain.specs.ListLaws.{turned}
 use Rattle.triple_arena_chain.specs.Lists.{Chain, Linear, Cyclic, members, IsChainOf, IsPutIn}
 use Rattle.triple_arena_chain.specs.Lists.{IsTaken}
 
 module _ {I T : Type 0} (number : I → ℕ) (c d : Content (IndexLink I T)) (i g : ℕ) (t : T) where
-  -- what the place tells where there is one
-  pub told : {X : Type 0} (o : Option (Place ℕ)) → IsSome o
-      → IfSome o (λ place. IsPlaced number place i g t c d)
-      → ((place : Place ℕ) → IsPlaced number place i g t c d → X) → X
-  told None there placed tell = absurd (true≢false (sym there))
-  told (Some place) there placed tell = tell place placed
+  -- what the gap tells where there is one
+  pub told : {X : Type 0} (o : Option (Gap ℕ)) → IsSome o
+      → IfSome o (λ gap. IsLinkInserted number gap i g t c d)
+      → ((gap : Gap ℕ) → IsLinkInserted number gap i g t c d → X) → X
+  told None there inserted tell = absurd (true≢false (sym there))
+  told (Some gap) there inserted tell = tell gap inserted
 
 module _ {P E I T : Type 0} (index generation : P → ℕ) (number : I → ℕ)
     (c d : Content (IndexLink I T)) (p : P) (t : T) where
@@ -46,11 +46,11 @@ module _ {P E I T : Type 0} (index generation : P → ℕ) (number : I → ℕ)
     pub counter : d.counter ≡ c.counter
 
   pub added : (r : Result P E) → IsChained number c
-      → (IsOk r → IsSome (place_among index generation number c (NextTo p)))
-      → IfOk r (λ q. IfSome (place_among index generation number c (NextTo p))
-      (λ place. IsPlaced number place (index q) (generation q) t c d))
+      → (IsOk r → IsSome (gap_among index generation number c (NextTo p)))
+      → IfOk r (λ q. IfSome (gap_among index generation number c (NextTo p))
+      (λ gap. IsLinkInserted number gap (index q) (generation q) t c d))
       → OnErr r (d ≡ c) → Added r
-  added (Err e) chained there placed same =
+  added (Err e) chained there inserted same =
       record {
         song = tt;
         linear = tt;
@@ -58,21 +58,21 @@ module _ {P E I T : Type 0} (index generation : P → ℕ) (number : I → ℕ)
         others = λ l chain off. subst (λ x. IsChainOf (ends_in number x) l) (sym same) chain;
         counter = ap (λ x. x.counter) same;
       }
-  added (Ok q) chained there placed same =
+  added (Ok q) chained there inserted same =
       let old = ends_in number c in
       let new = ends_in number d in
       let put = put-next_to index generation number c d p (index q) (generation q) t (there refl)
-      placed in
+      inserted in
       record {
         song = told number c d (index q) (generation q) t
-            (place_among index generation number c (NextTo p)) (there refl) placed
-            (λ place at. at.values);
+            (gap_among index generation number c (NextTo p)) (there refl) inserted
+            (λ gap at. at.values);
         linear = linear-put_after old new (index p) (index q) put;
         ring = ring-put_after old new (index p) (index q) put;
         others = others-put_after old new (index p) (index q) put chained.agreed;
         counter = told number c d (index q) (generation q) t
-            (place_among index generation number c (NextTo p)) (there refl) placed
-            (λ place at. at.counter);
+            (gap_among index generation number c (NextTo p)) (there refl) inserted
+            (λ gap at. at.counter);
       }
 
 -- what was taken out stands directly after `q` once it is put in there

@@ -17,7 +17,7 @@ use Rattle.triple_arena_chain.specs.Kinds.{at_bridge}
 use Rattle.triple_arena_chain.specs.ListLaws.{off_or_not, on_differs, holds_next, holds_prev}
 use Rattle.triple_arena_chain.specs.ListLaws.{live_next_in}
 use Rattle.triple_arena_chain.specs.Links.{valued, values_in, link_ends, entry_ends, ends_in}
-use Rattle.triple_arena_chain.specs.Links.{ends_found, place_among, IsChained, IsRelinked}
+use Rattle.triple_arena_chain.specs.Links.{ends_found, gap_among, IsChained, IsRelinked}
 use Rattle.triple_arena_chain.specs.Lists.{Chain, Cyclic, members, IsChainOf, IsAppended, IsSplit}
 use Rattle.triple_arena_chain.specs.Lists.{IsExchanged}
 
@@ -287,7 +287,7 @@ module _ {I T : Type 0} (number : I → ℕ) (c m : Content (IndexLink I T)) (o 
     pub fits : {P : Type 0} (index generation : P → ℕ) (first second : P) → index first ≡ p
         → generation first ≡ g → index second ≡ q
         → generation second ≡ h
-        → IsSome (place_among index generation number b (Bridge second first))
+        → IsSome (gap_among index generation number b (Bridge second first))
     fits index generation first second first_is gen_is second_is gen_is' =
         rw (first_is, gen_is, second_is, gen_is')
         (let before : generation_at (values_in b) q ≡ Some h =

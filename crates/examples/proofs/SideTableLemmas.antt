@@ -1,8 +1,8 @@
--- A table that follows the pointers of an arena: a step of its walk, the end, and what follows from
--- the map of a compression.
+-- A table that follows the pointers of an arena: what a step carries over, and what follows from the
+-- map of a compression.
 use Rattle.std.proofs.Common.{◌≡◌, ◌≢◌, ◌∙◌, sym, ap, subst, refl, ℕ, zero, suc, ◌+◌, ◌<◌, ◌≤◌}
 use Rattle.std.proofs.Common.{arith, List, [], ◌∷◌, map, length, get_or, slice_get}
-use Rattle.std.proofs.Common.{inl, inr, Option, Some, None, IsSome, IfSome, IfNone, OnSome, false}
+use Rattle.std.proofs.Common.{inl, inr, Option, Some, None, IsSome, IfSome, IfNone, OnSome}
 use Rattle.std.proofs.Common.{is_some, true≢false}
 use Rattle.std.specs.List.Sorted.{IsStrictlyIncreasing}
 use Rattle.std.specs.Option.{option_map}
@@ -26,7 +26,6 @@ use Rattle.triple_arena.specs.LiveEntries.{live_entries, live_entries-increase}
 use Rattle.triple_arena.specs.Recaster.{pointer_in, IsRecaster}
 use Rattle.triple_arena.specs.RecasterLaws.{listed-found, found-listed, recaster-follows}
 use Rattle.triple_arena.specs.RecasterLaws.{recaster-names_valid}
-use Rattle.triple_arena.specs.Walk.{Walk, IsFirstLive, Steps}
 use Rattle.examples.specs.SideTable.{Rises, NeverGoesUp, IsCarried, IsTaken, with_moved}
 
 module _ {T : Type 0} where
@@ -44,23 +43,6 @@ module _ {T : Type 0} where
   -- what an entry that a generation does not find is not
   not_found : (o : Option (ℕ × T)) (g : ℕ) (t : T) → value_if g o ≡ None → o ≡ Some (g, t) → ⊥
   not_found o g t none is = true≢false (sym (ap is_some (sym none ∙ found o g t is)))
-
-  -- what a step passes is free
-  pub between : (at : ℕ → Option (ℕ × T)) (w : Walk) (i g : ℕ) → w.falls ≡ false
-      → IsFirstLive at w i g → (j : ℕ) → w.low ≤ j → j < i → at j ≡ None
-  between at w i g rises first j back less =
-      let within = first.ahead.1 in
-      first.first j (back, omega (arith, less, within)) (rw rises less)
-
-  -- at the end nothing is ahead
-  pub all_passed : (at : ℕ → Option (ℕ × T)) (w v : Walk)
-      → ((j : ℕ) → IsSome (at j) → j ≤ w.high) → Steps at w None v → (j : ℕ)
-      → IsSome (at j) → j < w.low
-  all_passed at w v reaches step j some = elim (leb_tells w.low j) [
-    | inr less ↦ less.1
-    | inl back ↦ absurd (true≢false
-        (sym some ∙ ap is_some (step.0 j (back.1, reaches j some))))
-  ]
 
   without_other : (at : ℕ → Option (ℕ × T)) (i j : ℕ) → j ≢ i → without at i j ≡ at j
   without_other at i j other = rw (ne_eqb j i other) refl

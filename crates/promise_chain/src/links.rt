@@ -7,7 +7,7 @@ ghost use Rattle.triple_arena.specs.Entries.{value_if};
 ghost use Rattle.triple_arena_chain.specs.declared.kind.InsertKind.TheVariants.{Bridge};
 ghost use Rattle.triple_arena_chain.specs.Chains.{next_in, prev_in, next_at, prev_at, linked};
 ghost use Rattle.triple_arena_chain.specs.Chains.{unlinked, exchanged};
-ghost use Rattle.triple_arena_chain.specs.Links.{ends_in, ends_found, values_in, place_among};
+ghost use Rattle.triple_arena_chain.specs.Links.{ends_in, ends_found, values_in, gap_among};
 ghost use Rattle.triple_arena_chain.specs.Links.{IsChained, IsRelinked};
 ghost use Rattle.triple_arena_chain.specs.Lists.{IsAppended, IsSplit, IsExchanged};
 ghost use Rattle.triple_arena_chain.specs.Values.{IsLivePtr};
@@ -50,7 +50,7 @@ pub fn connect<P: PtrCore, T: Drop, C: ChainArenaTrait<P, T>>(
     q: P,
 ) -> Option<()>
     ensures variant { IsSome result
-        ↔ IsSome (place_among P.index P.generation P.Inx.number (C.links chains.old) (Bridge p q)) }
+        ↔ IsSome (gap_among P.index P.generation P.Inx.number (C.links chains.old) (Bridge p q)) }
     ensures relinked { OnSome result (IsRelinked P.Inx.number
         (linked (ends_in P.Inx.number (C.links chains.old)) (P.index p) (P.index q))
         (C.links chains.old) (C.links chains.new)) }

@@ -5,12 +5,12 @@ ghost use Rattle.std.specs.Option.{option_map};
 ghost use Rattle.std.specs.Borrow.{sem, RestsIfErr};
 ghost use Rattle.triple_arena.specs.Content.{arena_capacity};
 ghost use Rattle.triple_arena_ord.specs.Inserted.{IsAdded, Replaces, StandsAt};
-ghost use Rattle.triple_arena_ord.specs.Inserted.{IsInsertedAt, IsKeyInserted, within_room};
+ghost use Rattle.triple_arena_ord.specs.Inserted.{IsInsertedAt, InsertsByKey, within_room};
 ghost use Rattle.triple_arena_ord.specs.Inserted.{growing_room, room_made, under};
 ghost use Rattle.triple_arena_ord.specs.InsertEntry.{entry_arena, entry_lender, entry_place};
 ghost use Rattle.triple_arena_ord.specs.InsertEntry.{IsReady, IsOrdAnswer};
 ghost use Rattle.triple_arena_ord.specs.Placing.{Meets, IsPlaceFor};
-ghost use Rattle.triple_arena_ord.specs.Ordered.{IsOrdered, IsAscending};
+ghost use Rattle.triple_arena_ord.specs.Ordered.{IsOrdered};
 ghost use Rattle.triple_arena_ord.specs.Ordered.{entry_in, order_in, size_in};
 ghost use Rattle.triple_arena_ord.specs.contracts.ord_arena.SimpleOrdArena.{the_row};
 
@@ -27,13 +27,8 @@ pub fn insert_within_capacity<P: PtrCore, T: SimpleOrdItem + Drop, S: OrdSlots<P
     arena: &mut SimpleOrdArena<P, T, S>,
     t: T,
 ) -> Result<(P, Option<T>), OrdInsertionError>
-    ensures inserted { IsKeyInserted P.Inx.number T.Key.cmp T.key_of P.index P.generation
-        (within_room (size_in arena.old) arena.old.chains.room) t result arena.old arena.new }
-    ensures ascending { IsAscending P.Inx.number T.Key.cmp T.key_of arena.old
-        → IsAscending P.Inx.number T.Key.cmp T.key_of arena.new }
-    ensures counter { arena.new.chains.counter ≡ arena.old.chains.counter }
-    ensures room { arena.new.chains.room ≡ arena.old.chains.room }
-    ensures ordered { IsOrdered P.Inx.number arena.new }
+    ensures { InsertsByKey P.Inx.number T.Key.cmp T.key_of P.index P.generation None
+        t result arena.old arena.new }
 {
     let inserted = arena.insert_within_capacity(t);
     inserted

@@ -9,9 +9,9 @@ ghost use Rattle.rank_tree.specs.Named.{named};
 use crate::{Side, TreeLinks, side_of};
 use triple_arena_ptr::PtrCore;
 
-/// A place that keeps the nodes of a tree by the indexes of a pointer type, and whatever else
-/// beside them. `N` is the type of what it keeps the nodes in, so that the crate of that type can
-/// write the `impl` for an arena of another crate.
+/// What keeps the nodes of a tree by the indexes of a pointer type, and whatever else beside them.
+/// `N` is the type of what it keeps the nodes in, so that the crate of that type can write the
+/// `impl` for an arena of another crate.
 pub trait Knots<N, P: PtrCore> {
     // The node at each index.
     ghost knots: { Self → Store };

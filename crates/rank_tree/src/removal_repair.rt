@@ -6,9 +6,9 @@ ghost use Rattle.rank_tree.specs.Tree.{walk};
 ghost use Rattle.rank_tree.specs.Shape.{plug};
 ghost use Rattle.rank_tree.specs.Repair.{Short, Broken, Pending, Restored, Loose, KeptOff};
 
+use crate::around::look_around;
 use crate::edges::detach;
 use crate::knots::rank_at;
-use crate::looks::look_around;
 use crate::turn::turn;
 use crate::{Knots, Side};
 use triple_arena_ptr::PtrCore;

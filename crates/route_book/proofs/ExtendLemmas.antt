@@ -9,10 +9,10 @@ use Rattle.triple_arena_stack.specs.Room.{capacity}
 use Rattle.triple_arena_chain.specs.Chains.{Ends, IsAgreed, next_at}
 use Rattle.triple_arena_chain.specs.Kinds.{after_link}
 use Rattle.triple_arena_chain.specs.LinkShape.{IndexLink}
-use Rattle.triple_arena_chain.specs.declared.place.Place.{Place as LinkPlace}
-use Rattle.triple_arena_chain.specs.declared.place.Place.TheVariants.{Between}
+use Rattle.triple_arena_chain.specs.declared.gap.Gap.{Gap}
+use Rattle.triple_arena_chain.specs.declared.gap.Gap.TheVariants.{Between}
 use Rattle.triple_arena_chain.specs.Links.{ends_in, ends_found, entry_ends, values_in, valued}
-use Rattle.triple_arena_chain.specs.Links.{IsChained, IsPlaced}
+use Rattle.triple_arena_chain.specs.Links.{IsChained, IsLinkInserted}
 use Rattle.triple_arena_ord.specs.Ordered.{Ordered, entry_in}
 use Rattle.ticket_book.specs.declared.entry.Kind.TheVariants.{Stop as OfStop}
 use Rattle.ticket_book.specs.Tickets.{Entry, AreBelow}
@@ -103,10 +103,10 @@ module _ {I : Type 0} (number : I → ℕ) (rooms : Rooms) (last : ℕ) (s : Sta
       (to : w.place ≡ Some (pi, pg))
       (stops' : Content (IndexLink I StopView))
       (placed : IfSome (after_link i (ends_found number stops i g))
-      (λ place. IsPlaced number place n h w stops stops'))
+      (λ gap. IsLinkInserted number gap n h w stops stops'))
       (same_room : stops'.room ≡ stops.room) where
-    put : IsPlaced number (Between (Some i) (next_at (ends_in number stops) i)) n h w stops stops'
-    put = subst (λ o. IfSome o (λ (place : LinkPlace ℕ). IsPlaced number place n h w stops stops'))
+    put : IsLinkInserted number (Between (Some i) (next_at (ends_in number stops) i)) n h w stops stops'
+    put = subst (λ o. IfSome o (λ (gap : Gap ℕ). IsLinkInserted number gap n h w stops stops'))
         (behind_is number stops i g v own_at) placed
 
     vacant : values_in stops n ≡ None
@@ -274,7 +274,7 @@ module _ {I : Type 0} (number : I → ℕ) (rooms : Rooms) (last : ℕ) (s : Sta
       (ticket : w.ticket ≡ last + 1) (to : w.place ≡ Some (pi, pg))
       (stops' : Content (IndexLink I StopView))
       (placed : IfSome (after_link i (ends_found number stops i g))
-      (λ place. IsPlaced number place n h w stops stops'))
+      (λ gap. IsLinkInserted number gap n h w stops stops'))
       (same_room : stops'.room ≡ stops.room) where
     abbrev agreed : IsAgreed (ends_in number stops)
     agreed = (subst (λ (x : Book I). IsChained number x.stops) (sym view) chained).agreed

@@ -5,7 +5,7 @@ use Rattle.std.specs.Option.{option_map}
 use Rattle.std.proofs.lemmas.Bool.{false≢true, eq-eqb, eqb-true, ne_eqb}
 use Rattle.triple_arena_chain.specs.Chains.{Ends, IsAgreed, next_in, next_at, renext, reprev}
 use Rattle.triple_arena_chain.specs.Chains.{with_next, with_prev, with_prev_if, linked, unlinked}
-use Rattle.triple_arena_chain.specs.Chains.{exchanged, added, placed}
+use Rattle.triple_arena_chain.specs.Chains.{exchanged, added, put_between}
 use Rattle.triple_arena_chain.specs.ListLaws.{live_prev_in}
 use Rattle.route_book.specs.Follows.{ticket_at, LeadAs, AreDistinct}
 
@@ -77,7 +77,7 @@ next_added ends n i e = at (i == n)
     at false = refl
 
 next_placed : (ends : ℕ → Option Ends) (n p : ℕ) (o : Option ℕ) (i : ℕ) → IsSome (ends p) → p ≢ n
-    → next_at (placed ends n (Some p, o)) i
+    → next_at (put_between ends n (Some p, o)) i
     ≡ cond (i == p) (Some n) (cond (i == n) o (next_at ends i))
 next_placed ends n p o i live apart =
     ends_of o ∙ next_with_next (added ends n (Some p, o)) p n i
@@ -213,7 +213,7 @@ module _ {T : Type 0} (ticket : T → ℕ) (stops : ℕ → Option (ℕ × T)) (
     pub lead_extended : AreDistinct ticket stops → (p k : ℕ) (v : T) → stops p ≡ Some (k, v)
         → after (ticket v) ≡ Some (ticket new) → after (ticket new) ≡ next (ticket v)
         → ((t : ℕ) → t ≢ ticket v → t ≢ ticket new → after t ≡ next t)
-        → ((i : ℕ) → later i ≡ placed ends n (Some p, next_at ends p) i)
+        → ((i : ℕ) → later i ≡ put_between ends n (Some p, next_at ends p) i)
         → LeadAs ticket grown later after
     lead_extended distinct p k v there own fresh others is i h w here =
         at (i == p) refl (i == n) refl

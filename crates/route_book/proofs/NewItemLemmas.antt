@@ -6,8 +6,8 @@ use Rattle.triple_arena.specs.Entries.{value_if, with_entry}
 use Rattle.triple_arena.specs.Content.{Content, entry_at, live_count, arena_capacity}
 use Rattle.triple_arena_chain.specs.Chains.{IsAgreed}
 use Rattle.triple_arena_chain.specs.LinkShape.{IndexLink}
-use Rattle.triple_arena_chain.specs.declared.place.Place.TheVariants.{Between}
-use Rattle.triple_arena_chain.specs.Links.{ends_in, values_in, valued, IsChained, IsPlaced}
+use Rattle.triple_arena_chain.specs.declared.gap.Gap.TheVariants.{Between}
+use Rattle.triple_arena_chain.specs.Links.{ends_in, values_in, valued, IsChained, IsLinkInserted}
 use Rattle.triple_arena_ord.specs.Ordered.{Ordered, entry_in}
 use Rattle.ticket_book.specs.declared.entry.Kind.TheVariants.{Stop as OfStop, Mark as OfMark}
 use Rattle.ticket_book.specs.Tickets.{Entry}
@@ -49,7 +49,7 @@ module _ {I : Type 0} (number : I → ℕ) (rooms : Rooms) (last : ℕ) (s : Sta
     module _ (chained : IsChained number k.stops) (w : StopView) (n h : ℕ)
         (ticket : w.ticket ≡ last + 1) (to : w.place ≡ Some (pi, pg))
         (stops' : Content (IndexLink I StopView))
-        (put : IsPlaced number (Between None None) n h w stops stops')
+        (put : IsLinkInserted number (Between None None) n h w stops stops')
         (same_room : stops'.room ≡ stops.room) where
       abbrev agreed : IsAgreed (ends_in number stops)
       agreed = (subst (λ (x : Book I). IsChained number x.stops) (sym view) chained).agreed

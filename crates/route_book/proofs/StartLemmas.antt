@@ -12,8 +12,8 @@ use Rattle.triple_arena.specs.Content.{Content, entry_at}
 use Rattle.triple_arena_stack.specs.Room.{capacity}
 use Rattle.triple_arena_chain.specs.Chains.{IsAgreed}
 use Rattle.triple_arena_chain.specs.LinkShape.{IndexLink}
-use Rattle.triple_arena_chain.specs.declared.place.Place.TheVariants.{Between}
-use Rattle.triple_arena_chain.specs.Links.{ends_in, values_in, entry_ends, valued, IsPlaced}
+use Rattle.triple_arena_chain.specs.declared.gap.Gap.TheVariants.{Between}
+use Rattle.triple_arena_chain.specs.Links.{ends_in, values_in, entry_ends, valued, IsLinkInserted}
 use Rattle.triple_arena_ord.specs.Ordered.{Ordered, entry_in}
 use Rattle.ticket_book.specs.declared.entry.Kind.TheVariants.{Stop as OfStop}
 use Rattle.ticket_book.specs.Tickets.{Entry}
@@ -72,7 +72,7 @@ module _ {I : Type 0} (number : I → ℕ) (rooms : Rooms) (last : ℕ) (s : Sta
     (t : ℕ) (p : Place) (held : place_holder s t ≡ Ok p) (free : is_full_of_stops s ≡ false)
     (pi pg : ℕ) (found : value_if pg (entry_in places pi) ≡ Some p)
     (v : StopView) (i g : ℕ) (ticket : v.ticket ≡ last + 1) (to : v.place ≡ Some (pi, pg))
-    (put : IsPlaced number (Between None None) i g v stops stops')
+    (put : IsLinkInserted number (Between None None) i g v stops stops')
     (same_room : stops'.room ≡ stops.room) (agreed : IsAgreed (ends_in number stops))
     (nowhere : next_stop (after_start s t).routes (s.last + 1) ≡ None)
     (as_before : (u : ℕ) → u ≢ s.last + 1

@@ -1,10 +1,12 @@
 -- What a contract sees of a store, and what ties its parts.
 use Rattle.std.specs.Prelude.{◌≡◌, ℕ, ◌+◌, ◌≤◌, List, [], ◌∷◌, length, map, Option, Some, None}
+use Rattle.std.specs.Prelude.{Result, IfErr}
 use Rattle.triple_arena.specs.Content.{Content, entry_at, live_count, arena_capacity}
 use Rattle.triple_arena_chain.specs.LinkShape.{IndexLink}
 use Rattle.triple_arena_chain.specs.Links.{ends_in, values_in}
 use Rattle.triple_arena_ord.specs.Ordered.{Ordered, entry_in, ordered_entries, size_in}
 use Rattle.ticket_book.specs.Tickets.{Entry}
+use Rattle.route_lines.specs.declared.refusal.Refusal.{Refusal}
 use Rattle.route_lines.specs.Sound.{PlacesRise}
 use Rattle.route_lines.specs.State.{State, Rooms, Place, Mark, mark_of, stop_list}
 use Rattle.route_book.specs.Item.{StopView, MarkView}
@@ -98,3 +100,12 @@ module _ {I : Type 0} where
     pub stop_counter : new.stops.counter ≡ old.stops.counter
     pub mark_counter : new.marks.counter ≡ old.marks.counter
     pub rooms : KeepsRooms old new
+
+  -- a call that gives this result and leaves this state: items keep their pointers, and a refusal
+  -- changes nothing
+  pub record Changes {A : Type 0} (given : Result A Refusal) (left : State)
+      (result : Result A Refusal) (old new : Book I) : Type 0 where
+    pub gives : result ≡ given
+    pub leaves : new.state ≡ left
+    pub kept : KeepsItems old new
+    pub refused : IfErr result (λ _. new ≡ old)

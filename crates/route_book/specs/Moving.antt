@@ -1,5 +1,4 @@
--- What becomes of a store that is moved to other pointers, stacks and rooms. Each item has the
--- index there that a pack gives it.
+-- What becomes of a store that is moved to other pointers, stacks and rooms.
 use Rattle.std.specs.Prelude.{◌≡◌, ◌||◌, ℕ, ◌+◌, Bool, Option, Some, None, if◌then◌else◌, min}
 use Rattle.std.specs.Prelude.{nat_lt, length}
 use Rattle.std.specs.Option.{option_or}

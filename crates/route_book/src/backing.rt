@@ -26,8 +26,8 @@ pub type MarkSlot<P> = ArenaSlot<P, Mark<P>>;
 
 /// The stacks of a store over pointers of the type `P`, and what they take their memory from.
 ///
-/// All five are made with the same room and have the same limit, and all of them take memory or none
-/// does. A backing that mixes stacks has no proof of its laws.
+/// All five are made with the same room and have the same limit, and all of them take memory or
+/// none does. A backing that mixes stacks has no proof of its laws.
 pub trait BookBacking<P: PtrCore> {
     /// The stack of the places.
     type Places: OrdSlots<P, Place>;

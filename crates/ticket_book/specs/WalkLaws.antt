@@ -1,48 +1,10 @@
--- A walk by rising index: its steps, its end, and what a loop over it writes.
-use Rattle.std.proofs.Common.{◌≡◌, ◌≢◌, ◌∙◌, sym, ap, subst, refl, Bool, false, ℕ, ◌+◌, ◌<◌, ◌≤◌}
-use Rattle.std.proofs.Common.{inl, inr, Option, Some, None, IsSome, is_some, true≢false, arith}
+-- What a loop over a rising walk writes.
+use Rattle.std.proofs.Common.{◌≡◌, ◌≢◌, ◌∙◌, sym, ap, subst, refl, ℕ, ◌+◌, ◌<◌, ◌≤◌}
+use Rattle.std.proofs.Common.{inl, inr, Option, Some, None, IsSome, arith}
 use Rattle.std.specs.Option.{option_map}
 use Rattle.std.proofs.lemmas.Bool.{eq-eqb, ne_eqb}
 use Rattle.std.proofs.lemmas.Bool.Decides.{eqb_tells, leb_tells}
-use Rattle.triple_arena.specs.Walk.{Walk, Steps, past}
-use Rattle.triple_arena.specs.Entries.{generation_at, value_if, with_entry, with_value_at}
-
-module _ {T : Type 0} (at : ℕ → Option (ℕ × T)) (w v : Walk) (rises : w.falls ≡ false) where
-  pub record IsStep (i g : ℕ) : Type 0 where
-    pub up : w.low ≤ i
-    pub within : i ≤ w.high
-    pub low : v.low ≡ i + 1
-    pub high : v.high ≡ w.high
-    pub still_rises : v.falls ≡ false
-    pub between : (j : ℕ) → w.low ≤ j → j < i → at j ≡ None
-    pub live : generation_at at i ≡ Some g
-
-  pub step_is : (i g : ℕ) → Steps at w (Some (i, g)) v → IsStep i g
-  step_is i g step =
-      let passed : v ≡ record { low = i + 1; high = w.high; falls = false } = step.1
-      ∙ by false rises in
-      record {
-        up = step.0.ahead.0;
-        within = step.0.ahead.1;
-        low = ap (λ (x : Walk). x.low) passed;
-        high = ap (λ (x : Walk). x.high) passed;
-        still_rises = ap (λ (x : Walk). x.falls) passed;
-        between = λ j low less. step.0.first j
-            (low, (let h = step.0.ahead.1 in omega (arith, less, h))) (rw rises less);
-        live = step.0.live;
-      }
-    where
-      by : (b : Bool) → w.falls ≡ b
-          → past w i ≡ record { low = i + 1; high = w.high; falls = false }
-      by b is = rw rises refl
-
-  -- at the end nothing is ahead
-  pub end_all : (reaches : (j : ℕ) → IsSome (at j) → j ≤ w.high) → Steps at w None v → (j : ℕ)
-      → IsSome (at j) → j < w.low
-  end_all reaches step j some = elim (leb_tells w.low j) [
-    | inr less ↦ less.1
-    | inl back ↦ absurd (true≢false (sym some ∙ ap is_some (step.0 j (back.1, reaches j some))))
-  ]
+use Rattle.triple_arena.specs.Entries.{value_if, with_entry, with_value_at}
 
 -- what was live lies below where what is live does, if nothing has changed from there on
 pub all_before : {T : Type 0} (old at : ℕ → Option T) (low : ℕ) → ((j : ℕ) → low ≤ j → at j ≡ old j)

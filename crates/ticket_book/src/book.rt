@@ -70,6 +70,8 @@ impl<P: PtrCore, S: OrdSlots<P, Entry<P>>> TicketBook<P, S> {
     pub fn with_room(alloc: S::Alloc, room: usize) -> Result<Self, ReallocationError>
         ensures empty { IfOk result (λ book. book.entries ≡ []) }
         ensures fits { IfOk result (λ book. room ≤ book.capacity) }
+        ensures exact { IfOk result (λ book. book.capacity
+            ≡ capacity_of (room_of P.Inx.greatest (S.room_at room))) }
         ensures succeeds { room ≤ capacity_of (room_of P.Inx.greatest (S.room_at 0)) → IsOk result }
         ensures beyond { IsErrOf result ReallocationError.BeyondMaxCapacity
             ↔ IsBeyond (room_of P.Inx.greatest (S.room_at room)).limit room }

@@ -43,10 +43,13 @@ pub trait ArenaCloneFromWith<P: PtrCore, T: Drop>: ArenaTrait<P, T> {
     /// No memory is taken if the last live index of `source` is within the capacity, which then
     /// stays. Else the arena first grows to exactly that index. It returns `BeyondMaxCapacity` if
     /// that is past the greatest capacity, and `AllocError` if the memory was refused; the arena is
-    /// then as it was, and `map` was not called.
+    /// then as it was.
     ///
-    /// It also returns `AllocError` if `map` refused, and calls it no more. The arena then has room
-    /// for the copy, no entry, and the counter that `clear` leaves.
+    /// It also returns `AllocError` if `map` refused. The arena then has room for the copy, no
+    /// entry, and the counter that `clear` leaves.
+    ///
+    /// That `map` is not called if the growth is refused, nor again after it refused, is tested
+    /// only.
     fn clone_from_with<U, A, F>(&mut self, source: &A, map: F) -> Result<(), ReallocationError>
     where
         U: Drop,

@@ -7,7 +7,7 @@ use Rattle.triple_arena_chain.specs.LinkShape.{IndexLink}
 use Rattle.triple_arena_chain.specs.Chains.{Ends, with_next, with_next_if, with_prev_if, linked}
 use Rattle.triple_arena_chain.specs.Chains.{unlinked, exchanged, IsAgreed, next_at, prev_at}
 use Rattle.triple_arena_chain.specs.Chains.{next_in, prev_in}
-use Rattle.triple_arena_chain.specs.declared.place.Place.{Place}
+use Rattle.triple_arena_chain.specs.declared.gap.Gap.{Gap}
 use Rattle.triple_arena_chain.specs.Kinds.{at_bridge}
 use Rattle.triple_arena_chain.specs.KindLaws.{found}
 use Rattle.triple_arena_chain.specs.Links.{entry_ends, ends_in, ends_found, with_next_of}
@@ -175,23 +175,23 @@ module _ {I T : Type 0} (number : I → ℕ) where
       (agreed-exchanged e (number i) (number j) (number s) (number t) out_i out_j chained.agreed)
 
   -- the same where the numbers are those of pointers
-  pub connected : (c d : Content (IndexLink I T)) (i j : I) (p gp q gq : ℕ) (place : Place ℕ)
+  pub connected : (c d : Content (IndexLink I T)) (i j : I) (p gp q gq : ℕ) (gap : Gap ℕ)
       → IsChained number c → number i ≡ p → number j ≡ q
-      → at_bridge p q (ends_found number c p gp) (ends_found number c q gq) ≡ Some place
+      → at_bridge p q (ends_found number c p gp) (ends_found number c q gq) ≡ Some gap
       → d ≡ with_prev_of number (with_next_of number c (Some i) (Some j)) (Some j) (Some i)
       → Relinked (linked (ends_in number c) p q) c d
-  connected c d i j p gp q gq place chained is_p is_q bridge is =
+  connected c d i j p gp q gq gap chained is_p is_q bridge is =
       by (ends_found number c p gp) (ends_found number c q gq) refl refl bridge
     where
       by : (o o' : Option Ends) → ends_found number c p gp ≡ o → ends_found number c q gq ≡ o'
-          → at_bridge p q o o' ≡ Some place
+          → at_bridge p q o o' ≡ Some gap
           → Relinked (linked (ends_in number c) p q) c d
-      by None o' at at' h = absurd (let no : None ≡ Some place = h in cc)
-      by (Some v) None at at' h = absurd (let no : None ≡ Some place = h in cc)
+      by None o' at at' h = absurd (let no : None ≡ Some gap = h in cc)
+      by (Some v) None at at' h = absurd (let no : None ≡ Some gap = h in cc)
       by (Some v) (Some w) at at' h = by_ends v.1 w.0 refl refl h
         where
           by_ends : (n m : Option ℕ) → v.1 ≡ n → w.0 ≡ m
-              → at_bridge p q (Some (v.0, n)) (Some (m, w.1)) ≡ Some place
+              → at_bridge p q (Some (v.0, n)) (Some (m, w.1)) ≡ Some gap
               → Relinked (linked (ends_in number c) p q) c d
           by_ends None None end start h =
               let at_i : ends_in number c (number i) ≡ Some v = ap (ends_in number c) is_p
@@ -201,8 +201,8 @@ module _ {I T : Type 0} (number : I → ℕ) where
               let done = linked_by c d i j v w chained at_i end at_j start is in
               subst (λ n. Relinked (linked (ends_in number c) p n) c d) is_q
               (subst (λ n. Relinked (linked (ends_in number c) n (number j)) c d) is_p done)
-          by_ends None (Some m) end start h = absurd (let no : None ≡ Some place = h in cc)
-          by_ends (Some n) m end start h = absurd (let no : None ≡ Some place = h in cc)
+          by_ends None (Some m) end start h = absurd (let no : None ≡ Some gap = h in cc)
+          by_ends (Some n) m end start h = absurd (let no : None ≡ Some gap = h in cc)
 
   -- the next of what a pointer finds
   pub next_found : (c : Content (IndexLink I T)) (p gp n : ℕ) (b : Option ℕ)

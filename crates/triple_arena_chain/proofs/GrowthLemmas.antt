@@ -4,8 +4,8 @@ use Rattle.triple_arena_stack.specs.Room.{room_after}
 use Rattle.triple_arena.specs.Content.{Content, live_count, grown_if_full}
 use Rattle.triple_arena.specs.InsertionLaws.{formed-grown, entry-in_room}
 use Rattle.triple_arena_chain.specs.LinkShape.{IndexLink}
-use Rattle.triple_arena_chain.specs.declared.place.Place.{Place}
-use Rattle.triple_arena_chain.specs.Links.{entry_ends, ends_in, IsChained, IsPlaced}
+use Rattle.triple_arena_chain.specs.declared.gap.Gap.{Gap}
+use Rattle.triple_arena_chain.specs.Links.{entry_ends, ends_in, IsChained, IsLinkInserted}
 use Rattle.triple_arena_chain.specs.ChainLaws.{IsAgreed-same}
 
 module _ {I T : Type 0} (number : I → ℕ) where
@@ -21,12 +21,12 @@ module _ {I T : Type 0} (number : I → ℕ) where
       })
 
   -- an insertion after a growth is one into the arena before it
-  pub placed-grown : (c d new : Content (IndexLink I T)) (place : Place ℕ) (i g : ℕ) (t : T)
-      → d ≡ grown_if_full c → IsPlaced number place i g t d new
-      → IsPlaced number place i g t c new
-  placed-grown c d new place i g t is placed =
-      let p : IsPlaced number place i g t (grown_if_full c) new =
-      subst (λ x. IsPlaced number place i g t x new) is placed in
+  pub inserted-grown : (c d new : Content (IndexLink I T)) (gap : Gap ℕ) (i g : ℕ) (t : T)
+      → d ≡ grown_if_full c → IsLinkInserted number gap i g t d new
+      → IsLinkInserted number gap i g t c new
+  inserted-grown c d new gap i g t is inserted =
+      let p : IsLinkInserted number gap i g t (grown_if_full c) new =
+      subst (λ x. IsLinkInserted number gap i g t x new) is inserted in
       record {
         index = p.index;
         generation = p.generation;

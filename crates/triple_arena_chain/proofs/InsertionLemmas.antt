@@ -1,4 +1,4 @@
--- One more link at the place that a kind asks for.
+-- One more link at the gap that a kind asks for.
 use Rattle.std.proofs.Common.{◌≡◌, ◌≢◌, ℕ, ◌<◌, Option, Some, None, option_map, refl, sym, ap, ◌∙◌}
 use Rattle.std.proofs.Common.{inl, inr}
 use Rattle.std.proofs.lemmas.Bool.{eq-eqb, ne_eqb}
@@ -10,21 +10,21 @@ use Rattle.triple_arena.specs.InsertionLaws.{next-vacant, entry-inserted, live-i
 use Rattle.triple_arena.specs.InsertionLaws.{room-inserted, counter-inserted, free-inserted}
 use Rattle.triple_arena.specs.InsertionLaws.{slots-inserted, formed-inserted}
 use Rattle.triple_arena_chain.specs.LinkShape.{IndexLink}
-use Rattle.triple_arena_chain.specs.declared.place.Place.{Place}
-use Rattle.triple_arena_chain.specs.declared.place.Place.TheVariants.{Between, OwnRing}
+use Rattle.triple_arena_chain.specs.declared.gap.Gap.{Gap}
+use Rattle.triple_arena_chain.specs.declared.gap.Gap.TheVariants.{Between, OwnRing}
 use Rattle.triple_arena_chain.specs.Chains.{Ends, with_next_if, with_prev_if, added, put_in}
-use Rattle.triple_arena_chain.specs.Chains.{IsPlace, IsAgreed, next_at, prev_at, next_in, prev_in}
-use Rattle.triple_arena_chain.specs.Kinds.{place_by}
+use Rattle.triple_arena_chain.specs.Chains.{IsGap, IsAgreed, next_at, prev_at, next_in, prev_in}
+use Rattle.triple_arena_chain.specs.Kinds.{gap_by}
 use Rattle.triple_arena_chain.specs.Links.{valued, values_in, entry_ends, ends_in, link_ends}
 use Rattle.triple_arena_chain.specs.Links.{link_for, joined_to, with_next_of, IsKept, IsChained}
-use Rattle.triple_arena_chain.specs.Links.{IsPlaced}
+use Rattle.triple_arena_chain.specs.Links.{IsLinkInserted}
 use Rattle.triple_arena_chain.specs.LinkLaws.{ends-with_next_of, ends-with_prev_of}
 use Rattle.triple_arena_chain.specs.LinkLaws.{values-with_next_of, values-with_prev_of}
 use Rattle.triple_arena_chain.specs.LinkLaws.{kept-with_next_of, kept-with_prev_of, kept_on}
 use Rattle.triple_arena_chain.specs.LinkLaws.{formed-with_next_of, formed-with_prev_of}
 use Rattle.triple_arena_chain.specs.ChainLaws.{IsAgreed-same}
 use Rattle.triple_arena_chain.specs.Lists.{IsPutAt}
-use Rattle.triple_arena_chain.proofs.PlaceLemmas.{IsAgreed-placed}
+use Rattle.triple_arena_chain.proofs.GapLemmas.{IsAgreed-put_between}
 use Rattle.triple_arena_chain.proofs.PutInLemmas.{is_put_in, is_own_ring}
 
 pub with_next_if-same : (e f : ℕ → Option Ends) (o n : Option ℕ) → ((j : ℕ) → f j ≡ e j) → (i : ℕ)
@@ -74,30 +74,30 @@ IsAgreed-ring e n vacant agreed =
           ];
     }
 
-pub IsAgreed-put_in : (e : ℕ → Option Ends) (n : ℕ) (place : Place ℕ) → e n ≡ None → IsPlace e place
-    → IsAgreed e → IsAgreed (put_in e n place)
+pub IsAgreed-put_in : (e : ℕ → Option Ends) (n : ℕ) (gap : Gap ℕ) → e n ≡ None → IsGap e gap
+    → IsAgreed e → IsAgreed (put_in e n gap)
 IsAgreed-put_in e n (Between before after) vacant gap agreed =
-    IsAgreed-placed e n (before, after) vacant gap agreed
+    IsAgreed-put_between e n (before, after) vacant gap agreed
 IsAgreed-put_in e n OwnRing vacant gap agreed = IsAgreed-ring e n vacant agreed
 
 -- what it makes of the chains
-put_at : (e e' : ℕ → Option Ends) (n : ℕ) (place : Place ℕ) → e n ≡ None → IsPlace e place
-    → IsAgreed e → ((k : ℕ) → e' k ≡ put_in e n place k)
-    → IsPutAt place n e e'
-put_at e e' n (Between before after) vacant gap agreed same =
-    let place : Place ℕ = Between before after in
+put_at : (e e' : ℕ → Option Ends) (n : ℕ) (gap : Gap ℕ) → e n ≡ None → IsGap e gap
+    → IsAgreed e → ((k : ℕ) → e' k ≡ put_in e n gap k)
+    → IsPutAt gap n e e'
+put_at e e' n (Between before after) vacant is agreed same =
+    let gap : Gap ℕ = Between before after in
     is_put_in e e' n (before, after)
-    (IsAgreed-same (put_in e n place) e' same (IsAgreed-put_in e n place vacant gap agreed))
-    vacant gap same
-put_at e e' n OwnRing vacant gap agreed same = is_own_ring e e' n vacant same
+    (IsAgreed-same (put_in e n gap) e' same (IsAgreed-put_in e n gap vacant is agreed))
+    vacant is same
+put_at e e' n OwnRing vacant is agreed same = is_own_ring e e' n vacant same
 
 module _ {I T : Type 0} (number : I → ℕ) where
   -- what the neighbors are after they name one more
-  ends-joined : (c d : Content (IndexLink I T)) (place : Place I) (i : I) (t : T)
+  ends-joined : (c d : Content (IndexLink I T)) (gap : Gap I) (i : I) (t : T)
       → ((k : ℕ) → ends_in number d k
-      ≡ added (ends_in number c) (number i) (link_ends number (link_for number place i t)) k)
-      → (k : ℕ) → ends_in number (joined_to number d place i) k
-      ≡ put_in (ends_in number c) (number i) (place_by number place) k
+      ≡ added (ends_in number c) (number i) (link_ends number (link_for number gap i t)) k)
+      → (k : ℕ) → ends_in number (joined_to number d gap i) k
+      ≡ put_in (ends_in number c) (number i) (gap_by number gap) k
   ends-joined c d (Between before after) i t ends k =
       let one = with_next_of number d before (Some i) in
       let old = added (ends_in number c) (number i)
@@ -111,15 +111,15 @@ module _ {I T : Type 0} (number : I → ℕ) where
       k
   ends-joined c d OwnRing i t ends k = ends k
 
-  values-joined : (d : Content (IndexLink I T)) (place : Place I) (i : I) (k : ℕ)
-      → values_in (joined_to number d place i) k ≡ values_in d k
+  values-joined : (d : Content (IndexLink I T)) (gap : Gap I) (i : I) (k : ℕ)
+      → values_in (joined_to number d gap i) k ≡ values_in d k
   values-joined d (Between before after) i k =
       values-with_prev_of number (with_next_of number d before (Some i)) after (Some i) k
       ∙ values-with_next_of number d before (Some i) k
   values-joined d OwnRing i k = refl
 
-  kept-joined : (d : Content (IndexLink I T)) (place : Place I) (i : I)
-      → IsKept d (joined_to number d place i)
+  kept-joined : (d : Content (IndexLink I T)) (gap : Gap I) (i : I)
+      → IsKept d (joined_to number d gap i)
   kept-joined d (Between before after) i =
       kept_on d (with_next_of number d before (Some i))
       (joined_to number d (Between before after) i) (kept-with_next_of number d before (Some i))
@@ -127,32 +127,32 @@ module _ {I T : Type 0} (number : I → ℕ) where
   kept-joined d OwnRing i =
       record { live = refl; slots = refl; free = refl; counter = refl; room = refl }
 
-  formed-joined : (d : Content (IndexLink I T)) (place : Place I) (i : I) → IsWellFormed d
-      → IsWellFormed (joined_to number d place i)
+  formed-joined : (d : Content (IndexLink I T)) (gap : Gap I) (i : I) → IsWellFormed d
+      → IsWellFormed (joined_to number d gap i)
   formed-joined d (Between before after) i formed =
       formed-with_prev_of number (with_next_of number d before (Some i)) after (Some i)
       (formed-with_next_of number d before (Some i) formed)
   formed-joined d OwnRing i formed = formed
 
-  link_for-value : (place : Place I) (i : I) (t : T) → (link_for number place i t).t ≡ t
+  link_for-value : (gap : Gap I) (i : I) (t : T) → (link_for number gap i t).t ≡ t
   link_for-value (Between before after) i t = refl
   link_for-value OwnRing i t = refl
 
-  pub record Placed (c new : Content (IndexLink I T)) (place : Place I) (n g : ℕ) (t : T) : Type 0
+  pub record Inserted (c new : Content (IndexLink I T)) (gap : Gap I) (n g : ℕ) (t : T) : Type 0
     where
-      pub placed : IsPlaced number (place_by number place) n g t c new
+      pub inserted : IsLinkInserted number (gap_by number gap) n g t c new
       pub chained : IsChained number new
       pub room : new.room ≡ c.room
 
-  -- an insertion of the link for a place, whose neighbors name it then
-  pub placed_in : (c new : Content (IndexLink I T)) (place : Place I) (i : I) (t : T)
+  -- an insertion of the link for a gap, whose neighbors name it then
+  pub inserted_in : (c new : Content (IndexLink I T)) (gap : Gap I) (i : I) (t : T)
       → IsChained number c
-      → live_count c < arena_capacity c → IsPlace (ends_in number c) (place_by number place)
+      → live_count c < arena_capacity c → IsGap (ends_in number c) (gap_by number gap)
       → number i ≡ next_index c
-      → new ≡ joined_to number (inserted c (link_for number place i t)) place i
-      → Placed c new place (number i) c.counter t
-  placed_in c new place i t chained fits gap index is =
-      let link = link_for number place i t in
+      → new ≡ joined_to number (inserted c (link_for number gap i t)) gap i
+      → Inserted c new gap (number i) c.counter t
+  inserted_in c new gap i t chained fits there index is =
+      let link = link_for number gap i t in
       let d = inserted c link in
       let n = number i in
       let formed = chained.formed in
@@ -167,23 +167,23 @@ module _ {I T : Type 0} (number : I → ℕ) where
         | inl same ↦ rw same.0 refl
         | inr differs ↦ rw differs.0 refl
       ] in
-      let ends = ends-joined c d place i t added_ends in
-      let kept = kept-joined d place i in
+      let ends = ends-joined c d gap i t added_ends in
+      let kept = kept-joined d gap i in
       rw is
       (record {
-        placed = record {
+        inserted = record {
           index = index;
           generation = refl;
           vacant = vacant;
           ends = ends;
-          lists = put_at (ends_in number c) (ends_in number (joined_to number d place i)) n
-              (place_by number place)
-              (ap (option_map (entry_ends number)) vacant) gap chained.agreed ends;
+          lists = put_at (ends_in number c) (ends_in number (joined_to number d gap i)) n
+              (gap_by number gap)
+              (ap (option_map (entry_ends number)) vacant) there chained.agreed ends;
           values = λ k.
-              values-joined d place i k
+              values-joined d gap i k
               ∙ ap (option_map valued) (entries k)
               ∙ elim (eqb_tells k n) [
-                | inl same ↦ rw same.0 (ap (λ u. Some (c.counter, u)) (link_for-value place i t))
+                | inl same ↦ rw same.0 (ap (λ u. Some (c.counter, u)) (link_for-value gap i t))
                 | inr differs ↦ rw differs.0 refl
               ];
           live = kept.live ∙ live-inserted c link formed;
@@ -192,12 +192,12 @@ module _ {I T : Type 0} (number : I → ℕ) where
           slots = kept.slots ∙ slots-inserted c link formed;
         };
         chained = record {
-          formed = formed-joined d place i (formed-inserted c link formed fits);
+          formed = formed-joined d gap i (formed-inserted c link formed fits);
           agreed =
-              IsAgreed-same (put_in (ends_in number c) n (place_by number place))
-              (ends_in number (joined_to number d place i)) ends
-              (IsAgreed-put_in (ends_in number c) n (place_by number place)
-              (ap (option_map (entry_ends number)) vacant) gap chained.agreed);
+              IsAgreed-same (put_in (ends_in number c) n (gap_by number gap))
+              (ends_in number (joined_to number d gap i)) ends
+              (IsAgreed-put_in (ends_in number c) n (gap_by number gap)
+              (ap (option_map (entry_ends number)) vacant) there chained.agreed);
         };
         room = kept.room ∙ room-inserted c link;
       })

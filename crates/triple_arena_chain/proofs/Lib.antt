@@ -1,6 +1,6 @@
 pub mod AgreedLemmas
 pub mod FromArenaLemmas
-pub mod PlaceLemmas
+pub mod GapLemmas
 pub mod TakeOutLemmas
 pub mod ExchangeLemmas
 pub mod ListLemmas

@@ -14,8 +14,8 @@ use Rattle.triple_arena_chain.specs.ListLaws.{On-first, On-split, on_differs, of
 use Rattle.triple_arena_chain.specs.ListLaws.{Apart-split, of_live, live_on, Follows, follows}
 use Rattle.triple_arena_chain.specs.ListLaws.{Follows-append, Follows-front, Follows-back, starts}
 use Rattle.triple_arena_chain.specs.ListLaws.{linear_same, linear_by, chain_where, ring_by}
-use Rattle.triple_arena_chain.proofs.PlaceLemmas.{next-with_prev_if, prev-with_next_if, next-hit}
-use Rattle.triple_arena_chain.proofs.PlaceLemmas.{next-miss, prev-hit, prev-miss}
+use Rattle.triple_arena_chain.proofs.GapLemmas.{next-with_prev_if, prev-with_next_if, next-hit}
+use Rattle.triple_arena_chain.proofs.GapLemmas.{next-miss, prev-hit, prev-miss}
 
 alive-renext : (o : Option Ends) (n : Option ℕ) → IsSome o → IsSome (renext n o)
 alive-renext None n some = some

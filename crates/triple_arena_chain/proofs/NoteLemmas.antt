@@ -16,7 +16,7 @@ use Rattle.triple_arena_chain.specs.CanonicalLayout.{swapped_index, under}
 use Rattle.triple_arena_chain.specs.Notes.{LeadsTo, IsLed, IsBrought, AreNoted}
 use Rattle.triple_arena_chain.proofs.AgreedLemmas.{next_reprev}
 use Rattle.triple_arena_chain.proofs.PassLemmas.{live_as, live_ends, some_valued}
-use Rattle.triple_arena_chain.proofs.PlaceLemmas.{prev-with_next_if}
+use Rattle.triple_arena_chain.proofs.GapLemmas.{prev-with_next_if}
 use Rattle.triple_arena_chain.proofs.SwapLemmas.{some_under, swap_i, swap_j, swap_other, swap_twice}
 use Rattle.triple_arena_chain.proofs.SwapLemmas.{next-renamed}
 

@@ -4,7 +4,7 @@ use Rattle.std.proofs.Common.{sym, ap, subst, ◌∙◌, inl, inr, is_some, true
 use Rattle.std.proofs.lemmas.Bool.{eq-eqb, ne_eqb}
 use Rattle.std.proofs.lemmas.Bool.Decides.{eqb_tells}
 use Rattle.triple_arena_chain.specs.Chains.{Ends, next_in, prev_in, next_at, prev_at, with_next_if}
-use Rattle.triple_arena_chain.specs.Chains.{added, placed, IsGap, IsAgreed, first_or, last_or, Off}
+use Rattle.triple_arena_chain.specs.Chains.{added, put_between, IsBetween, IsAgreed, first_or, last_or, Off}
 use Rattle.triple_arena_chain.specs.Chains.{On, Apart, IsLinear, IsRing}
 use Rattle.triple_arena_chain.specs.ChainLaws.{first_or-append, last_or-append, Apart-both}
 use Rattle.triple_arena_chain.specs.UniquenessLaws.{Ended, none, some_last, ended, linear_apart}
@@ -14,8 +14,8 @@ use Rattle.triple_arena_chain.specs.ListLaws.{Apart-split, Apart-front, live_in,
 use Rattle.triple_arena_chain.specs.ListLaws.{Follows-append, Follows-front, Follows-back}
 use Rattle.triple_arena_chain.specs.ListLaws.{Follows-live, starts, linear_same, linear_by}
 use Rattle.triple_arena_chain.specs.ListLaws.{chain_where, ring_by}
-use Rattle.triple_arena_chain.proofs.PlaceLemmas.{apart, next_new, prev_new, next_before}
-use Rattle.triple_arena_chain.proofs.PlaceLemmas.{next_other, prev_other}
+use Rattle.triple_arena_chain.proofs.GapLemmas.{apart, next_new, prev_new, next_before}
+use Rattle.triple_arena_chain.proofs.GapLemmas.{next_other, prev_other}
 use Rattle.triple_arena_chain.proofs.ListLemmas.{Follows-where, alive-with_next_if}
 use Rattle.triple_arena_chain.proofs.ListLemmas.{alive-with_prev_if, same-with_next_if}
 use Rattle.triple_arena_chain.proofs.ListLemmas.{same-with_prev_if}
@@ -26,8 +26,8 @@ alive-added e n v k some =
     elim (eqb_tells k n) [ inl same ↦ rw same.0 refl | inr differs ↦ rw differs.0 some ]
 
 module _ (e e' : ℕ → Option Ends) (n : ℕ) (gap : Ends) (agreed' : IsAgreed e') (vacant : e n ≡ None)
-    (is_gap : IsGap e gap)
-    (same : (k : ℕ) → e' k ≡ placed e n gap k) where
+    (is_gap : IsBetween e gap)
+    (same : (k : ℕ) → e' k ≡ put_between e n gap k) where
   abbrev f : ℕ → Option Ends
   f = added e n gap
 

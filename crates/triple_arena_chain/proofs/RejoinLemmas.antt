@@ -13,7 +13,7 @@ use Rattle.triple_arena_chain.specs.Links.{values_in, ends_in, with_prev_of, IsK
 use Rattle.triple_arena_chain.specs.Notes.{IsRejoinable, up_to, before_past}
 use Rattle.triple_arena_chain.proofs.ConnectionLemmas.{both_written, both_formed}
 use Rattle.triple_arena_chain.proofs.PassLemmas.{live_as, live_ends}
-use Rattle.triple_arena_chain.proofs.PlaceLemmas.{is_it, next-with_prev_if, prev-hit, prev-miss}
+use Rattle.triple_arena_chain.proofs.GapLemmas.{is_it, next-with_prev_if, prev-hit, prev-miss}
 
 up_to_is : (n : ℕ) (o : Option ℕ) (q : ℕ) → up_to n o ≡ Some q → (o ≡ Some q) × (q ≤ n)
 up_to_is n None q is = absurd (cc)

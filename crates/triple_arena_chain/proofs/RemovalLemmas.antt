@@ -14,7 +14,7 @@ use Rattle.triple_arena.specs.RemovalLaws.{free-removed, slots-removed, room-rem
 use Rattle.triple_arena.specs.RemovalLaws.{formed-removed}
 use Rattle.triple_arena_chain.specs.LinkShape.{IndexLink}
 use Rattle.triple_arena_chain.specs.Chains.{dropped, bridged, taken_from, next_in, prev_in}
-use Rattle.triple_arena_chain.specs.declared.place.Place.TheVariants.{Between}
+use Rattle.triple_arena_chain.specs.declared.gap.Gap.TheVariants.{Between}
 use Rattle.triple_arena_chain.specs.Links.{valued, entry_ends, ends_in, with_next_of, with_prev_of}
 use Rattle.triple_arena_chain.specs.Links.{bridged_over, link_removed, link_removed_of}
 use Rattle.triple_arena_chain.specs.Links.{AreNeighborsLive, IsChained, IsTakenOut}

@@ -9,16 +9,17 @@ use Rattle.std.proofs.lemmas.Bool.Decides.{eqb_tells}
 use Rattle.triple_arena.specs.Content.{Content, entry_at}
 use Rattle.triple_arena.specs.Entries.{value_if, with_entry, without}
 use Rattle.triple_arena_chain.specs.LinkShape.{IndexLink}
-use Rattle.triple_arena_chain.specs.declared.place.Place.TheVariants.{Between}
+use Rattle.triple_arena_chain.specs.declared.gap.Gap.TheVariants.{Between}
 use Rattle.triple_arena_chain.specs.declared.kind.InsertKind.TheVariants.{NextTo, PrevTo}
 use Rattle.triple_arena_chain.specs.KindLaws.{found}
 use Rattle.triple_arena_chain.specs.Kinds.{after_link, before_link}
 use Rattle.triple_arena_chain.specs.Chains.{Ends, IsAgreed, next_at, prev_at, next_in, prev_in}
-use Rattle.triple_arena_chain.specs.Chains.{with_next_if, with_prev_if, added, placed, bridged}
+use Rattle.triple_arena_chain.specs.Chains.{with_next_if, with_prev_if, added, put_between}
+use Rattle.triple_arena_chain.specs.Chains.{bridged}
 use Rattle.triple_arena_chain.specs.Chains.{taken_out, On, Apart}
 use Rattle.triple_arena_chain.specs.ChainLaws.{Apart-both, Apart-last}
 use Rattle.triple_arena_chain.specs.Links.{valued, values_in, link_ends, entry_ends, ends_in}
-use Rattle.triple_arena_chain.specs.Links.{ends_found, place_among, IsChained, IsPlaced, IsTakenOut}
+use Rattle.triple_arena_chain.specs.Links.{ends_found, gap_among, IsChained, IsLinkInserted, IsTakenOut}
 use Rattle.triple_arena_chain.specs.Lists.{Chain, members, IsChainOf, Linear, Cyclic}
 use Rattle.triple_arena_chain.specs.ListLaws.{On-front, On-back, On-either, On-first, On-split}
 use Rattle.triple_arena_chain.specs.ListLaws.{Apart-turned, Apart-front, Apart-back, Apart-append}
@@ -79,7 +80,7 @@ prev_by e None n k = refl
 prev_by e (Some p) n k = refl
 
 module _ (e f : ℕ → Option Ends) (n : ℕ) (b a : Option ℕ)
-    (new : (k : ℕ) → f k ≡ placed e n (b, a) k) where
+    (new : (k : ℕ) → f k ≡ put_between e n (b, a) k) where
   -- the writes at an index that stood there
   placed_at : (k : ℕ) → k ≢ n
       → f k ≡ prev_where (is_at a k) (Some n) (next_where (is_at b k) (Some n) (e k))
@@ -157,7 +158,7 @@ module _ {I T : Type 0} (number : I → ℕ) (c d f : Content (IndexLink I T)) (
       → ((q : ℕ) → a ≡ Some q → IsSome (ends_in number c q))
       → ((p : ℕ) → b ≡ Some p → next_at (ends_in number c) p ≡ a)
       → ((q : ℕ) → a ≡ Some q → prev_at (ends_in number c) q ≡ b)
-      → IsPlaced number (Between b a) i g t c d → IsTakenOut number last i d f
+      → IsLinkInserted number (Between b a) i g t c d → IsTakenOut number last i d f
       → (k : ℕ) → (ends_in number f k ≡ ends_in number c k) × (values_in f k ≡ values_in c k)
   restored_between b a b_lives a_lives b_next a_prev placed taken k =
       let vacant : ends_in number c i ≡ None = ap (option_map (entry_ends number)) placed.vacant in
@@ -174,9 +175,9 @@ module _ {I T : Type 0} (number : I → ℕ) (c d f : Content (IndexLink I T)) (
 module _ {P I T : Type 0} (index generation : P → ℕ) (number : I → ℕ)
     (c d f : Content (IndexLink I T)) (p : P) (i g : ℕ) (t : T) (last : Option ℕ)
     (chained : IsChained number c) (formed : IsChained number d) where
-  pub restored_after : IsSome (place_among index generation number c (NextTo p))
-      → IfSome (place_among index generation number c (NextTo p))
-      (λ place. IsPlaced number place i g t c d) → IsTakenOut number last i d f
+  pub restored_after : IsSome (gap_among index generation number c (NextTo p))
+      → IfSome (gap_among index generation number c (NextTo p))
+      (λ place. IsLinkInserted number place i g t c d) → IsTakenOut number last i d f
       → (k : ℕ) → (ends_in number f k ≡ ends_in number c k) × (values_in f k ≡ values_in c k)
   restored_after there placed taken k =
       by (ends_found number c (index p) (generation p))
@@ -184,7 +185,7 @@ module _ {P I T : Type 0} (index generation : P → ℕ) (number : I → ℕ)
     where
       by : (o : Option Ends) → ((v : Ends) → o ≡ Some v → ends_in number c (index p) ≡ Some v)
           → IsSome (after_link (index p) o)
-          → IfSome (after_link (index p) o) (λ place. IsPlaced number place i g t c d)
+          → IfSome (after_link (index p) o) (λ place. IsLinkInserted number place i g t c d)
           → (ends_in number f k ≡ ends_in number c k) × (values_in f k ≡ values_in c k)
       by None at there placed = absurd (let no : false ≡ true = there in cc)
       by (Some v) at there placed =
@@ -198,9 +199,9 @@ module _ {P I T : Type 0} (index generation : P → ℕ) (number : I → ℕ)
           (λ q is. chained.agreed.forward (index p) q (next ∙ is))
           placed taken k
 
-  pub restored_before : IsSome (place_among index generation number c (PrevTo p))
-      → IfSome (place_among index generation number c (PrevTo p))
-      (λ place. IsPlaced number place i g t c d) → IsTakenOut number last i d f
+  pub restored_before : IsSome (gap_among index generation number c (PrevTo p))
+      → IfSome (gap_among index generation number c (PrevTo p))
+      (λ place. IsLinkInserted number place i g t c d) → IsTakenOut number last i d f
       → (k : ℕ) → (ends_in number f k ≡ ends_in number c k) × (values_in f k ≡ values_in c k)
   restored_before there placed taken k =
       by (ends_found number c (index p) (generation p))
@@ -208,7 +209,7 @@ module _ {P I T : Type 0} (index generation : P → ℕ) (number : I → ℕ)
     where
       by : (o : Option Ends) → ((v : Ends) → o ≡ Some v → ends_in number c (index p) ≡ Some v)
           → IsSome (before_link (index p) o)
-          → IfSome (before_link (index p) o) (λ place. IsPlaced number place i g t c d)
+          → IfSome (before_link (index p) o) (λ place. IsLinkInserted number place i g t c d)
           → (ends_in number f k ≡ ends_in number c k) × (values_in f k ≡ values_in c k)
       by None at there placed = absurd (let no : false ≡ true = there in cc)
       by (Some v) at there placed =

@@ -5,9 +5,9 @@ use Rattle.std.proofs.lemmas.Bool.Decides.{eqb_tells}
 use Rattle.triple_arena_chain.specs.Chains.{Ends, with_next_if, with_prev_if, dropped, bridged}
 use Rattle.triple_arena_chain.specs.Chains.{IsAgreed, next_at, prev_at, next_in, prev_in}
 use Rattle.triple_arena_chain.proofs.AgreedLemmas.{valid_next, valid_prev}
-use Rattle.triple_arena_chain.proofs.PlaceLemmas.{is_it, next-with_prev_if, prev-with_next_if}
-use Rattle.triple_arena_chain.proofs.PlaceLemmas.{next-hit, next-miss, prev-hit, prev-miss}
-use Rattle.triple_arena_chain.proofs.PlaceLemmas.{valid-with_next_if}
+use Rattle.triple_arena_chain.proofs.GapLemmas.{is_it, next-with_prev_if, prev-with_next_if}
+use Rattle.triple_arena_chain.proofs.GapLemmas.{next-hit, next-miss, prev-hit, prev-miss}
+use Rattle.triple_arena_chain.proofs.GapLemmas.{valid-with_next_if}
 
 module _ (e : ℕ → Option Ends) where
   -- the nexts and previous ones over a bridge

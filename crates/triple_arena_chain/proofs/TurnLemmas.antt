@@ -14,8 +14,8 @@ use Rattle.triple_arena_chain.specs.ListLaws.{live_next_in, Follows, follows, Fo
 use Rattle.triple_arena_chain.specs.ListLaws.{Follows-front, Follows-back, starts, holds_prev}
 use Rattle.triple_arena_chain.specs.ListLaws.{linear_same, ring_or_linear, ring_same, linear_by}
 use Rattle.triple_arena_chain.specs.ListLaws.{chain_where, ring_by, ring_by_first}
-use Rattle.triple_arena_chain.proofs.PlaceLemmas.{next-with_prev_if, prev-with_next_if, next-miss}
-use Rattle.triple_arena_chain.proofs.PlaceLemmas.{prev-miss}
+use Rattle.triple_arena_chain.proofs.GapLemmas.{next-with_prev_if, prev-with_next_if, next-miss}
+use Rattle.triple_arena_chain.proofs.GapLemmas.{prev-miss}
 use Rattle.triple_arena_chain.proofs.ExchangeLemmas.{exchanged_self}
 use Rattle.triple_arena_chain.proofs.ListLemmas.{Follows-where, alive-with_next_if}
 use Rattle.triple_arena_chain.proofs.ListLemmas.{alive-with_prev_if, same-with_next_if}

@@ -2,8 +2,8 @@
 -- has a value where the index is live.
 use Rattle.std.specs.Prelude.{◌≡◌, ◌≢◌, ℕ, ◌==◌, List, [], ◌∷◌, ◌++◌, Option, Some, None}
 use Rattle.std.specs.Prelude.{if◌then◌else◌, IsSome, ◌⊎◌}
-use Rattle.triple_arena_chain.specs.declared.place.Place.{Place}
-use Rattle.triple_arena_chain.specs.declared.place.Place.TheVariants.{Between, OwnRing}
+use Rattle.triple_arena_chain.specs.declared.gap.Gap.{Gap}
+use Rattle.triple_arena_chain.specs.declared.gap.Gap.TheVariants.{Between, OwnRing}
 
 -- the previous and the next index
 abbrev pub Ends : Type 0
@@ -127,24 +127,24 @@ exchanged ends p q s t
 
 -- where one more index may stand: behind the first of these, if any, and before the second, if any.
 -- They are valid, and neither has another neighbor on that side
-pub record IsGap (ends : ℕ → Option Ends) (gap : Ends) : Type 0 where
+pub record IsBetween (ends : ℕ → Option Ends) (gap : Ends) : Type 0 where
   pub before : (p : ℕ) → gap.0 ≡ Some p → IsSome (ends p)
       × ((next_at ends p ≡ None) ⊎ (next_at ends p ≡ gap.1))
   pub after : (q : ℕ) → gap.1 ≡ Some q → IsSome (ends q)
       × ((prev_at ends q ≡ None) ⊎ (prev_at ends q ≡ gap.0))
 
 -- the interlinks with one more index in a gap
-abbrev pub placed : (ℕ → Option Ends) → ℕ → Ends → ℕ → Option Ends
-placed ends n gap = with_prev_if (with_next_if (added ends n gap) gap.0 (Some n)) gap.1 (Some n)
+abbrev pub put_between : (ℕ → Option Ends) → ℕ → Ends → ℕ → Option Ends
+put_between ends n gap = with_prev_if (with_next_if (added ends n gap) gap.0 (Some n)) gap.1 (Some n)
 
--- one more index may stand at this place
-abbrev pub IsPlace : (ℕ → Option Ends) → Place ℕ → Type 0
-IsPlace ends (Between before after) = IsGap ends (before, after)
-IsPlace ends OwnRing = Unit {0}
+-- one more index may stand at this gap
+abbrev pub IsGap : (ℕ → Option Ends) → Gap ℕ → Type 0
+IsGap ends (Between before after) = IsBetween ends (before, after)
+IsGap ends OwnRing = Unit {0}
 
--- the interlinks with one more index at this place
-abbrev pub put_in : (ℕ → Option Ends) → ℕ → Place ℕ → ℕ → Option Ends
-put_in ends n (Between before after) = placed ends n (before, after)
+-- the interlinks with one more index at this gap
+abbrev pub put_in : (ℕ → Option Ends) → ℕ → Gap ℕ → ℕ → Option Ends
+put_in ends n (Between before after) = put_between ends n (before, after)
 put_in ends n OwnRing = added ends n (Some n, Some n)
 
 -- the interlinks where this index, which has these neighbors, was taken out from between them

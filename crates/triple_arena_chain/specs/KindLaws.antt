@@ -13,37 +13,37 @@ use Rattle.triple_arena_chain.specs.LinkShape.{IndexLink}
 use Rattle.triple_arena_chain.specs.Chains.{Ends, next_in, prev_in, next_at, prev_at}
 use Rattle.triple_arena_chain.specs.Kinds.{at_end, at_start, after_link, before_link, at_interlink}
 use Rattle.triple_arena_chain.specs.Kinds.{at_bridge}
-use Rattle.triple_arena_chain.specs.Links.{link_ends, ends_in, ends_found, place_among, IsPlaced}
+use Rattle.triple_arena_chain.specs.Links.{link_ends, ends_in, ends_found, gap_among, IsLinkInserted}
 use Rattle.triple_arena_chain.specs.Lists.{IsPutIn, IsOwnRing}
-use Rattle.triple_arena_chain.specs.declared.place.Place.{Place}
-use Rattle.triple_arena_chain.specs.declared.place.Place.TheVariants.{Between}
+use Rattle.triple_arena_chain.specs.declared.gap.Gap.{Gap}
+use Rattle.triple_arena_chain.specs.declared.gap.Gap.TheVariants.{Between}
 
 -- the places that are asked for, where the links are as they have to be
-end_place : (i : ℕ) (o : Option Ends) → IsSome (at_end i o)
+end_gap : (i : ℕ) (o : Option Ends) → IsSome (at_end i o)
     → at_end i o ≡ Some (Between (Some i) None)
-end_place i None there = absurd (true≢false (sym there))
-end_place i (Some v) there = by v.1 there
+end_gap i None there = absurd (true≢false (sym there))
+end_gap i (Some v) there = by v.1 there
   where
     by : (n : Option ℕ) → IsSome (at_end i (Some (v.0, n)))
         → at_end i (Some (v.0, n)) ≡ Some (Between (Some i) None)
     by None some = refl
     by (Some n) some = absurd (true≢false (sym some))
 
-start_place : (i : ℕ) (o : Option Ends) → IsSome (at_start i o)
+start_gap : (i : ℕ) (o : Option Ends) → IsSome (at_start i o)
     → at_start i o ≡ Some (Between None (Some i))
-start_place i None there = absurd (true≢false (sym there))
-start_place i (Some v) there = by v.0 there
+start_gap i None there = absurd (true≢false (sym there))
+start_gap i (Some v) there = by v.0 there
   where
     by : (n : Option ℕ) → IsSome (at_start i (Some (n, v.1)))
         → at_start i (Some (n, v.1)) ≡ Some (Between None (Some i))
     by None some = refl
     by (Some n) some = absurd (true≢false (sym some))
 
-interlink_place : (i j : ℕ) (o o' : Option Ends) → IsSome (at_interlink i j o o')
+interlink_gap : (i j : ℕ) (o o' : Option Ends) → IsSome (at_interlink i j o o')
     → at_interlink i j o o' ≡ Some (Between (Some i) (Some j))
-interlink_place i j None o' there = absurd (true≢false (sym there))
-interlink_place i j (Some v) None there = absurd (true≢false (sym there))
-interlink_place i j (Some v) (Some w) there = by v.1 there
+interlink_gap i j None o' there = absurd (true≢false (sym there))
+interlink_gap i j (Some v) None there = absurd (true≢false (sym there))
+interlink_gap i j (Some v) (Some w) there = by v.1 there
   where
     by : (n : Option ℕ) → IsSome (at_interlink i j (Some (v.0, n)) (Some w))
         → at_interlink i j (Some (v.0, n)) (Some w) ≡ Some (Between (Some i) (Some j))
@@ -54,11 +54,11 @@ interlink_place i j (Some v) (Some w) there = by v.1 there
           | inr differs ↦ absurd (let no : false ≡ true = rw differs.0 at some in cc)
         ]
 
-bridge_place : (i j : ℕ) (o o' : Option Ends) → IsSome (at_bridge i j o o')
+bridge_gap : (i j : ℕ) (o o' : Option Ends) → IsSome (at_bridge i j o o')
     → at_bridge i j o o' ≡ Some (Between (Some i) (Some j))
-bridge_place i j None o' there = absurd (true≢false (sym there))
-bridge_place i j (Some v) None there = absurd (true≢false (sym there))
-bridge_place i j (Some v) (Some w) there = by v.1 w.0 there
+bridge_gap i j None o' there = absurd (true≢false (sym there))
+bridge_gap i j (Some v) None there = absurd (true≢false (sym there))
+bridge_gap i j (Some v) (Some w) there = by v.1 w.0 there
   where
     by : (n m : Option ℕ) → IsSome (at_bridge i j (Some (v.0, n)) (Some (m, w.1)))
         → at_bridge i j (Some (v.0, n)) (Some (m, w.1)) ≡ Some (Between (Some i) (Some j))
@@ -85,114 +85,114 @@ module _ {I T : Type 0} (number : I → ℕ) where
 module _ {P I T : Type 0} (index generation : P → ℕ) (number : I → ℕ) where
   -- an insertion directly after a link
   pub put-next_to : (c d : Content (IndexLink I T)) (p : P) (i g : ℕ) (t : T)
-      → IsSome (place_among index generation number c (NextTo p))
-      → IfSome (place_among index generation number c (NextTo p))
-      (λ place. IsPlaced number place i g t c d)
+      → IsSome (gap_among index generation number c (NextTo p))
+      → IfSome (gap_among index generation number c (NextTo p))
+      (λ gap. IsLinkInserted number gap i g t c d)
       → IsPutIn (Some (index p), next_at (ends_in number c) (index p)) i (ends_in number c)
       (ends_in number d)
-  put-next_to c d p i g t there placed = by (ends_found number c (index p) (generation p))
-      (λ v is. found number c (index p) (generation p) v is) there placed
+  put-next_to c d p i g t there inserted = by (ends_found number c (index p) (generation p))
+      (λ v is. found number c (index p) (generation p) v is) there inserted
     where
       by : (o : Option Ends) → ((v : Ends) → o ≡ Some v → ends_in number c (index p) ≡ Some v)
           → IsSome (after_link (index p) o)
-          → IfSome (after_link (index p) o) (λ place. IsPlaced number place i g t c d)
+          → IfSome (after_link (index p) o) (λ gap. IsLinkInserted number gap i g t c d)
           → IsPutIn (Some (index p), next_at (ends_in number c) (index p)) i (ends_in number c)
           (ends_in number d)
-      by None at there placed = absurd (true≢false (sym there))
-      by (Some v) at there placed =
+      by None at there inserted = absurd (true≢false (sym there))
+      by (Some v) at there inserted =
           subst (λ o. IsPutIn (Some (index p), o) i (ends_in number c) (ends_in number d))
-          (sym (ap next_in (at v refl))) placed.lists
+          (sym (ap next_in (at v refl))) inserted.lists
 
-  at_place : (c d : Content (IndexLink I T)) (i g : ℕ) (t : T) (o : Option (Place ℕ))
-      (place : Place ℕ) → o ≡ Some place
-      → IfSome o (λ place. IsPlaced number place i g t c d) → IsPlaced number place i g t c d
-  at_place c d i g t o place is placed =
-      let there : IfSome (Some place) (λ place. IsPlaced number place i g t c d) =
-      subst (λ x. IfSome x (λ place. IsPlaced number place i g t c d)) is placed in there
+  at_gap : (c d : Content (IndexLink I T)) (i g : ℕ) (t : T) (o : Option (Gap ℕ))
+      (gap : Gap ℕ) → o ≡ Some gap
+      → IfSome o (λ gap. IsLinkInserted number gap i g t c d) → IsLinkInserted number gap i g t c d
+  at_gap c d i g t o gap is inserted =
+      let there : IfSome (Some gap) (λ gap. IsLinkInserted number gap i g t c d) =
+      subst (λ x. IfSome x (λ gap. IsLinkInserted number gap i g t c d)) is inserted in there
 
   -- a link for itself
   pub put-disconnected : (c d : Content (IndexLink I T)) (i g : ℕ) (t : T)
-      → IsSome (place_among index generation number c Disconnected)
-      → IfSome (place_among index generation number c Disconnected)
-      (λ place. IsPlaced number place i g t c d)
+      → IsSome (gap_among index generation number c Disconnected)
+      → IfSome (gap_among index generation number c Disconnected)
+      (λ gap. IsLinkInserted number gap i g t c d)
       → IsPutIn (None, None) i (ends_in number c) (ends_in number d)
-  put-disconnected c d i g t there placed =
-      placed.lists
+  put-disconnected c d i g t there inserted =
+      inserted.lists
 
   -- a ring of one
   pub put-own_ring : (c d : Content (IndexLink I T)) (i g : ℕ) (t : T)
-      → IsSome (place_among index generation number c SingleLinkCyclic)
-      → IfSome (place_among index generation number c SingleLinkCyclic)
-      (λ place. IsPlaced number place i g t c d)
+      → IsSome (gap_among index generation number c SingleLinkCyclic)
+      → IfSome (gap_among index generation number c SingleLinkCyclic)
+      (λ gap. IsLinkInserted number gap i g t c d)
       → IsOwnRing i (ends_in number c) (ends_in number d)
-  put-own_ring c d i g t there placed =
-      placed.lists
+  put-own_ring c d i g t there inserted =
+      inserted.lists
 
   -- an insertion behind the end of a chain
   pub put-chain_end : (c d : Content (IndexLink I T)) (p : P) (i g : ℕ) (t : T)
-      → IsSome (place_among index generation number c (ChainEnd p))
-      → IfSome (place_among index generation number c (ChainEnd p))
-      (λ place. IsPlaced number place i g t c d)
+      → IsSome (gap_among index generation number c (ChainEnd p))
+      → IfSome (gap_among index generation number c (ChainEnd p))
+      (λ gap. IsLinkInserted number gap i g t c d)
       → IsPutIn (Some (index p), None) i (ends_in number c) (ends_in number d)
-  put-chain_end c d p i g t there placed =
-      (at_place c d i g t (at_end (index p) (ends_found number c (index p) (generation p)))
+  put-chain_end c d p i g t there inserted =
+      (at_gap c d i g t (at_end (index p) (ends_found number c (index p) (generation p)))
       (Between (Some (index p)) None)
-      (end_place (index p) (ends_found number c (index p) (generation p)) there) placed).lists
+      (end_gap (index p) (ends_found number c (index p) (generation p)) there) inserted).lists
 
   -- in front of its start
   pub put-chain_start : (c d : Content (IndexLink I T)) (p : P) (i g : ℕ) (t : T)
-      → IsSome (place_among index generation number c (ChainStart p))
-      → IfSome (place_among index generation number c (ChainStart p))
-      (λ place. IsPlaced number place i g t c d)
+      → IsSome (gap_among index generation number c (ChainStart p))
+      → IfSome (gap_among index generation number c (ChainStart p))
+      (λ gap. IsLinkInserted number gap i g t c d)
       → IsPutIn (None, Some (index p)) i (ends_in number c) (ends_in number d)
-  put-chain_start c d p i g t there placed =
-      (at_place c d i g t (at_start (index p) (ends_found number c (index p) (generation p)))
+  put-chain_start c d p i g t there inserted =
+      (at_gap c d i g t (at_start (index p) (ends_found number c (index p) (generation p)))
       (Between None (Some (index p)))
-      (start_place (index p) (ends_found number c (index p) (generation p)) there) placed).lists
+      (start_gap (index p) (ends_found number c (index p) (generation p)) there) inserted).lists
 
   -- between a link and its next
   pub put-at_interlink : (c d : Content (IndexLink I T)) (p q : P) (i g : ℕ) (t : T)
-      → IsSome (place_among index generation number c (AtInterlink p q))
-      → IfSome (place_among index generation number c (AtInterlink p q))
-      (λ place. IsPlaced number place i g t c d)
+      → IsSome (gap_among index generation number c (AtInterlink p q))
+      → IfSome (gap_among index generation number c (AtInterlink p q))
+      (λ gap. IsLinkInserted number gap i g t c d)
       → IsPutIn (Some (index p), Some (index q)) i (ends_in number c) (ends_in number d)
-  put-at_interlink c d p q i g t there placed =
-      (at_place c d i g t (at_interlink (index p) (index q)
+  put-at_interlink c d p q i g t there inserted =
+      (at_gap c d i g t (at_interlink (index p) (index q)
       (ends_found number c (index p) (generation p)) (ends_found number c (index q) (generation q)))
       (Between (Some (index p)) (Some (index q)))
-      (interlink_place (index p) (index q) (ends_found number c (index p) (generation p))
+      (interlink_gap (index p) (index q) (ends_found number c (index p) (generation p))
       (ends_found number c (index q) (generation q)) there)
-      placed).lists
+      inserted).lists
 
   -- between an end and a start
   pub put-bridge : (c d : Content (IndexLink I T)) (p q : P) (i g : ℕ) (t : T)
-      → IsSome (place_among index generation number c (Bridge p q))
-      → IfSome (place_among index generation number c (Bridge p q))
-      (λ place. IsPlaced number place i g t c d)
+      → IsSome (gap_among index generation number c (Bridge p q))
+      → IfSome (gap_among index generation number c (Bridge p q))
+      (λ gap. IsLinkInserted number gap i g t c d)
       → IsPutIn (Some (index p), Some (index q)) i (ends_in number c) (ends_in number d)
-  put-bridge c d p q i g t there placed =
-      (at_place c d i g t (at_bridge (index p) (index q)
+  put-bridge c d p q i g t there inserted =
+      (at_gap c d i g t (at_bridge (index p) (index q)
       (ends_found number c (index p) (generation p)) (ends_found number c (index q) (generation q)))
       (Between (Some (index p)) (Some (index q)))
-      (bridge_place (index p) (index q) (ends_found number c (index p) (generation p))
-      (ends_found number c (index q) (generation q)) there) placed).lists
+      (bridge_gap (index p) (index q) (ends_found number c (index p) (generation p))
+      (ends_found number c (index q) (generation q)) there) inserted).lists
 
   -- directly before a link
   pub put-prev_to : (c d : Content (IndexLink I T)) (p : P) (i g : ℕ) (t : T)
-      → IsSome (place_among index generation number c (PrevTo p))
-      → IfSome (place_among index generation number c (PrevTo p))
-      (λ place. IsPlaced number place i g t c d)
+      → IsSome (gap_among index generation number c (PrevTo p))
+      → IfSome (gap_among index generation number c (PrevTo p))
+      (λ gap. IsLinkInserted number gap i g t c d)
       → IsPutIn (prev_at (ends_in number c) (index p), Some (index p)) i (ends_in number c)
       (ends_in number d)
-  put-prev_to c d p i g t there placed = by (ends_found number c (index p) (generation p))
-      (λ v is. found number c (index p) (generation p) v is) there placed
+  put-prev_to c d p i g t there inserted = by (ends_found number c (index p) (generation p))
+      (λ v is. found number c (index p) (generation p) v is) there inserted
     where
       by : (o : Option Ends) → ((v : Ends) → o ≡ Some v → ends_in number c (index p) ≡ Some v)
           → IsSome (before_link (index p) o)
-          → IfSome (before_link (index p) o) (λ place. IsPlaced number place i g t c d)
+          → IfSome (before_link (index p) o) (λ gap. IsLinkInserted number gap i g t c d)
           → IsPutIn (prev_at (ends_in number c) (index p), Some (index p)) i (ends_in number c)
           (ends_in number d)
-      by None at there placed = absurd (true≢false (sym there))
-      by (Some v) at there placed =
+      by None at there inserted = absurd (true≢false (sym there))
+      by (Some v) at there inserted =
           subst (λ o. IsPutIn (o, Some (index p)) i (ends_in number c) (ends_in number d))
-          (sym (ap prev_in (at v refl))) placed.lists
+          (sym (ap prev_in (at v refl))) inserted.lists

@@ -12,6 +12,7 @@ pub mod Values
 pub mod KindLaws
 pub mod InsertionListLaws
 pub mod InsertEntry
+pub mod Insertion
 pub mod Walks
 pub mod WalkLaws
 pub mod IterChains

@@ -7,10 +7,10 @@ use Rattle.triple_arena.specs.Content.{removed, IsWellFormed}
 use Rattle.triple_arena_ptr.specs.Generation.{next_generation}
 use Rattle.triple_arena.specs.Entries.{with_entry, without}
 use Rattle.triple_arena_chain.specs.LinkShape.{IndexLink}
-use Rattle.triple_arena_chain.specs.Kinds.{place_of}
+use Rattle.triple_arena_chain.specs.Kinds.{gap_of}
 use Rattle.triple_arena_chain.specs.declared.kind.InsertKind.{InsertKind}
-use Rattle.triple_arena_chain.specs.declared.place.Place.{Place}
-use Rattle.triple_arena_chain.specs.declared.place.Place.TheVariants.{Between, OwnRing}
+use Rattle.triple_arena_chain.specs.declared.gap.Gap.{Gap}
+use Rattle.triple_arena_chain.specs.declared.gap.Gap.TheVariants.{Between, OwnRing}
 use Rattle.triple_arena_chain.specs.Chains.{Ends, IsAgreed, put_in, taken_out}
 use Rattle.triple_arena_chain.specs.Lists.{IsPutAt, IsTaken}
 
@@ -82,19 +82,19 @@ module _ {I T : Type 0} (number : I → ℕ) where
     pub formed : IsWellFormed c
     pub agreed : IsAgreed (ends_in c)
 
-  -- the link for a value at this place, where its own index is `i`
-  abbrev pub link_for : Place I → I → T → IndexLink I T
+  -- the link for a value at this gap, where its own index is `i`
+  abbrev pub link_for : Gap I → I → T → IndexLink I T
   link_for (Between before after) i t = record { prev = before; next = after; t = t }
   link_for OwnRing i t = record { prev = Some i; next = Some i; t = t }
 
-  -- the neighbors at this place are live
-  abbrev pub AreNeighborsLive : Content (IndexLink I T) → Place I → Type 0
+  -- the neighbors at this gap are live
+  abbrev pub AreNeighborsLive : Content (IndexLink I T) → Gap I → Type 0
   AreNeighborsLive c (Between before after) = IfSome before (λ i. IsSome (entry_at c (number i)))
       × IfSome after (λ i. IsSome (entry_at c (number i)))
   AreNeighborsLive c OwnRing = Unit {0}
 
-  -- the neighbors at this place name what is at `i`
-  abbrev pub joined_to : Content (IndexLink I T) → Place I → I → Content (IndexLink I T)
+  -- the neighbors at this gap name what is at `i`
+  abbrev pub joined_to : Content (IndexLink I T) → Gap I → I → Content (IndexLink I T)
   joined_to c (Between before after) i
       = with_prev_of (with_next_of c before (Some i)) after (Some i)
   joined_to c OwnRing i = c
@@ -114,14 +114,14 @@ module _ {I T : Type 0} (number : I → ℕ) where
   abbrev pub link_removed : Option ℕ → Content (IndexLink I T) → ℕ → Content (IndexLink I T)
   link_removed last c i = link_removed_of last c i (entry_at c i)
 
-  -- one link more at this place, under the next index and the counter; all others stay
-  pub record IsPlaced (place : Place ℕ) (i g : ℕ) (t : T) (old new : Content (IndexLink I T))
+  -- one link more at this gap, under the next index and the counter; all others stay
+  pub record IsLinkInserted (gap : Gap ℕ) (i g : ℕ) (t : T) (old new : Content (IndexLink I T))
       : Type 0 where
     pub index : i ≡ next_index old
     pub generation : g ≡ old.counter
     pub vacant : entry_at old i ≡ None
-    pub ends : (k : ℕ) → ends_in new k ≡ put_in (ends_in old) i place k
-    pub lists : IsPutAt place i (ends_in old) (ends_in new)
+    pub ends : (k : ℕ) → ends_in new k ≡ put_in (ends_in old) i gap k
+    pub lists : IsPutAt gap i (ends_in old) (ends_in new)
     pub values : (k : ℕ) → values_in new k ≡ with_entry (values_in old) i (g, t) k
     pub live : live_count new ≡ live_count old + 1
     pub counter : new.counter ≡ old.counter
@@ -148,7 +148,7 @@ module _ {I T : Type 0} (number : I → ℕ) where
     pub room : new.room ≡ old.room
 
 module _ {P I T : Type 0} (index generation : P → ℕ) (number : I → ℕ) where
-  -- the place that a kind asks for among these links, or nothing where they are not as it requires
-  abbrev pub place_among : Content (IndexLink I T) → InsertKind P I → Option (Place ℕ)
-  place_among c kind = place_of index number (λ p. ends_found number c (index p) (generation p))
+  -- the gap that a kind asks for among these links, or nothing where they are not as it requires
+  abbrev pub gap_among : Content (IndexLink I T) → InsertKind P I → Option (Gap ℕ)
+  gap_among c kind = gap_of index number (λ p. ends_found number c (index p) (generation p))
       (ends_in number c) kind

@@ -1,7 +1,7 @@
 -- The chains that interlinks make, as lists, and what each change of interlinks makes of them.
 use Rattle.std.specs.Prelude.{◌≡◌, ◌≢◌, ℕ, ◌≤◌, List, [], ◌∷◌, ◌++◌, Option, Some, None, IsSome}
-use Rattle.triple_arena_chain.specs.declared.place.Place.{Place}
-use Rattle.triple_arena_chain.specs.declared.place.Place.TheVariants.{Between, OwnRing}
+use Rattle.triple_arena_chain.specs.declared.gap.Gap.{Gap}
+use Rattle.triple_arena_chain.specs.declared.gap.Gap.TheVariants.{Between, OwnRing}
 use Rattle.triple_arena_chain.specs.Chains.{Ends, first_or, last_or, Off, On, Apart, IsLinear}
 use Rattle.triple_arena_chain.specs.Chains.{IsRing}
 
@@ -97,8 +97,8 @@ pub record IsOwnRing (n : ℕ) (old new : ℕ → Option Ends) : Type 0 where
   -- each other chain is as it was
   pub others : (c : Chain) → IsChainOf old c → IsChainOf new c
 
--- one more index stands at a place
-abbrev pub IsPutAt : Place ℕ → ℕ → (ℕ → Option Ends) → (ℕ → Option Ends) → Type 0
+-- one more index stands at a gap
+abbrev pub IsPutAt : Gap ℕ → ℕ → (ℕ → Option Ends) → (ℕ → Option Ends) → Type 0
 IsPutAt (Between before after) n old new = IsPutIn (before, after) n old new
 IsPutAt OwnRing n old new = IsOwnRing n old new
 

@@ -15,10 +15,10 @@ ghost use Rattle.triple_arena_chain.specs.declared.kind.InsertKind.TheVariants.{
 ghost use Rattle.triple_arena_chain.specs.LinkShape.{IndexLink};
 ghost use Rattle.triple_arena_chain.specs.Chains.{next_in, prev_in, next_at, prev_at, linked};
 ghost use Rattle.triple_arena_chain.specs.Chains.{unlinked, exchanged};
-ghost use Rattle.triple_arena_chain.specs.InsertEntry.{IsLinkAnswer, IsLinkRefusal};
+ghost use Rattle.triple_arena_chain.specs.Insertion.{InsertsWithinCapacity, InsertsReallocating};
 ghost use Rattle.triple_arena_chain.specs.Links.{ends_in, ends_found, values_in, with_value_in};
-ghost use Rattle.triple_arena_chain.specs.Links.{link_removed, place_among, bridged_over};
-ghost use Rattle.triple_arena_chain.specs.Links.{IsChained, IsPlaced, IsRelinked, IsTakenOut};
+ghost use Rattle.triple_arena_chain.specs.Links.{link_removed, gap_among, bridged_over};
+ghost use Rattle.triple_arena_chain.specs.Links.{IsChained, IsLinkInserted, IsRelinked, IsTakenOut};
 ghost use Rattle.triple_arena_chain.specs.Lists.{IsAppended, IsSplit, IsExchanged};
 ghost use Rattle.triple_arena_chain.specs.Renaming.{IsCompacted};
 ghost use Rattle.triple_arena_chain.specs.Values.{IsLivePtr};
@@ -77,7 +77,7 @@ pub trait ChainArenaTrait<P: PtrCore, T: Drop>: ArenaTrait<P, T> {
     /// Whether the links are as the kind requires.
     fn meets(&self, kind: &LinkInsertKind<P>) -> bool
         ensures { IsTrue result
-            ↔ IsSome (place_among P.index P.generation P.Inx.number (links self.now) kind.now) };
+            ↔ IsSome (gap_among P.index P.generation P.Inx.number (links self.now) kind.now) };
 
     /// A walk along the chain of the link that `p` points to, from there on, or `None` if `p` is
     /// not valid. It gives the pointers, one a call, to the links from that one on to the end and
@@ -98,15 +98,8 @@ pub trait ChainArenaTrait<P: PtrCore, T: Drop>: ArenaTrait<P, T> {
         kind: &LinkInsertKind<P>,
         t: T,
     ) -> Result<P, ChainInsertionError>
-        ensures answer { IsLinkAnswer
-            (place_among P.index P.generation P.Inx.number (links self.old) kind.now)
-            (live_count (links self.old)) (arena_capacity (links self.old)) result }
-        ensures placed { IfOk result
-            (λ p. IfSome (place_among P.index P.generation P.Inx.number (links self.old) kind.now)
-            (λ place. IsPlaced P.Inx.number place (P.index p) (P.generation p) t (links self.old)
-            (links self.new))) }
-        ensures formed { IsChained P.Inx.number (links self.new) }
-        ensures room { (links self.new).room ≡ (links self.old).room }
+        ensures inserts { InsertsWithinCapacity P.index P.generation P.Inx.number kind.now t result
+            (links self.old) (links self.new) }
         ensures err { OnErr result (self.new ≡ self.old) };
 
     /// What `insert_reallocating` does, with the kind lent.
@@ -115,16 +108,8 @@ pub trait ChainArenaTrait<P: PtrCore, T: Drop>: ArenaTrait<P, T> {
         kind: &LinkInsertKind<P>,
         t: T,
     ) -> Result<P, ChainInsertionError>
-        ensures refusal { IsLinkRefusal
-            (place_among P.index P.generation P.Inx.number (links self.old) kind.now)
-            Self.takes_memory (live_count (links self.old)) (links self.old).room result }
-        ensures placed { IfOk result
-            (λ p. IfSome (place_among P.index P.generation P.Inx.number (links self.old) kind.now)
-            (λ place. IsPlaced P.Inx.number place (P.index p) (P.generation p) t (links self.old)
-            (links self.new))) }
-        ensures formed { IsChained P.Inx.number (links self.new) }
-        ensures room { OnOk result ((links self.new).room
-            ≡ room_after (live_count (links self.old)) (links self.old).room) }
+        ensures inserts { InsertsReallocating P.index P.generation P.Inx.number kind.now t result
+            (links self.old) (links self.new) Self.takes_memory }
         ensures err { OnErr result (self.new ≡ self.old) };
 
     /// Makes `q` the next of `p`, if `p` is valid without a next and `q` is valid without a
@@ -132,7 +117,7 @@ pub trait ChainArenaTrait<P: PtrCore, T: Drop>: ArenaTrait<P, T> {
     /// linear chain make a ring, also if `p` is `q`.
     fn connect(&mut self, p: P, q: P) -> Option<()>
         ensures variant { IsSome result
-            ↔ IsSome (place_among P.index P.generation P.Inx.number (links self.old) (Bridge p q)) }
+            ↔ IsSome (gap_among P.index P.generation P.Inx.number (links self.old) (Bridge p q)) }
         ensures relinked { OnSome result (IsRelinked P.Inx.number
             (linked (ends_in P.Inx.number (links self.old)) (P.index p) (P.index q))
             (links self.old) (links self.new)) }
@@ -278,15 +263,8 @@ pub trait ChainArenaTrait<P: PtrCore, T: Drop>: ArenaTrait<P, T> {
         kind: LinkInsertKind<P>,
         t: T,
     ) -> Result<P, ChainInsertionError>
-        ensures answer { IsLinkAnswer
-            (place_among P.index P.generation P.Inx.number (links self.old) kind)
-            (live_count (links self.old)) (arena_capacity (links self.old)) result }
-        ensures placed { IfOk result
-            (λ p. IfSome (place_among P.index P.generation P.Inx.number (links self.old) kind)
-            (λ place. IsPlaced P.Inx.number place (P.index p) (P.generation p) t (links self.old)
-            (links self.new))) }
-        ensures formed { IsChained P.Inx.number (links self.new) }
-        ensures room { (links self.new).room ≡ (links self.old).room }
+        ensures inserts { InsertsWithinCapacity P.index P.generation P.Inx.number kind t result
+            (links self.old) (links self.new) }
         ensures err { OnErr result (self.new ≡ self.old) }
     {
         self.insert_lent_within_capacity(&kind, t)
@@ -304,16 +282,8 @@ pub trait ChainArenaTrait<P: PtrCore, T: Drop>: ArenaTrait<P, T> {
         kind: LinkInsertKind<P>,
         t: T,
     ) -> Result<P, ChainInsertionError>
-        ensures refusal { IsLinkRefusal
-            (place_among P.index P.generation P.Inx.number (links self.old) kind)
-            Self.takes_memory (live_count (links self.old)) (links self.old).room result }
-        ensures placed { IfOk result
-            (λ p. IfSome (place_among P.index P.generation P.Inx.number (links self.old) kind)
-            (λ place. IsPlaced P.Inx.number place (P.index p) (P.generation p) t (links self.old)
-            (links self.new))) }
-        ensures formed { IsChained P.Inx.number (links self.new) }
-        ensures room { OnOk result ((links self.new).room
-            ≡ room_after (live_count (links self.old)) (links self.old).room) }
+        ensures inserts { InsertsReallocating P.index P.generation P.Inx.number kind t result
+            (links self.old) (links self.new) Self.takes_memory }
         ensures err { OnErr result (self.new ≡ self.old) }
     {
         self.insert_lent_reallocating(&kind, t)
@@ -322,17 +292,9 @@ pub trait ChainArenaTrait<P: PtrCore, T: Drop>: ArenaTrait<P, T> {
     /// The same as `insert_reallocating`, if the links are as the kind requires.
     #[inline(always)]
     final fn insert(&mut self, kind: LinkInsertKind<P>, t: T) -> Result<P, ChainInsertionError>
-        requires { IsSome (place_among P.index P.generation P.Inx.number (links self.old) kind) }
-        ensures refusal { IsLinkRefusal
-            (place_among P.index P.generation P.Inx.number (links self.old) kind)
-            Self.takes_memory (live_count (links self.old)) (links self.old).room result }
-        ensures placed { IfOk result
-            (λ p. IfSome (place_among P.index P.generation P.Inx.number (links self.old) kind)
-            (λ place. IsPlaced P.Inx.number place (P.index p) (P.generation p) t (links self.old)
-            (links self.new))) }
-        ensures formed { IsChained P.Inx.number (links self.new) }
-        ensures room { OnOk result ((links self.new).room
-            ≡ room_after (live_count (links self.old)) (links self.old).room) }
+        requires { IsSome (gap_among P.index P.generation P.Inx.number (links self.old) kind) }
+        ensures inserts { InsertsReallocating P.index P.generation P.Inx.number kind t result
+            (links self.old) (links self.new) Self.takes_memory }
         ensures err { OnErr result (self.new ≡ self.old) }
     {
         self.insert_reallocating(kind, t)

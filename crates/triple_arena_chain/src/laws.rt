@@ -12,8 +12,8 @@ ghost use Rattle.triple_arena_chain.specs.Chains.{exchanged, IsLinear, IsRing, O
 ghost use Rattle.triple_arena_chain.specs.Lists.{Chain, members, IsChainOf, AreChains};
 ghost use Rattle.triple_arena_chain.specs.Runs.{IsRunFrom};
 ghost use Rattle.triple_arena_chain.specs.Walks.{IsWalkFrom};
-ghost use Rattle.triple_arena_chain.specs.Links.{ends_in, ends_found, values_in, place_among};
-ghost use Rattle.triple_arena_chain.specs.Links.{IsChained, IsPlaced, IsTakenOut, IsRelinked};
+ghost use Rattle.triple_arena_chain.specs.Links.{ends_in, ends_found, values_in, gap_among};
+ghost use Rattle.triple_arena_chain.specs.Links.{IsChained, IsLinkInserted, IsTakenOut, IsRelinked};
 ghost use Rattle.triple_arena_chain.specs.UniquenessLaws.{IsInOneChain};
 
 use triple_arena::PtrCore;
@@ -81,12 +81,12 @@ pub fn walks_of_a_ring_are_rotations()
 /// restores all interlinks, and leaves all else as it was.
 pub fn break_next_takes_connect_back<P: PtrCore, T>()
     ensures answers { (before between : Content (IndexLink P.Inx T)) (p q : P)
-        → IsSome (place_among P.index P.generation P.Inx.number before (Bridge p q))
+        → IsSome (gap_among P.index P.generation P.Inx.number before (Bridge p q))
         → IsRelinked P.Inx.number (linked (ends_in P.Inx.number before) (P.index p) (P.index q))
         before between
         → IsSome (next_in (ends_found P.Inx.number between (P.index p) (P.generation p))) }
     ensures restored { (before between after : Content (IndexLink P.Inx T)) (p q : P)
-        → IsSome (place_among P.index P.generation P.Inx.number before (Bridge p q))
+        → IsSome (gap_among P.index P.generation P.Inx.number before (Bridge p q))
         → IsRelinked P.Inx.number (linked (ends_in P.Inx.number before) (P.index p) (P.index q))
         before between
         → ((n : ℕ) → next_at (ends_in P.Inx.number between) (P.index p) ≡ Some n
@@ -132,17 +132,17 @@ pub fn exchange_next_takes_itself_back<P: PtrCore, T>()
 pub fn removals_take_insertions_back<P: PtrCore, T>()
     ensures after { (before between after : Content (IndexLink P.Inx T)) (p : P) (i g : ℕ) (t : T)
         → IsChained P.Inx.number before → IsChained P.Inx.number between
-        → IsSome (place_among P.index P.generation P.Inx.number before (NextTo p))
-        → IfSome (place_among P.index P.generation P.Inx.number before (NextTo p))
-        (λ place. IsPlaced P.Inx.number place i g t before between)
+        → IsSome (gap_among P.index P.generation P.Inx.number before (NextTo p))
+        → IfSome (gap_among P.index P.generation P.Inx.number before (NextTo p))
+        (λ gap. IsLinkInserted P.Inx.number gap i g t before between)
         → IsTakenOut P.Inx.number P.Gen.last i between after
         → (k : ℕ) → (ends_in P.Inx.number after k ≡ ends_in P.Inx.number before k)
         × (values_in after k ≡ values_in before k) }
     ensures before { (before between after : Content (IndexLink P.Inx T)) (p : P) (i g : ℕ) (t : T)
         → IsChained P.Inx.number before → IsChained P.Inx.number between
-        → IsSome (place_among P.index P.generation P.Inx.number before (PrevTo p))
-        → IfSome (place_among P.index P.generation P.Inx.number before (PrevTo p))
-        (λ place. IsPlaced P.Inx.number place i g t before between)
+        → IsSome (gap_among P.index P.generation P.Inx.number before (PrevTo p))
+        → IfSome (gap_among P.index P.generation P.Inx.number before (PrevTo p))
+        (λ gap. IsLinkInserted P.Inx.number gap i g t before between)
         → IsTakenOut P.Inx.number P.Gen.last i between after
         → (k : ℕ) → (ends_in P.Inx.number after k ≡ ends_in P.Inx.number before k)
         × (values_in after k ≡ values_in before k) }

@@ -28,11 +28,11 @@
 
 mod chain_arena;
 mod chain_arena_trait;
+mod gap;
 mod kind;
 pub mod laws;
 mod link;
 mod link_text;
-mod place;
 mod ptr_link;
 mod slots;
 
@@ -80,7 +80,7 @@ pub mod chain_iterators {
 }
 
 pub use chain_arena::copy_source::{LinkCloneSource, Neighbors};
-pub use chain_arena::entry::ChainArenaInsertEntry;
+pub use chain_arena::insertion::entry::ChainArenaInsertEntry;
 pub use chain_arena::{
     ArrayChainArena, BoxedChainArena, ChainArena, HeapChainArena, LimitedChainArena,
 };

@@ -1,7 +1,7 @@
 -- Where a linear chain is cut, and the neighbors of one of its indexes.
 use Rattle.std.proofs.Common.{◌≡◌, ℕ, List, [], ◌∷◌, ◌++◌, Option, Some, None, IsSome, refl, sym}
 use Rattle.std.proofs.Common.{ap, subst, inr, ◌⊎◌}
-use Rattle.triple_arena_chain.specs.Chains.{Ends, Stands, IsLinear, first_or, last_or, IsGap}
+use Rattle.triple_arena_chain.specs.Chains.{Ends, Stands, IsLinear, first_or, last_or, IsBetween}
 use Rattle.triple_arena_chain.specs.Chains.{next_in, prev_in, prev_at}
 use Rattle.triple_arena_chain.specs.ChainLaws.{Stands-front, Stands-back, last_or-append}
 
@@ -20,7 +20,7 @@ last_in (x ∷ xs) p e = go x xs e
 
 -- where a linear chain is cut, one more index may stand
 pub linear_gap : (e : ℕ → Option Ends) (xs ys : List ℕ) → IsLinear e (xs ++ ys)
-    → IsGap e (last_or None xs, first_or ys None)
+    → IsBetween e (last_or None xs, first_or ys None)
 linear_gap e xs ys s = record {
   before = λ p is.
       let l = last_in xs p is in

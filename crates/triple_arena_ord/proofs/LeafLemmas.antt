@@ -6,9 +6,9 @@ use Rattle.std.specs.Option.{option_map}
 use Rattle.std.proofs.lemmas.Bool.{cases_eq, cases_lt, eq-eqb, ne_eqb}
 use Rattle.triple_arena.specs.Content.{Content, entry_at, live_count}
 use Rattle.triple_arena_chain.specs.LinkShape.{IndexLink}
-use Rattle.triple_arena_chain.specs.declared.place.Place.TheVariants.{Between}
-use Rattle.triple_arena_chain.specs.Chains.{Ends, IsLinear, IsGap, first_or, last_or}
-use Rattle.triple_arena_chain.specs.Links.{ends_in, entry_ends, values_in, valued, IsPlaced}
+use Rattle.triple_arena_chain.specs.declared.gap.Gap.TheVariants.{Between}
+use Rattle.triple_arena_chain.specs.Chains.{Ends, IsLinear, IsBetween, first_or, last_or}
+use Rattle.triple_arena_chain.specs.Links.{ends_in, entry_ends, values_in, valued, IsLinkInserted}
 use Rattle.triple_arena_chain.specs.Lists.{Linear}
 use Rattle.triple_arena_chain.specs.ListLaws.{chain_where}
 use Rattle.rank_tree.specs.declared.side.Side.{Side}
@@ -201,7 +201,7 @@ module _ {I T : Type 0} (number : I → ℕ) where
   -- the gap of the chain
   pub cut_gap : (o : Ordered I T) (is : IsOrdered number o) (h : ℕ) (side : Side)
       (prev next : Option ℕ) → Cut o h side prev next
-      → IsGap (ends_in number o.chains) (prev, next)
+      → IsBetween (ends_in number o.chains) (prev, next)
   cut_gap o is h side prev next cut =
       rw (cut.prev_is, cut.next_is)
       (linear_gap (ends_in number o.chains) cut.front cut.back
@@ -221,15 +221,15 @@ module _ {I T : Type 0} (number : I → ℕ) where
     pub prev : Option ℕ
     pub next : Option ℕ
     pub cut : Cut o h side prev next
-    pub placed : IsPlaced number (Between prev next) i g v o.chains c1
+    pub placed : IsLinkInserted number (Between prev next) i g v o.chains c1
     pub index_is : n ≡ i
     pub small : live_count o.chains + 1 < 2 ^ 64
 
   module _ {o : Ordered I T} {c1 : Content (IndexLink I (IndexNode I T))} {h n i g : ℕ}
       {side : Side} {v : IndexNode I T}
       (new : Linked o c1 h n i g side v) where
-    placed : IsPlaced number (Between new.prev new.next) n g v o.chains c1
-    placed = subst (λ j. IsPlaced number (Between new.prev new.next) j g v o.chains c1)
+    placed : IsLinkInserted number (Between new.prev new.next) n g v o.chains c1
+    placed = subst (λ j. IsLinkInserted number (Between new.prev new.next) j g v o.chains c1)
         (sym new.index_is) new.placed
 
     lives_not : (j : ℕ) → 0 < count j (tree_in number o) → j ≢ n

@@ -18,8 +18,8 @@ use Rattle.rank_tree.specs.declared.side.Side.TheVariants.{Left, Right}
 use Rattle.triple_arena_ord.specs.NodeShape.{IndexNode}
 use Rattle.triple_arena_ord.specs.Node.{knots_in, items_in}
 use Rattle.rank_tree.specs.Search.{AllIn}
-use Rattle.triple_arena_ord.specs.Ordered.{Ordered, IsAscending, StandsBeside, order_in, entry_in}
-use Rattle.triple_arena_ord.specs.Ordered.{size_in, asked_at}
+use Rattle.triple_arena_ord.specs.Ordered.{Ordered, IsOrdered, IsAscending, StandsBeside}
+use Rattle.triple_arena_ord.specs.Ordered.{order_in, entry_in, size_in, asked_at}
 
 -- one more index stands where a search ended: before or after the index that was asked last, or
 -- alone
@@ -75,6 +75,13 @@ either_room (Some takes_memory) = growing_room takes_memory
 abbrev pub room_made : {T : Type 0} → Option T → ℕ → Room → Room
 room_made None len room = room_after len room
 room_made (Some _) len room = room
+
+-- the room that an insertion leaves, which does not grow, or which does
+abbrev pub room_left : {P T : Type 0} → Option Bool → Result (P × Option T) OrdInsertionError → ℕ
+    → Room → Room
+room_left None result len room = room
+room_left (Some _) (Ok made) len room = room_made made.1 len room
+room_left (Some _) (Err _) len room = room
 
 -- the room with a place for an item: an item in place of another wants none
 abbrev pub room_for : Option (ℕ × Ordering) → ℕ → Room → Room
@@ -159,3 +166,15 @@ module _ {I T : Type 0} (number : I → ℕ) where
         pub absent : (error : OrdInsertionError) → result ≡ Err error
             → IsAscending number cmp key old
             → (i : ℕ) → option_map (λ e. cmp (key t) (key e.1)) (entry_in old i) ≢ Some Equal
+
+    module _ {P : Type 0} (index generation : P → ℕ) where
+      -- the same of a call that does not grow, or of one that does, over a stack that may take
+      -- memory. A list whose keys ascend still does, and the counter stays
+      pub record InsertsByKey (growth : Option Bool) (t : T)
+          (result : Result (P × Option T) OrdInsertionError) (old new : Ordered I T) : Type 0 where
+        pub inserted : IsKeyInserted index generation (either_room growth (size_in old)
+            old.chains.room) t result old new
+        pub ascending : IsAscending number cmp key old → IsAscending number cmp key new
+        pub counter : new.chains.counter ≡ old.chains.counter
+        pub room : new.chains.room ≡ room_left growth result (size_in old) old.chains.room
+        pub ordered : IsOrdered number new

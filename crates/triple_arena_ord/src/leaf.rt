@@ -3,7 +3,7 @@ ghost use Rattle.std.specs.Prelude.{◌≡◌, ℕ, ◌<◌, Some, IsSome};
 ghost use Rattle.std.specs.Option.{option_map};
 ghost use Rattle.triple_arena.specs.Content.{entry_at, live_count, arena_capacity};
 ghost use Rattle.rank_tree.specs.Store.{child_of};
-ghost use Rattle.triple_arena_chain.specs.Chains.{IsGap};
+ghost use Rattle.triple_arena_chain.specs.Chains.{IsBetween};
 ghost use Rattle.triple_arena_chain.specs.Kinds.{ends_by};
 ghost use Rattle.triple_arena_chain.specs.Links.{ends_in};
 ghost use Rattle.triple_arena_ord.specs.Node.{knots_in, prev_for, next_for};
@@ -100,7 +100,7 @@ fn gap_beside<P: PtrCore, T: Drop, S: OrdSlots<P, T>>(
     ensures next { option_map (λ e. next_for P.Inx.number side e.1 (P.Inx.number holder))
         (entry_at chains.now (P.Inx.number holder))
         ≡ Some (option_map P.Inx.number result.1) }
-    ensures gap { IsGap (ends_in P.Inx.number chains.now)
+    ensures gap { IsBetween (ends_in P.Inx.number chains.now)
         (ends_by P.Inx.number (result.0, result.1)) }
 {
     neighbors_beside(chains, holder, side)

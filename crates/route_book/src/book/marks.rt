@@ -1,10 +1,10 @@
 //! Marks.
-ghost use Rattle.std.specs.Prelude.{◌≡◌, IfErr};
+ghost use Rattle.std.specs.Prelude.{◌≡◌};
 ghost use Rattle.rank_tree.specs.Comparisons.{most_comparisons};
 ghost use Rattle.route_lines.specs.Calls.{marked, after_mark};
 ghost use Rattle.route_lines.specs.Searches.{CountsWithin, living_count};
 ghost use Rattle.route_lines.specs.State.{is_full_of_marks};
-ghost use Rattle.route_book.specs.Book.{KeepsItems};
+ghost use Rattle.route_book.specs.Book.{Changes};
 
 use crate::backing::BookBacking;
 use crate::book::RouteBook;
@@ -30,10 +30,8 @@ impl<P: PtrCore, B: BookBacking<P>> RouteBook<P, B> {
     /// ended, `Kind` if it is of the wrong kind. Then `Full` if as many marks live as the room
     /// holds, or every ticket was given; then nothing changes.
     pub fn mark(&mut self, place: u64, stop: u64) -> Result<u64, Refusal>
-        ensures result { result ≡ marked self.old.state place stop }
-        ensures state { self.new.state ≡ after_mark self.old.state place stop }
-        ensures kept { KeepsItems self.old self.new }
-        ensures refused { IfErr result (λ _. self.new ≡ self.old) }
+        ensures changes { Changes (marked self.old.state place stop)
+            (after_mark self.old.state place stop) result self.old self.new }
         ensures others { (self.new.places ≡ self.old.places) × (self.new.stops ≡ self.old.stops) }
     {
         self.mark_counted(place, stop, &mut Counts::new())
@@ -46,10 +44,8 @@ impl<P: PtrCore, B: BookBacking<P>> RouteBook<P, B> {
         stop: u64,
         counts: &mut Counts,
     ) -> Result<u64, Refusal>
-        ensures result { result ≡ marked self.old.state place stop }
-        ensures state { self.new.state ≡ after_mark self.old.state place stop }
-        ensures kept { KeepsItems self.old self.new }
-        ensures refused { IfErr result (λ _. self.new ≡ self.old) }
+        ensures changes { Changes (marked self.old.state place stop)
+            (after_mark self.old.state place stop) result self.old self.new }
         ensures others { (self.new.places ≡ self.old.places) × (self.new.stops ≡ self.old.stops) }
         ensures counts { CountsWithin counts.old counts.new
             0 (most_comparisons (living_count self.old.state))

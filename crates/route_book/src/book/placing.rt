@@ -1,5 +1,5 @@
 //! A place more, or another word for one.
-ghost use Rattle.std.specs.Prelude.{◌≡◌, ◌+◌, Some, Ok, IfErr, false};
+ghost use Rattle.std.specs.Prelude.{◌≡◌, ◌+◌, Some, Ok, false};
 ghost use Rattle.rank_tree.specs.Comparisons.{most_comparisons};
 ghost use Rattle.triple_arena.specs.Entries.{value_if};
 ghost use Rattle.triple_arena_ord.specs.Found.{IsSimilar};
@@ -8,7 +8,7 @@ ghost use Rattle.route_lines.specs.Calls.{place_holder, placed, after_place, pla
 ghost use Rattle.route_lines.specs.Calls.{after_place_near, worded, after_word};
 ghost use Rattle.route_lines.specs.Searches.{CountsWithin, place_count, living_count, most_near};
 ghost use Rattle.route_lines.specs.State.{Place as PlaceView, is_full_of_places};
-ghost use Rattle.route_book.specs.Book.{KeepsItems};
+ghost use Rattle.route_book.specs.Book.{Changes};
 ghost use Rattle.route_book.specs.Keys.{key_cmp, key_of};
 
 use crate::backing::BookBacking;
@@ -29,10 +29,8 @@ impl<P: PtrCore, B: BookBacking<P>> RouteBook<P, B> {
     /// `Full` if as many places live as the room holds, or every ticket was given; then nothing
     /// changes.
     pub fn place(&mut self, key: u64, word: Word) -> Result<u64, Refusal>
-        ensures result { result ≡ placed self.old.state }
-        ensures state { self.new.state ≡ after_place self.old.state key word }
-        ensures kept { KeepsItems self.old self.new }
-        ensures refused { IfErr result (λ _. self.new ≡ self.old) }
+        ensures changes { Changes (placed self.old.state)
+            (after_place self.old.state key word) result self.old self.new }
         ensures others { (self.new.stops ≡ self.old.stops) × (self.new.marks ≡ self.old.marks) }
     {
         self.place_counted(key, word, &mut Counts::new())
@@ -45,10 +43,8 @@ impl<P: PtrCore, B: BookBacking<P>> RouteBook<P, B> {
         word: Word,
         counts: &mut Counts,
     ) -> Result<u64, Refusal>
-        ensures result { result ≡ placed self.old.state }
-        ensures state { self.new.state ≡ after_place self.old.state key word }
-        ensures kept { KeepsItems self.old self.new }
-        ensures refused { IfErr result (λ _. self.new ≡ self.old) }
+        ensures changes { Changes (placed self.old.state)
+            (after_place self.old.state key word) result self.old self.new }
         ensures others { (self.new.stops ≡ self.old.stops) × (self.new.marks ≡ self.old.marks) }
         ensures counts { CountsWithin counts.old counts.new
             (most_comparisons (place_count self.old.state)) 0 0 }
@@ -70,10 +66,8 @@ impl<P: PtrCore, B: BookBacking<P>> RouteBook<P, B> {
     ///
     /// Before all else it is refused if `near` is no living place: `Unknown`, `Gone` or `Kind`.
     pub fn place_near(&mut self, key: u64, word: Word, near: u64) -> Result<u64, Refusal>
-        ensures result { result ≡ placed_near self.old.state near }
-        ensures state { self.new.state ≡ after_place_near self.old.state key word near }
-        ensures kept { KeepsItems self.old self.new }
-        ensures refused { IfErr result (λ _. self.new ≡ self.old) }
+        ensures changes { Changes (placed_near self.old.state near)
+            (after_place_near self.old.state key word near) result self.old self.new }
         ensures others { (self.new.stops ≡ self.old.stops) × (self.new.marks ≡ self.old.marks) }
     {
         self.place_near_counted(key, word, near, &mut Counts::new())
@@ -89,10 +83,8 @@ impl<P: PtrCore, B: BookBacking<P>> RouteBook<P, B> {
         near: u64,
         counts: &mut Counts,
     ) -> Result<u64, Refusal>
-        ensures result { result ≡ placed_near self.old.state near }
-        ensures state { self.new.state ≡ after_place_near self.old.state key word near }
-        ensures kept { KeepsItems self.old self.new }
-        ensures refused { IfErr result (λ _. self.new ≡ self.old) }
+        ensures changes { Changes (placed_near self.old.state near)
+            (after_place_near self.old.state key word near) result self.old self.new }
         ensures others { (self.new.stops ≡ self.old.stops) × (self.new.marks ≡ self.old.marks) }
         ensures counts { CountsWithin counts.old counts.new
             (most_near self.old.state key near) (most_comparisons (living_count self.old.state)) 0 }
@@ -118,10 +110,8 @@ impl<P: PtrCore, B: BookBacking<P>> RouteBook<P, B> {
     /// `Unknown` if the ticket was never given, `Gone` if its item has ended, `Kind` if it
     /// is no place; then nothing changes.
     pub fn set_word(&mut self, ticket: u64, word: Word) -> Result<Word, Refusal>
-        ensures result { result ≡ worded self.old.state ticket }
-        ensures state { self.new.state ≡ after_word self.old.state ticket word }
-        ensures kept { KeepsItems self.old self.new }
-        ensures refused { IfErr result (λ _. self.new ≡ self.old) }
+        ensures changes { Changes (worded self.old.state ticket)
+            (after_word self.old.state ticket word) result self.old self.new }
         ensures others { (self.new.stops ≡ self.old.stops) × (self.new.marks ≡ self.old.marks) }
     {
         self.set_word_counted(ticket, word, &mut Counts::new())
@@ -134,10 +124,8 @@ impl<P: PtrCore, B: BookBacking<P>> RouteBook<P, B> {
         word: Word,
         counts: &mut Counts,
     ) -> Result<Word, Refusal>
-        ensures result { result ≡ worded self.old.state ticket }
-        ensures state { self.new.state ≡ after_word self.old.state ticket word }
-        ensures kept { KeepsItems self.old self.new }
-        ensures refused { IfErr result (λ _. self.new ≡ self.old) }
+        ensures changes { Changes (worded self.old.state ticket)
+            (after_word self.old.state ticket word) result self.old self.new }
         ensures others { (self.new.stops ≡ self.old.stops) × (self.new.marks ≡ self.old.marks) }
         ensures counts { CountsWithin counts.old counts.new
             0 (most_comparisons (living_count self.old.state)) 0 }
@@ -151,9 +139,8 @@ impl<P: PtrCore, B: BookBacking<P>> RouteBook<P, B> {
         requires found { (place : PlaceView)
             × (value_if (P.generation at) (entry_in self.old.places (P.index at)) ≡ Some place)
             × (place_holder self.old.state ticket ≡ Ok place) }
-        ensures result { Ok result ≡ worded self.old.state ticket }
-        ensures state { self.new.state ≡ after_word self.old.state ticket word }
-        ensures kept { KeepsItems self.old self.new }
+        ensures changes { Changes (worded self.old.state ticket)
+            (after_word self.old.state ticket word) (Ok result) self.old self.new }
         ensures others { (self.new.stops ≡ self.old.stops) × (self.new.marks ≡ self.old.marks) }
     {
         changes_keep_states_sound();
@@ -175,9 +162,8 @@ impl<P: PtrCore, B: BookBacking<P>> RouteBook<P, B> {
             self.old.places)
             (IsAscending P.Inx.number key_cmp key_of self.old.places) found self.old.places }
         requires free { is_full_of_places self.old.state ≡ false }
-        ensures result { Ok result ≡ placed self.old.state }
-        ensures state { self.new.state ≡ after_place self.old.state key word }
-        ensures kept { KeepsItems self.old self.new }
+        ensures changes { Changes (placed self.old.state)
+            (after_place self.old.state key word) (Ok result) self.old self.new }
         ensures others { (self.new.stops ≡ self.old.stops) × (self.new.marks ≡ self.old.marks) }
     {
         changes_keep_states_sound();

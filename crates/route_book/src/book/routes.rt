@@ -1,10 +1,10 @@
 //! Routes: a stop behind another, and stops that are joined, parted and exchanged.
-ghost use Rattle.std.specs.Prelude.{◌≡◌, IfErr};
+ghost use Rattle.std.specs.Prelude.{◌≡◌};
 ghost use Rattle.rank_tree.specs.Comparisons.{most_comparisons};
 ghost use Rattle.route_lines.specs.Calls.{after_cut, after_extend, after_join, after_swap};
 ghost use Rattle.route_lines.specs.Calls.{extended, joined, parted, swapped};
 ghost use Rattle.route_lines.specs.Searches.{CountsWithin, living_count};
-ghost use Rattle.route_book.specs.Book.{KeepsItems};
+ghost use Rattle.route_book.specs.Book.{Changes};
 
 use crate::backing::BookBacking;
 use crate::book::RouteBook;
@@ -28,10 +28,8 @@ impl<P: PtrCore, B: BookBacking<P>> RouteBook<P, B> {
     /// its item has ended, `Kind` if it is of another kind. Then `Full` if as many stops live as
     /// the room holds, or every ticket was given. A refused call changes nothing.
     pub fn extend(&mut self, stop: u64, place: u64) -> Result<u64, Refusal>
-        ensures result { result ≡ extended self.old.state stop place }
-        ensures state { self.new.state ≡ after_extend self.old.state stop place }
-        ensures kept { KeepsItems self.old self.new }
-        ensures refused { IfErr result (λ _. self.new ≡ self.old) }
+        ensures changes { Changes (extended self.old.state stop place)
+            (after_extend self.old.state stop place) result self.old self.new }
     {
         self.extend_counted(stop, place, &mut Counts::new())
     }
@@ -43,10 +41,8 @@ impl<P: PtrCore, B: BookBacking<P>> RouteBook<P, B> {
         place: u64,
         counts: &mut Counts,
     ) -> Result<u64, Refusal>
-        ensures result { result ≡ extended self.old.state stop place }
-        ensures state { self.new.state ≡ after_extend self.old.state stop place }
-        ensures kept { KeepsItems self.old self.new }
-        ensures refused { IfErr result (λ _. self.new ≡ self.old) }
+        ensures changes { Changes (extended self.old.state stop place)
+            (after_extend self.old.state stop place) result self.old self.new }
         ensures counts { CountsWithin counts.old counts.new
             0 (most_comparisons (living_count self.old.state))
             (most_comparisons (living_count self.old.state)) }
@@ -82,20 +78,16 @@ impl<P: PtrCore, B: BookBacking<P>> RouteBook<P, B> {
     /// ended, `Kind` if it is no stop. Then `No` if a stop follows the first, or the second follows
     /// one. A refused call changes nothing.
     pub fn join(&mut self, stop: u64, next: u64) -> Result<(), Refusal>
-        ensures result { result ≡ joined self.old.state stop next }
-        ensures state { self.new.state ≡ after_join self.old.state stop next }
-        ensures kept { KeepsItems self.old self.new }
-        ensures refused { IfErr result (λ _. self.new ≡ self.old) }
+        ensures changes { Changes (joined self.old.state stop next)
+            (after_join self.old.state stop next) result self.old self.new }
     {
         self.join_counted(stop, next, &mut Counts::new())
     }
 
     /// The same, with the comparisons of its searches counted as `first` and `second`.
     pub fn join_counted(&mut self, stop: u64, next: u64, counts: &mut Counts) -> Result<(), Refusal>
-        ensures result { result ≡ joined self.old.state stop next }
-        ensures state { self.new.state ≡ after_join self.old.state stop next }
-        ensures kept { KeepsItems self.old self.new }
-        ensures refused { IfErr result (λ _. self.new ≡ self.old) }
+        ensures changes { Changes (joined self.old.state stop next)
+            (after_join self.old.state stop next) result self.old self.new }
         ensures counts { CountsWithin counts.old counts.new
             0 (most_comparisons (living_count self.old.state))
             (most_comparisons (living_count self.old.state)) }
@@ -123,20 +115,16 @@ impl<P: PtrCore, B: BookBacking<P>> RouteBook<P, B> {
     /// `Unknown` if the ticket was never given, `Gone` if its item has ended, `Kind` if it is no
     /// stop, and then `No` if no stop follows it. A refused call changes nothing.
     pub fn cut(&mut self, stop: u64) -> Result<(), Refusal>
-        ensures result { result ≡ parted self.old.state stop }
-        ensures state { self.new.state ≡ after_cut self.old.state stop }
-        ensures kept { KeepsItems self.old self.new }
-        ensures refused { IfErr result (λ _. self.new ≡ self.old) }
+        ensures changes { Changes (parted self.old.state stop)
+            (after_cut self.old.state stop) result self.old self.new }
     {
         self.cut_counted(stop, &mut Counts::new())
     }
 
     /// The same, with the comparisons of its search counted as `first`.
     pub fn cut_counted(&mut self, stop: u64, counts: &mut Counts) -> Result<(), Refusal>
-        ensures result { result ≡ parted self.old.state stop }
-        ensures state { self.new.state ≡ after_cut self.old.state stop }
-        ensures kept { KeepsItems self.old self.new }
-        ensures refused { IfErr result (λ _. self.new ≡ self.old) }
+        ensures changes { Changes (parted self.old.state stop)
+            (after_cut self.old.state stop) result self.old self.new }
         ensures counts { CountsWithin counts.old counts.new
             0 (most_comparisons (living_count self.old.state)) 0 }
     {
@@ -162,10 +150,8 @@ impl<P: PtrCore, B: BookBacking<P>> RouteBook<P, B> {
     /// ended, `Kind` if it is no stop. Then `No` if no stop follows one of them. A refused call
     /// changes nothing.
     pub fn swap(&mut self, stop: u64, other: u64) -> Result<(), Refusal>
-        ensures result { result ≡ swapped self.old.state stop other }
-        ensures state { self.new.state ≡ after_swap self.old.state stop other }
-        ensures kept { KeepsItems self.old self.new }
-        ensures refused { IfErr result (λ _. self.new ≡ self.old) }
+        ensures changes { Changes (swapped self.old.state stop other)
+            (after_swap self.old.state stop other) result self.old self.new }
     {
         self.swap_counted(stop, other, &mut Counts::new())
     }
@@ -177,10 +163,8 @@ impl<P: PtrCore, B: BookBacking<P>> RouteBook<P, B> {
         other: u64,
         counts: &mut Counts,
     ) -> Result<(), Refusal>
-        ensures result { result ≡ swapped self.old.state stop other }
-        ensures state { self.new.state ≡ after_swap self.old.state stop other }
-        ensures kept { KeepsItems self.old self.new }
-        ensures refused { IfErr result (λ _. self.new ≡ self.old) }
+        ensures changes { Changes (swapped self.old.state stop other)
+            (after_swap self.old.state stop other) result self.old self.new }
         ensures counts { CountsWithin counts.old counts.new
             0 (most_comparisons (living_count self.old.state))
             (most_comparisons (living_count self.old.state)) }

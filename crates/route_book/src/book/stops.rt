@@ -1,11 +1,11 @@
 //! Stops and their routes.
-ghost use Rattle.std.specs.Prelude.{◌≡◌, IfErr};
+ghost use Rattle.std.specs.Prelude.{◌≡◌};
 ghost use Rattle.rank_tree.specs.Comparisons.{most_comparisons};
 ghost use Rattle.triple_arena_chain.specs.Links.{IsChained};
 ghost use Rattle.route_lines.specs.Calls.{started, after_start};
 ghost use Rattle.route_lines.specs.Searches.{CountsWithin, living_count};
 ghost use Rattle.route_lines.specs.State.{is_full_of_stops};
-ghost use Rattle.route_book.specs.Book.{KeepsItems};
+ghost use Rattle.route_book.specs.Book.{Changes};
 
 use crate::backing::BookBacking;
 use crate::book::RouteBook;
@@ -33,20 +33,16 @@ impl<P: PtrCore, B: BookBacking<P>> RouteBook<P, B> {
     /// place, and then `Full` if as many stops live as the room holds, or every ticket was given;
     /// then nothing changes.
     pub fn start(&mut self, place: u64) -> Result<u64, Refusal>
-        ensures result { result ≡ started self.old.state place }
-        ensures state { self.new.state ≡ after_start self.old.state place }
-        ensures kept { KeepsItems self.old self.new }
-        ensures refused { IfErr result (λ _. self.new ≡ self.old) }
+        ensures changes { Changes (started self.old.state place)
+            (after_start self.old.state place) result self.old self.new }
     {
         self.start_counted(place, &mut Counts::new())
     }
 
     /// The same, with the comparisons of its search counted as `first`.
     pub fn start_counted(&mut self, place: u64, counts: &mut Counts) -> Result<u64, Refusal>
-        ensures result { result ≡ started self.old.state place }
-        ensures state { self.new.state ≡ after_start self.old.state place }
-        ensures kept { KeepsItems self.old self.new }
-        ensures refused { IfErr result (λ _. self.new ≡ self.old) }
+        ensures changes { Changes (started self.old.state place)
+            (after_start self.old.state place) result self.old self.new }
         ensures counts { CountsWithin counts.old counts.new
             0 (most_comparisons (living_count self.old.state)) 0 }
     {

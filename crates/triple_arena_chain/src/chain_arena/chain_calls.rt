@@ -1,7 +1,7 @@
 //! The calls of a `ChainArena` on its links.
 ghost use Rattle.std.specs.Prelude.{refl};
 
-use crate::chain_arena::interlinks::relink;
+use crate::chain_arena::interlinks::{follow, part};
 use crate::chain_iterators::ChainPtrAdvancer;
 use crate::{ChainArena, ChainArenaTrait, ChainSlots, Link, LinkInsertKind, LinkNoGen};
 use triple_arena::{ArenaTrait, InvalidationResult, PtrCore, PtrInxCore};
@@ -73,7 +73,7 @@ impl<P: PtrCore, T: Drop, S: ChainSlots<P, T>> ChainArenaTrait<P, T> for ChainAr
     }
 
     fn meets(&self, kind: &LinkInsertKind<P>) -> bool {
-        self.place(*kind).is_some()
+        self.gap(*kind).is_some()
     }
 
     fn advancer_chain(&self, p: P) -> Option<ChainPtrAdvancer<P>> {
@@ -91,11 +91,11 @@ impl<P: PtrCore, T: Drop, S: ChainSlots<P, T>> ChainArenaTrait<P, T> for ChainAr
     ) -> Result<P, ChainInsertionError> {
         // The interlinks agree.
         self.recall_chained();
-        let Some(place) = self.place(*kind) else {
+        let Some(gap) = self.gap(*kind) else {
             return Err(ChainInsertionError::FailedLinkRequirement);
         };
         if self.has_room() {
-            Ok(self.put(place, t))
+            Ok(self.put(gap, t))
         } else {
             Err(ChainInsertionError::NotWithinCapacity)
         }
@@ -107,19 +107,19 @@ impl<P: PtrCore, T: Drop, S: ChainSlots<P, T>> ChainArenaTrait<P, T> for ChainAr
         kind: &LinkInsertKind<P>,
         t: T,
     ) -> Result<P, ChainInsertionError> {
-        let (place, _) = self.place_reallocating(*kind)?;
-        Ok(self.put(place, t))
+        let (gap, _) = self.gap_reallocating(*kind)?;
+        Ok(self.put(gap, t))
     }
 
     fn connect(&mut self, p: P, q: P) -> Option<()> {
         // The interlinks agree.
         self.recall_chained();
-        let Some(_) = self.place(LinkInsertKind::Bridge(p, q)) else {
+        let Some(_) = self.gap(LinkInsertKind::Bridge(p, q)) else {
             return None;
         };
         let i = p.inx();
         let j = q.inx();
-        relink(&mut self.arena, Some(i), Some(j), Some(j), Some(i));
+        follow(&mut self.arena, Some(i), Some(j));
         Some(())
     }
 
@@ -129,7 +129,7 @@ impl<P: PtrCore, T: Drop, S: ChainSlots<P, T>> ChainArenaTrait<P, T> for ChainAr
         let Some((_, Some(next))) = self.ends_of(p) else {
             return None;
         };
-        relink(&mut self.arena, Some(p.inx()), None, Some(next), None);
+        part(&mut self.arena, p.inx(), next);
         Some(())
     }
 
@@ -139,7 +139,7 @@ impl<P: PtrCore, T: Drop, S: ChainSlots<P, T>> ChainArenaTrait<P, T> for ChainAr
         let Some((Some(prev), _)) = self.ends_of(p) else {
             return None;
         };
-        relink(&mut self.arena, Some(prev), None, Some(p.inx()), None);
+        part(&mut self.arena, prev, p.inx());
         Some(())
     }
 
@@ -154,8 +154,8 @@ impl<P: PtrCore, T: Drop, S: ChainSlots<P, T>> ChainArenaTrait<P, T> for ChainAr
         };
         let i = p.inx();
         let j = q.inx();
-        relink(&mut self.arena, Some(i), Some(t), Some(t), Some(i));
-        relink(&mut self.arena, Some(j), Some(s), Some(s), Some(j));
+        follow(&mut self.arena, Some(i), Some(t));
+        follow(&mut self.arena, Some(j), Some(s));
         Some(())
     }
 
@@ -164,7 +164,7 @@ impl<P: PtrCore, T: Drop, S: ChainSlots<P, T>> ChainArenaTrait<P, T> for ChainAr
             Some(link) => {
                 let prev = link.prev();
                 let next = link.next();
-                relink(&mut self.arena, prev, next, next, prev);
+                follow(&mut self.arena, prev, next);
                 self.arena.remove(p)
             }
             None => InvalidationResult::InvalidPtr,
@@ -179,7 +179,7 @@ impl<P: PtrCore, T: Drop, S: ChainSlots<P, T>> ChainArenaTrait<P, T> for ChainAr
             Some((_, link)) => {
                 let before = link.prev();
                 let after = link.next();
-                relink(&mut self.arena, before, after, after, before);
+                follow(&mut self.arena, before, after);
                 self.arena.remove_inx(i)
             }
             None => InvalidationResult::InvalidPtr,

@@ -11,7 +11,7 @@ ghost use Rattle.triple_arena_chain.specs.Listed.{listed_values};
 ghost use Rattle.triple_arena_chain.specs.Renaming.{numbered, prev_of, forwarded, IsCompacted};
 ghost use Rattle.triple_arena_chain.specs.Values.{room_in};
 
-use crate::chain_arena::interlinks::{relink, set_next, set_prev};
+use crate::chain_arena::interlinks::{set_next, set_prev};
 use crate::chain_arena::mapping::{compact_links, renew_links};
 use crate::{ChainSlots, LinkNoGen};
 use std::num::NonZeroUsize;
@@ -103,8 +103,7 @@ where
     while let Some(p) = advancer.advance(arena) {
         let i = p.inx();
         let next = arena.get_inx_unwrap(i).next();
-        // `relink` asks two things, which is cheaper to answer than what `set_prev` asks.
-        relink(arena, None, None, next, Some(i));
+        set_prev(arena, next, Some(i));
     }
 }
 

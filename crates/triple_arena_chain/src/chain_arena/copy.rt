@@ -26,10 +26,13 @@ impl<P: PtrCore, T: Drop, S: ChainSlots<P, T>> ChainArena<P, T, S> {
     /// No memory is taken if the last live index of `source` is within the capacity, which then
     /// stays. Else the arena first grows to exactly that index. It returns `BeyondMaxCapacity` if
     /// that is past the greatest capacity, and `AllocError` if the memory was refused; the arena is
-    /// then as it was, and `map` was not called.
+    /// then as it was.
     ///
-    /// It also returns `AllocError` if `map` refused, and calls it no more. The arena then has room
-    /// for the copy, no link, and the counter that a removal of all at once leaves.
+    /// It also returns `AllocError` if `map` refused. The arena then has room for the copy, no
+    /// link, and the counter that a removal of all at once leaves.
+    ///
+    /// That `map` is not called if the growth is refused, nor again after it refused, is tested
+    /// only.
     pub fn clone_from_with<A, F>(&mut self, source: &A, map: F) -> Result<(), ReallocationError>
     where
         A: LinkCloneSource<P>,

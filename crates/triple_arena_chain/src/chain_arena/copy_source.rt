@@ -62,10 +62,13 @@ pub trait LinkCloneSource<P: PtrCore> {
     /// No memory is taken if the last live index is within the capacity of `target`, which then
     /// stays. Else `target` first grows to exactly that index. It returns `BeyondMaxCapacity` if
     /// that is past the greatest capacity, and `AllocError` if the memory was refused; `target` is
-    /// then as it was, and `map` was not called.
+    /// then as it was.
     ///
-    /// It also returns `AllocError` if `map` refused, and calls it no more. `target` then has room
-    /// for the copy, no entry, and the counter that `clear` leaves.
+    /// It also returns `AllocError` if `map` refused. `target` then has room for the copy, no
+    /// entry, and the counter that `clear` leaves.
+    ///
+    /// That `map` is not called if the growth is refused, nor again after it refused, is tested
+    /// only.
     final fn clone_to_arena<U, A, F>(&self, target: &mut A, map: F) -> Result<(), ReallocationError>
     where
         U: Drop,

@@ -1,40 +1,50 @@
 //! Insertion of a link. It is always inlined: the kind, which is known where it is called, leaves
 //! one case of fourteen.
-ghost use Rattle.std.specs.Prelude.{◌≡◌, ◌<◌};
+ghost use Rattle.std.specs.Prelude.{◌≡◌, ◌<◌, ◌↔◌, IsOk, IfOk, OnOk, OnErr};
+ghost use Rattle.std.specs.Option.{option_map};
+ghost use Rattle.triple_arena_stack.specs.Push.{IsRefusal};
+ghost use Rattle.triple_arena_stack.specs.Room.{room_after};
 ghost use Rattle.triple_arena.specs.Content.{live_count, arena_capacity};
-ghost use Rattle.triple_arena_chain.specs.Chains.{IsPlace};
-ghost use Rattle.triple_arena_chain.specs.Kinds.{place_by};
-ghost use Rattle.triple_arena_chain.specs.Links.{ends_in, link_for, IsChained, IsPlaced};
+ghost use Rattle.triple_arena_chain.specs.Chains.{IsBetween, IsGap};
+ghost use Rattle.triple_arena_chain.specs.Kinds.{ends_by, gap_by};
+ghost use Rattle.triple_arena_chain.specs.Links.{ends_in, link_for, IsChained, IsLinkInserted};
+ghost use Rattle.triple_arena_chain.specs.declared.gap.Gap.TheVariants.{Between};
 
 use crate::chain_arena::interlinks::join;
-use crate::place::Place;
+use crate::gap::Gap;
 use crate::{ChainArena, ChainSlots, IndexLink};
-use triple_arena::{ArenaInsertEntries, ArenaInsertEntryTrait, PtrCore, PtrInxCore};
-use triple_arena_ptr::OptionalInx;
+use triple_arena::{
+    ArenaInsertEntries, ArenaInsertEntryTrait, PtrCore, PtrInxCore, ReallocationError,
+};
+use triple_arena_ptr::{NotWithinCapacityError, OptionalInx};
 use unreached::unreached;
 
-// The link for `t` at a place, where its own index is `i`.
+pub(crate) mod entry;
+mod growth;
+mod requirement;
+
+// The link for `t` at a gap, where its own index is `i`.
 #[inline(always)]
 fn link_at<I: PtrInxCore<Word = W>, W: Copy, T>(
-    place: Place<I>,
+    gap: Gap<I>,
     i: I,
     t: T,
 ) -> IndexLink<OptionalInx<I, W>, T>
-    ensures { result ≡ link_for I.number place i t }
+    ensures { result ≡ link_for I.number gap i t }
 {
-    match place {
-        Place::Between(prev, next) => IndexLink::new((prev, next), t),
-        Place::OwnRing => IndexLink::new((Some(i), Some(i)), t),
+    match gap {
+        Gap::Between(prev, next) => IndexLink::new((prev, next), t),
+        Gap::OwnRing => IndexLink::new((Some(i), Some(i)), t),
     }
 }
 
 impl<P: PtrCore, T: Drop, S: ChainSlots<P, T>> ChainArena<P, T, S> {
-    // Stores `t` in a link at a place, if there is room.
+    // Stores `t` in a link at a gap, if there is room.
     #[inline(always)]
-    pub(crate) fn put(&mut self, place: Place<P::Inx>, t: T) -> P
+    pub(crate) fn put(&mut self, gap: Gap<P::Inx>, t: T) -> P
         requires room { live_count self.old < arena_capacity self.old }
-        requires place { IsPlace (ends_in P.Inx.number self.old) (place_by P.Inx.number place) }
-        ensures placed { IsPlaced P.Inx.number (place_by P.Inx.number place) (P.index result)
+        requires gap { IsGap (ends_in P.Inx.number self.old) (gap_by P.Inx.number gap) }
+        ensures inserted { IsLinkInserted P.Inx.number (gap_by P.Inx.number gap) (P.index result)
             (P.generation result) t self.old self.new }
         ensures formed { IsChained P.Inx.number self.new }
         ensures room { self.new.room ≡ self.old.room }
@@ -43,11 +53,58 @@ impl<P: PtrCore, T: Drop, S: ChainSlots<P, T>> ChainArena<P, T, S> {
             Ok(entry) => {
                 let p = entry.ptr();
                 let i = p.inx();
-                entry.insert(link_at(place, i, t));
-                join(&mut self.arena, place, i);
+                entry.insert(link_at(gap, i, t));
+                join(&mut self.arena, gap, i);
                 p
             }
             Err(_) => unreached!(),
         }
+    }
+
+    /// Stores `t` in a link between the links at these two indexes, of which either may be missing,
+    /// if there is room. They are neighbors, or each has none on that side. It returns
+    /// `NotWithinCapacityError`, and changes nothing, if there is no room; `t` is dropped then.
+    pub fn insert_in_gap_within_capacity(
+        &mut self,
+        prev: Option<P::Inx>,
+        next: Option<P::Inx>,
+        t: T,
+    ) -> Result<P, NotWithinCapacityError>
+        requires { IsBetween (ends_in P.Inx.number self.old) (ends_by P.Inx.number (prev, next)) }
+        ensures variant { IsOk result ↔ (live_count self.old < arena_capacity self.old) }
+        ensures inserted { IfOk result (λ p. IsLinkInserted P.Inx.number
+            (Between (option_map P.Inx.number prev) (option_map P.Inx.number next))
+            (P.index p) (P.generation p) t self.old self.new) }
+        ensures formed { IsChained P.Inx.number self.new }
+        ensures room { self.new.room ≡ self.old.room }
+        ensures err { OnErr result (self.new ≡ self.old) }
+    {
+        if self.has_room() {
+            Ok(self.put(Gap::Between(prev, next), t))
+        } else {
+            Err(NotWithinCapacityError)
+        }
+    }
+
+    /// The same, but the arena grows if there is no room, and returns the errors, as
+    /// `insert_reallocating` does.
+    pub fn insert_in_gap_reallocating(
+        &mut self,
+        prev: Option<P::Inx>,
+        next: Option<P::Inx>,
+        t: T,
+    ) -> Result<P, ReallocationError>
+        requires { IsBetween (ends_in P.Inx.number self.old) (ends_by P.Inx.number (prev, next)) }
+        ensures refusal { IsRefusal S.takes_memory (live_count self.old) self.old.room result }
+        ensures inserted { IfOk result (λ p. IsLinkInserted P.Inx.number
+            (Between (option_map P.Inx.number prev) (option_map P.Inx.number next))
+            (P.index p) (P.generation p) t self.old self.new) }
+        ensures formed { IsChained P.Inx.number self.new }
+        ensures room { OnOk result (self.new.room
+            ≡ room_after (live_count self.old) self.old.room) }
+        ensures err { OnErr result (self.new ≡ self.old) }
+    {
+        let _ = self.make_room()?;
+        Ok(self.put(Gap::Between(prev, next), t))
     }
 }

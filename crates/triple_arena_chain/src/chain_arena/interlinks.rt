@@ -1,10 +1,10 @@
 //! Interlinks, written where the links lie.
-ghost use Rattle.std.specs.Prelude.{◌≡◌, IsSome, IfSome};
+ghost use Rattle.std.specs.Prelude.{◌≡◌, Some, None, IsSome, IfSome, ⊤};
 ghost use Rattle.triple_arena.specs.Content.{entry_at, IsWellFormed};
 ghost use Rattle.triple_arena_chain.specs.Links.{with_next_of, with_prev_of, joined_to};
 ghost use Rattle.triple_arena_chain.specs.Links.{AreNeighborsLive};
 
-use crate::place::Place;
+use crate::gap::Gap;
 use crate::{ChainSlots, LinkNoGen};
 use triple_arena::{Arena, ArenaTrait, PtrCore};
 use triple_arena_ptr::OptionalInx;
@@ -25,7 +25,8 @@ pub(crate) fn set_next<P: PtrCore, T: Drop, S: ChainSlots<P, T>>(
     at: Option<P::Inx>,
     next: Option<P::Inx>,
 )
-    requires { IfSome at (λ i. IsSome (entry_at arena.old (P.Inx.number i))) }
+    requires live { IfSome at (λ i. IsSome (entry_at arena.old (P.Inx.number i))) }
+    requires no_more { ⊤ }
     ensures { arena.new ≡ with_next_of P.Inx.number arena.old at next }
 {
     if let Some(i) = at {
@@ -39,7 +40,8 @@ pub(crate) fn set_prev<P: PtrCore, T: Drop, S: ChainSlots<P, T>>(
     at: Option<P::Inx>,
     prev: Option<P::Inx>,
 )
-    requires { IfSome at (λ i. IsSome (entry_at arena.old (P.Inx.number i))) }
+    requires live { IfSome at (λ i. IsSome (entry_at arena.old (P.Inx.number i))) }
+    requires no_more { ⊤ }
     ensures { arena.new ≡ with_prev_of P.Inx.number arena.old at prev }
 {
     if let Some(i) = at {
@@ -47,36 +49,53 @@ pub(crate) fn set_prev<P: PtrCore, T: Drop, S: ChainSlots<P, T>>(
     }
 }
 
-// Gives the link at `before` another next, and the one at `after` another previous one. What is an
-// index is live.
+// What is at `after` follows what is at `before`. Either may be missing; what is an index is live.
 #[tactic(auto, using(crate::specs::LinkLaws::live_links))]
-pub(crate) fn relink<P: PtrCore, T: Drop, S: ChainSlots<P, T>>(
+pub(crate) fn follow<P: PtrCore, T: Drop, S: ChainSlots<P, T>>(
     arena: &mut Arena<P, LinkNoGen<P, T>, S>,
     before: Option<P::Inx>,
-    next: Option<P::Inx>,
     after: Option<P::Inx>,
-    prev: Option<P::Inx>,
 )
     requires before { IfSome before (λ i. IsSome (entry_at arena.old (P.Inx.number i))) }
     requires after { IfSome after (λ i. IsSome (entry_at arena.old (P.Inx.number i))) }
     ensures { arena.new ≡ with_prev_of P.Inx.number
-        (with_next_of P.Inx.number arena.old before next) after prev }
+        (with_next_of P.Inx.number arena.old before after) after before }
 {
-    set_next(arena, before, next);
-    set_prev(arena, after, prev);
+    set_next(arena, before, after);
+    set_prev(arena, after, before);
 }
 
-// The neighbors at a place, which are live, name what is at `i`.
+// Parts the link at `before` from the one at `after`, which is its next. Both are live.
+#[tactic(auto, using(crate::specs::LinkLaws::live_links))]
+pub(crate) fn part<P: PtrCore, T: Drop, S: ChainSlots<P, T>>(
+    arena: &mut Arena<P, LinkNoGen<P, T>, S>,
+    before: P::Inx,
+    after: P::Inx,
+)
+    requires before { IsSome (entry_at arena.old (P.Inx.number before)) }
+    requires after { IsSome (entry_at arena.old (P.Inx.number after)) }
+    ensures { arena.new ≡ with_prev_of P.Inx.number
+        (with_next_of P.Inx.number arena.old (Some before) None) (Some after) None }
+{
+    set_next(arena, Some(before), None);
+    set_prev(arena, Some(after), None);
+}
+
+// The neighbors at a gap, which are live, name what is at `i`.
+#[tactic(auto, using(crate::specs::LinkLaws::live_links))]
 pub(crate) fn join<P: PtrCore, T: Drop, S: ChainSlots<P, T>>(
     arena: &mut Arena<P, LinkNoGen<P, T>, S>,
-    place: Place<P::Inx>,
+    gap: Gap<P::Inx>,
     i: P::Inx,
 )
-    requires { AreNeighborsLive P.Inx.number arena.old place }
-    ensures { arena.new ≡ joined_to P.Inx.number arena.old place i }
+    requires { AreNeighborsLive P.Inx.number arena.old gap }
+    ensures { arena.new ≡ joined_to P.Inx.number arena.old gap i }
 {
-    match place {
-        Place::Between(prev, next) => relink(arena, prev, Some(i), next, Some(i)),
-        Place::OwnRing => {}
+    match gap {
+        Gap::Between(prev, next) => {
+            set_next(arena, prev, Some(i));
+            set_prev(arena, next, Some(i));
+        }
+        Gap::OwnRing => {}
     }
 }

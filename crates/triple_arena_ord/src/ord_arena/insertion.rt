@@ -1,11 +1,11 @@
 //! Insertions.
-ghost use Rattle.std.specs.Prelude.{◌≡◌, ◌↔◌, None, Ok, Err, IsTrue, IsSome, IfSome, IfOk};
+ghost use Rattle.std.specs.Prelude.{◌≡◌, ◌↔◌, Some, None, Ok, Err, IsTrue, IsSome, IfSome, IfOk};
 ghost use Rattle.std.specs.Option.{option_map};
 ghost use Rattle.triple_arena_ord.specs.Node.{knots_in};
 ghost use Rattle.rank_tree.specs.Search.{IsFreeAt};
-ghost use Rattle.triple_arena_ord.specs.Ordered.{IsOrdered, IsAscending, size_in};
+ghost use Rattle.triple_arena_ord.specs.Ordered.{IsOrdered, size_in};
 ghost use Rattle.triple_arena_ord.specs.Inserted.{IsRenewed, IsReplaced, IsInsertedAt};
-ghost use Rattle.triple_arena_ord.specs.Inserted.{IsKeyInserted, Replaces, within_room};
+ghost use Rattle.triple_arena_ord.specs.Inserted.{InsertsByKey, Replaces, within_room};
 ghost use Rattle.triple_arena_ord.specs.Inserted.{growing_room, room_made};
 
 pub(crate) mod entry;
@@ -157,13 +157,8 @@ impl<P: PtrCore, T: SimpleOrdItem + Drop, S: OrdSlots<P, T>> SimpleOrdArena<P, T
     /// `NotWithinCapacity`, if there is no room for it, changes nothing. A list whose keys ascend
     /// still does.
     pub fn insert_within_capacity(&mut self, t: T) -> Result<(P, Option<T>), OrdInsertionError>
-        ensures inserted { IsKeyInserted P.Inx.number T.Key.cmp T.key_of P.index P.generation
-            (within_room (size_in self.old) self.old.chains.room) t result self.old self.new }
-        ensures ascending { IsAscending P.Inx.number T.Key.cmp T.key_of self.old
-            → IsAscending P.Inx.number T.Key.cmp T.key_of self.new }
-        ensures counter { self.new.chains.counter ≡ self.old.chains.counter }
-        ensures room { self.new.chains.room ≡ self.old.chains.room }
-        ensures ordered { IsOrdered P.Inx.number self.new }
+        ensures { InsertsByKey P.Inx.number T.Key.cmp T.key_of P.index P.generation None
+            t result self.old self.new }
     {
         let place = self.seek(t.key(), &mut Probes::new());
         self.insert_at_within_capacity(place, t)
@@ -174,16 +169,8 @@ impl<P: PtrCore, T: SimpleOrdItem + Drop, S: OrdSlots<P, T>> SimpleOrdArena<P, T
     /// entries are live as the greatest capacity, and `AllocError`, if the memory was refused,
     /// change nothing.
     pub fn insert_reallocating(&mut self, t: T) -> Result<(P, Option<T>), OrdInsertionError>
-        ensures inserted { IsKeyInserted P.Inx.number T.Key.cmp T.key_of P.index P.generation
-            (growing_room S.takes_memory (size_in self.old) self.old.chains.room) t result
-            self.old self.new }
-        ensures ascending { IsAscending P.Inx.number T.Key.cmp T.key_of self.old
-            → IsAscending P.Inx.number T.Key.cmp T.key_of self.new }
-        ensures counter { self.new.chains.counter ≡ self.old.chains.counter }
-        ensures room { IfOk result
-            (λ made. self.new.chains.room
-            ≡ room_made made.1 (size_in self.old) self.old.chains.room) }
-        ensures ordered { IsOrdered P.Inx.number self.new }
+        ensures { InsertsByKey P.Inx.number T.Key.cmp T.key_of P.index P.generation
+            (Some S.takes_memory) t result self.old self.new }
     {
         let found = self.seek(t.key(), &mut Probes::new());
         self.insert_at_reallocating(found, t)
@@ -191,16 +178,8 @@ impl<P: PtrCore, T: SimpleOrdItem + Drop, S: OrdSlots<P, T>> SimpleOrdArena<P, T
 
     /// The same as `insert_reallocating`.
     pub fn insert(&mut self, t: T) -> Result<(P, Option<T>), OrdInsertionError>
-        ensures inserted { IsKeyInserted P.Inx.number T.Key.cmp T.key_of P.index P.generation
-            (growing_room S.takes_memory (size_in self.old) self.old.chains.room) t result
-            self.old self.new }
-        ensures ascending { IsAscending P.Inx.number T.Key.cmp T.key_of self.old
-            → IsAscending P.Inx.number T.Key.cmp T.key_of self.new }
-        ensures counter { self.new.chains.counter ≡ self.old.chains.counter }
-        ensures room { IfOk result
-            (λ made. self.new.chains.room
-            ≡ room_made made.1 (size_in self.old) self.old.chains.room) }
-        ensures ordered { IsOrdered P.Inx.number self.new }
+        ensures { InsertsByKey P.Inx.number T.Key.cmp T.key_of P.index P.generation
+            (Some S.takes_memory) t result self.old self.new }
     {
         self.insert_reallocating(t)
     }

@@ -10,8 +10,8 @@ lists g c =
     added g.P.PtrCore.index g.P.PtrCore.generation g.P.Inx.PtrInxCore.number c.args.songs.now
     c.insert_within_capacity.new.self c.args.p c.args.song
     c.insert_within_capacity.result c.len.ensures.formed
-    (λ ok. (c.insert_within_capacity.ensures.answer.succeeds.0 ok).0)
-    c.insert_within_capacity.ensures.placed
+    (λ ok. (c.insert_within_capacity.ensures.inserts.answer.succeeds.0 ok).0)
+    c.insert_within_capacity.ensures.inserts.inserted
     c.insert_within_capacity.ensures.err
 
 pub returns-clause-linear : goal.returns-clause-linear

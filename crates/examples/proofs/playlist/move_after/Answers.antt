@@ -1,7 +1,7 @@
 use Rattle.std.proofs.Common.{rules, ◌≡◌, ◌<◌, Some, IsSome, IsOk, ◌==◌, ◌&&◌, false, sym, ◌∙◌}
 use Rattle.triple_arena.specs.Content.{get, live_count, arena_capacity}
 use Rattle.triple_arena_chain.specs.Links.{IsTakenOut, IsChained}
-use Rattle.examples.proofs.MoveLemmas.{Settled, differ, place_left, answered}
+use Rattle.examples.proofs.MoveLemmas.{Settled, differ, gap_left, answered}
 use Rattle.examples.proofs.playlist.move_after.Goals as goal
 
 -- the song is put in again
@@ -26,14 +26,14 @@ put_in g c =
     in
     let chained : IsChained number between = search rules in
     let room : live_count between < arena_capacity between = search rules in
-    let there = place_left index generation number g.P.Gen.PtrGenCore.last old between p q taken
+    let there = gap_left index generation number g.P.Gen.PtrGenCore.last old between p q taken
     differs some in
     let ok : IsOk c.insert_within_capacity.result =
-    c.insert_within_capacity.ensures.answer.succeeds.1 (there, room) in
+    c.insert_within_capacity.ensures.inserts.answer.succeeds.1 (there, room) in
     answered index generation number g.P.Gen.PtrGenCore.last old between p q taken
     c.insert_within_capacity.new.self c.in_ok-link.link.t chained there
     c.insert_within_capacity.result c.ok.result ok c.ok.ensures.value
-    c.insert_within_capacity.ensures.placed
+    c.insert_within_capacity.ensures.inserts.inserted
 
 pub returns-clause-variant : goal.returns-clause-variant
 returns-clause-variant g c = search rules
@@ -58,7 +58,7 @@ returns-clause-room g c =
     let taken : IsTakenOut g.P.Inx.PtrInxCore.number g.P.Gen.PtrGenCore.last
     (g.P.PtrCore.index c.args.p) c.args.songs.now c.remove_link_no_gen.new.self =
     search rules in
-    c.insert_within_capacity.ensures.room ∙ taken.room
+    c.insert_within_capacity.ensures.inserts.room ∙ taken.room
 
 pub returns-clause-none : goal.returns-clause-none
 returns-clause-none g c = let put = put_in g c in rw put.1 tt

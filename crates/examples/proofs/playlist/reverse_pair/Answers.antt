@@ -2,7 +2,7 @@ use Rattle.std.proofs.Common.{rules, ◌≡◌, ℕ, Some, None, IsSome, is_some
 use Rattle.std.proofs.Common.{refl, ap, ◌∙◌}
 use Rattle.triple_arena.specs.Entries.{generation_at}
 use Rattle.triple_arena_chain.specs.Chains.{next_in, next_at, exchanged, unlinked, linked}
-use Rattle.triple_arena_chain.specs.Links.{ends_in, ends_found, place_among, values_in, IsRelinked}
+use Rattle.triple_arena_chain.specs.Links.{ends_in, ends_found, gap_among, values_in, IsRelinked}
 use Rattle.triple_arena_chain.specs.declared.kind.InsertKind.TheVariants.{Bridge}
 use Rattle.triple_arena_chain.specs.Lists.{IsExchanged, IsSplit, IsAppended}
 use Rattle.examples.proofs.ReversalLemmas.{Reversed, still_next, exchanged_back, is_end, on_some}
@@ -87,7 +87,7 @@ appended g c =
     search rules in
     let splits : (s : ℕ) → next_at (ends_in number m) p ≡ Some s
     → IsSplit p s (ends_in number m) (ends_in number c.break_next.new.self) = search rules in
-    let fit : IsSome (place_among index generation number c.break_next.new.self
+    let fit : IsSome (gap_among index generation number c.break_next.new.self
     (Bridge c.in_ok-q.q c.args.p)) =
     fits number old m o p q (generation c.args.before) (generation c.args.p) h c.len.ensures.formed
     to_p to_q at_q relinked first c.break_next.new.self end breaks index generation c.args.p

@@ -1,8 +1,8 @@
 use Rattle.std.proofs.Common.{◌≤◌, ◌∙◌, sym, subst, arith, refl}
 use Rattle.triple_arena.specs.DirectContent.{entry_at}
-use Rattle.triple_arena.specs.WalkLaws.{passed_by}
+use Rattle.triple_arena.specs.WalkLaws.{step_is, end_all}
 use Rattle.examples.proofs.SideTableLemmas.{IsCarriedTo, none_carried, carried_on, reaches_on}
-use Rattle.examples.proofs.SideTableLemmas.{between, all_carried, all_passed}
+use Rattle.examples.proofs.SideTableLemmas.{all_carried}
 use Rattle.examples.proofs.side_table.follow_compression.Goals as goal
 
 pub loop-old-init : goal.loop-old-init
@@ -29,17 +29,16 @@ loop-old-preserved g c =
     let w = c.loop-old.walk in
     let i = index c.in-Some.old in
     let h = generation c.in-Some.old in
-    let step = c.in-Some.ensures.given in
-    let p = passed_by w c.advance.new.self i inv.rises step.1 in
+    let st = step_is now w c.advance.new.self inv.rises i h c.in-Some.ensures.given in
     let made = c.follow_one.ensures.entries in
     record {
-      rises = p.rises;
-      reaches = λ j some. subst (λ n. j ≤ n) (sym p.high)
+      rises = st.still_rises;
+      reaches = λ j some. subst (λ n. j ≤ n) (sym st.high)
           (reaches_on index generation named old c.requires.down w.low i h w.high now after
-          step.0.ahead.1 made inv.reaches j some);
-      carried = subst (λ n. IsCarriedTo index generation named old n after) (sym p.low)
+          st.within made inv.reaches j some);
+      carried = subst (λ n. IsCarriedTo index generation named old n after) (sym st.low)
           (carried_on index generation named old c.requires.rises c.requires.down w.low i h now
-          after inv.carried step.0.ahead.0 (between now w i h inv.rises step.0) step.0.live made);
+          after inv.carried st.up st.between st.live made);
       room = c.follow_one.ensures.room ∙ inv.room;
       formed = c.follow_one.ensures.formed;
     }
@@ -50,4 +49,4 @@ returns-clause-carried g c =
     let now = entry_at c.loop-old.table in
     all_carried g.P.PtrCore.index g.P.PtrCore.generation (entry_at c.args.map.now)
     (entry_at c.args.table.now) c.loop-old.walk.low now c.requires.down inv.carried
-    (all_passed now c.loop-old.walk c.advance.new.self inv.reaches c.in_default.ensures.given)
+    (end_all now c.loop-old.walk c.advance.new.self inv.rises inv.reaches c.in_default.ensures.given)

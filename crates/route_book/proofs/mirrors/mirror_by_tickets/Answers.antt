@@ -1,7 +1,7 @@
 use Rattle.triple_arena.specs.DirectContent.{entry_at}
 use Rattle.ticket_book.specs.Mirrors.{numbers}
 use Rattle.route_book.proofs.NoteLemmas.{mirrored_all, mirrored_gap}
-use Rattle.ticket_book.specs.WalkLaws.{step_is, end_all}
+use Rattle.triple_arena.specs.WalkLaws.{step_is, end_all}
 use Rattle.route_book.proofs.mirrors.mirror_by_tickets.Goals as goal
 
 pub note-requires-clause-mirrored : goal.note-requires-clause-mirrored

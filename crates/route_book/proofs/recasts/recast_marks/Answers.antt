@@ -1,6 +1,7 @@
 use Rattle.std.proofs.Common.{arith, ◌≡◌, ◌∙◌, ◌+◌, ◌<◌, ◌≤◌, sym, ap, subst, is_some}
 use Rattle.ticket_book.specs.Mirrors.{numbers}
-use Rattle.ticket_book.specs.WalkLaws.{step_is, end_all, all_before, cast_ahead, cast_all}
+use Rattle.triple_arena.specs.WalkLaws.{step_is, end_all}
+use Rattle.ticket_book.specs.WalkLaws.{all_before, cast_ahead, cast_all}
 use Rattle.ticket_book.specs.WalkLaws.{cast_first, cast_gap, cast_live, cast_passed, stands_at}
 use Rattle.ticket_book.specs.WalkLaws.{value_written}
 use Rattle.triple_arena_chain.specs.Renaming.{live_below}

@@ -2,8 +2,9 @@ use Rattle.std.proofs.Common.{◌∙◌, ◌<◌, ◌≤◌, sym, ap, subst, is_
 use Rattle.triple_arena_ord.specs.Ordered.{entry_in}
 use Rattle.triple_arena_ord.specs.States.{with_item}
 use Rattle.ticket_book.specs.Mirrors.{numbers, renewed_entry}
-use Rattle.ticket_book.specs.WalkLaws.{step_is, end_all, cast_ahead, cast_all, cast_live}
-use Rattle.ticket_book.specs.WalkLaws.{cast_passed, entry_written, stands_at}
+use Rattle.triple_arena.specs.WalkLaws.{step_is, end_all}
+use Rattle.ticket_book.specs.WalkLaws.{cast_ahead, cast_all, cast_live, cast_passed}
+use Rattle.ticket_book.specs.WalkLaws.{entry_written, stands_at}
 use Rattle.ticket_book.proofs.renewal.renew_entries.Goals as goal
 
 pub loop-p-preserved-in-Some-get_mut : goal.loop-p-preserved-in-Some-get_mut

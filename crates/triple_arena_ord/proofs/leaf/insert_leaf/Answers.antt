@@ -1,7 +1,7 @@
 use Rattle.std.proofs.Common.{rules, refl, ◌<◌, ◌^◌, Some, None, ◌∙◌, subst, arith}
 use Rattle.std.specs.Option.{option_map}
-use Rattle.triple_arena_chain.specs.declared.place.Place.TheVariants.{Between}
-use Rattle.triple_arena_chain.specs.Links.{IsPlaced}
+use Rattle.triple_arena_chain.specs.declared.gap.Gap.TheVariants.{Between}
+use Rattle.triple_arena_chain.specs.Links.{IsLinkInserted}
 use Rattle.triple_arena_ord.proofs.RestLemmas.{rested}
 use Rattle.triple_arena_ord.proofs.LeafLemmas.{Cut, Linked, Leaf, cut_found}
 use Rattle.triple_arena_ord.proofs.LeafLemmas.{leaf_slot, leaf_gap, leaf_works}
@@ -44,12 +44,12 @@ linked g c =
       prev = option_map g.P.Inx.PtrInxCore.number c.gap_beside-prev.result.0;
       next = option_map g.P.Inx.PtrInxCore.number c.gap_beside-prev.result.1;
       cut = cut g (goal.at.After-inx g c).After-gap_beside-prev;
-      placed = subst (λ n. IsPlaced g.P.Inx.PtrInxCore.number
+      placed = subst (λ n. IsLinkInserted g.P.Inx.PtrInxCore.number
           (Between (option_map g.P.Inx.PtrInxCore.number c.gap_beside-prev.result.0)
           (option_map g.P.Inx.PtrInxCore.number c.gap_beside-prev.result.1))
           (g.P.PtrCore.index c.in-Ok.p) (g.P.PtrCore.generation c.in-Ok.p) n
           c.args.chains.now c.insert_in_gap_within_capacity.new.self) c.under-node.ensures
-          c.in-Ok.ensures.placed;
+          c.in-Ok.ensures.inserted;
       index_is = c.inx.ensures;
       small = omega arith;
     }
@@ -87,7 +87,7 @@ pub returns-clause-counter : goal.returns-clause-counter
 returns-clause-counter g c =
     (rested g.P.Inx.PtrInxCore.number c.insert_in_gap_within_capacity.new.self c.bring_in.new.knots
     c.bring_in.ensures.keeps).kept.counter
-    ∙ c.in-Ok.ensures.placed.counter
+    ∙ c.in-Ok.ensures.inserted.counter
 
 pub returns-clause-room : goal.returns-clause-room
 returns-clause-room g c =

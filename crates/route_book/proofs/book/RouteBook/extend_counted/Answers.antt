@@ -1,4 +1,4 @@
-use Rattle.std.proofs.Common.{sym, subst, arith}
+use Rattle.std.proofs.Common.{rules, sym, subst, arith}
 use Rattle.route_lines.specs.Sound.{IsSound}
 use Rattle.route_lines.specs.declared.change.Change.TheVariants.{Extend}
 use Rattle.route_book.proofs.ExtendLemmas.{extend_leaves, extend_keeps_in, next_above}
@@ -23,8 +23,8 @@ invariant_of-self g c =
           c.in_ok-behind.ensures.found pt _ _ c.in_ok-at.ensures.found
           c.if-is_full_of_stops.ensures.is
           c.is_full_of_stops.ensures.chained
-          _ _ _ c.new-new.ensures.ticket c.new-new.ensures.place _ c.in-Ok.ensures.placed
-          c.in-Ok.ensures.room _ _ c.changed-self-inside.ensures c.add.ensures.entries
+          _ _ _ c.new-new.ensures.ticket c.new-new.ensures.place _ c.in-Ok.ensures.inserts.inserted
+          c.in-Ok.ensures.inserts.room _ _ c.changed-self-inside.ensures c.add.ensures.entries
           (λ m ok. law.next s t pt m sound ok) (λ m ok. law.new s t pt m sound ok)
           (λ m x ok apart off. law.others s t pt m x sound ok apart off)
           (λ m ok. stay.new s t pt m sound ok)
@@ -36,15 +36,21 @@ invariant_of-self g c =
       room = omega (arith, room, same);
       place_mirror = c.self.invariant.place_mirror;
       stop_mirror = roomy c.self.inside.stops c.insert_within_capacity.new.self _
-          c.in-Ok.ensures.room c.self.invariant.stop_mirror;
+          c.in-Ok.ensures.inserts.room c.self.invariant.stop_mirror;
       mark_mirror = c.self.invariant.mark_mirror;
     }
 
-pub returns-clause-kept : goal.returns-clause-kept
-returns-clause-kept g c =
-    extend_keeps_in _ _ _ _ _ _ _ _ c.self.invariant.book _ c.self.view_is c.args.stop _ _
-    c.in_ok-behind.ensures.found c.args.place _ _ c.in_ok-at.ensures.found
-    c.if-is_full_of_stops.ensures.is
-    c.is_full_of_stops.ensures.chained
-    _ _ _ c.new-new.ensures.ticket c.new-new.ensures.place _ c.in-Ok.ensures.placed
-    c.in-Ok.ensures.room _
+pub returns-clause-changes : goal.returns-clause-changes
+returns-clause-changes g c =
+    record {
+      gives = search rules;
+      leaves = search rules;
+      kept =
+          extend_keeps_in _ _ _ _ _ _ _ _ c.self.invariant.book _ c.self.view_is c.args.stop _ _
+          c.in_ok-behind.ensures.found c.args.place _ _ c.in_ok-at.ensures.found
+          c.if-is_full_of_stops.ensures.is
+          c.is_full_of_stops.ensures.chained
+          _ _ _ c.new-new.ensures.ticket c.new-new.ensures.place _ c.in-Ok.ensures.inserts.inserted
+          c.in-Ok.ensures.inserts.room _;
+      refused = tt;
+    }

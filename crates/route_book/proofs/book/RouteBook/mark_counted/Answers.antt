@@ -1,4 +1,4 @@
-use Rattle.std.proofs.Common.{sym, subst, arith}
+use Rattle.std.proofs.Common.{rules, sym, subst, arith}
 use Rattle.route_lines.specs.Sound.{IsSound}
 use Rattle.route_lines.specs.declared.change.Change.TheVariants.{Mark}
 use Rattle.route_book.proofs.ExtendLemmas.{next_above}
@@ -36,12 +36,18 @@ invariant_of-self g c =
           c.in-Ok.ensures.room c.self.invariant.mark_mirror;
     }
 
-pub returns-clause-kept : goal.returns-clause-kept
-returns-clause-kept g c =
+pub returns-clause-changes : goal.returns-clause-changes
+returns-clause-changes g c =
     let put = c.in-Ok.ensures.inserted in
-    mark_keeps _ _ _ _ _ _ _ _ c.self.invariant.book _ c.self.view_is c.args.place _ _
-    c.in_ok-at.ensures.found c.args.stop _ _ c.in_ok-by.ensures.found
-    c.if-is_full_of_marks.ensures
-    _ _ _ c.new-mark.ensures.ticket c.new-mark.ensures.place c.new-mark.ensures.stop _ put.vacant
-    put.entries _
-    (some_same put.generation) (some_same put.counter) c.in-Ok.ensures.room
+    record {
+      gives = search rules;
+      leaves = search rules;
+      kept =
+          mark_keeps _ _ _ _ _ _ _ _ c.self.invariant.book _ c.self.view_is c.args.place _ _
+          c.in_ok-at.ensures.found c.args.stop _ _ c.in_ok-by.ensures.found
+          c.if-is_full_of_marks.ensures
+          _ _ _ c.new-mark.ensures.ticket c.new-mark.ensures.place c.new-mark.ensures.stop _ put.vacant
+          put.entries _
+          (some_same put.generation) (some_same put.counter) c.in-Ok.ensures.room;
+      refused = tt;
+    }

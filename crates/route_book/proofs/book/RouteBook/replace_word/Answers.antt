@@ -1,4 +1,4 @@
-use Rattle.std.proofs.Common.{◌≡◌, ◌∙◌, ◌≤◌, ap, sym, subst, Ok, Some}
+use Rattle.std.proofs.Common.{rules, ◌≡◌, ◌∙◌, ◌≤◌, ap, sym, subst, Ok, Some}
 use Rattle.triple_arena.specs.DirectContent.{arena_capacity as mirror_capacity}
 use Rattle.triple_arena.specs.Entries.{value_if}
 use Rattle.triple_arena_stack.specs.Room.{capacity}
@@ -53,20 +53,26 @@ invariant_of-self g c =
       mark_mirror = c.self.invariant.mark_mirror;
     }
 
-pub returns-clause-kept : goal.returns-clause-kept
-returns-clause-kept g c =
+pub returns-clause-changes : goal.returns-clause-changes
+returns-clause-changes g c =
     let found = subst (λ (b : Book g.row.P-Inx.Denot). (place : Place)
     × (value_if (g.P.PtrCore.generation c.args.at)
     (entry_in b.places (g.P.PtrCore.index c.args.at)) ≡ Some place)
     × (place_holder b.state c.args.ticket ≡ Ok place)) (sym c.self.view_is) c.requires.found in
     let replaced = c.reword.ensures.replaced found.0 found.1 in
-    subst (λ (b : Book g.row.P-Inx.Denot). KeepsItems b
-    (record {
-      state = c.changed-self-inside.result.state;
-      places = c.reword.new.arena;
-      stops = c.self.inside.stops;
-      marks = c.self.inside.marks;
-    })) c.self.view_is
-    (kept_reworded c.self.inside.held.state c.changed-self-inside.result.state c.self.inside.places
-    c.reword.new.arena c.self.inside.stops c.self.inside.marks g.P.Inx.PtrInxCore.number found.0
-    c.in-Word.word _ _ replaced)
+    record {
+      gives = search rules;
+      leaves = search rules;
+      kept =
+          subst (λ (b : Book g.row.P-Inx.Denot). KeepsItems b
+          (record {
+            state = c.changed-self-inside.result.state;
+            places = c.reword.new.arena;
+            stops = c.self.inside.stops;
+            marks = c.self.inside.marks;
+          })) c.self.view_is
+          (kept_reworded c.self.inside.held.state c.changed-self-inside.result.state c.self.inside.places
+          c.reword.new.arena c.self.inside.stops c.self.inside.marks g.P.Inx.PtrInxCore.number found.0
+          c.in-Word.word _ _ replaced);
+      refused = tt;
+    }

@@ -1,4 +1,4 @@
-use Rattle.std.proofs.Common.{refl, sym, subst, true≢false}
+use Rattle.std.proofs.Common.{rules, refl, sym, subst, true≢false}
 use Rattle.route_lines.specs.Sound.{IsSound}
 use Rattle.route_lines.specs.declared.change.Change.TheVariants.{Swap}
 use Rattle.route_book.proofs.RelinkLemmas.{refused_keeps, relinked_keeps, still_mirrored}
@@ -36,34 +36,34 @@ invariant_of-self g c =
       mark_mirror = c.self.invariant.mark_mirror;
     }
 
-pub returns-in-Some-clause-result : goal.returns-in-Some-clause-result
-returns-in-Some-clause-result g c =
-    told_swapped _ _ _ _ _ _ _ _ c.self.invariant.book _ c.self.view_is c.len.ensures.formed.agreed
-    c.args.stop _ _ c.in_ok-from.ensures.found c.args.other _ _ c.in_ok-by.ensures.found
-    (c.in-Some.ensures.variant.0 refl)
-
-pub returns-in-Some-clause-kept : goal.returns-in-Some-clause-kept
-returns-in-Some-clause-kept g c =
+pub returns-in-Some-clause-changes : goal.returns-in-Some-clause-changes
+returns-in-Some-clause-changes g c =
     let re = swapped_links _ _ _ _ _ _ _ _ c.self.invariant.book _ c.self.view_is
     c.len.ensures.formed.agreed c.args.stop _ _ c.in_ok-from.ensures.found c.args.other _ _
     c.in_ok-by.ensures.found
     _ (c.in-Some.ensures.variant.0 refl) c.in-Some.ensures.relinked in
-    relinked_keeps _ _ _ _ _ _ _ _ c.self.invariant.book _ c.self.view_is _ _ _ re.1.1
+    record {
+      gives =
+          told_swapped _ _ _ _ _ _ _ _ c.self.invariant.book _ c.self.view_is c.len.ensures.formed.agreed
+          c.args.stop _ _ c.in_ok-from.ensures.found c.args.other _ _ c.in_ok-by.ensures.found
+          (c.in-Some.ensures.variant.0 refl);
+      leaves = search rules;
+      kept =
+          relinked_keeps _ _ _ _ _ _ _ _ c.self.invariant.book _ c.self.view_is _ _ _ re.1.1;
+      refused = tt;
+    }
 
-pub returns-in-None-clause-result : goal.returns-in-None-clause-result
-returns-in-None-clause-result g c =
-    (told_unswapped _ _ _ _ _ _ _ _ c.self.invariant.book _ c.self.view_is
+pub returns-in-None-clause-changes : goal.returns-in-None-clause-changes
+returns-in-None-clause-changes g c =
+    let told =
+    told_unswapped _ _ _ _ _ _ _ _ c.self.invariant.book _ c.self.view_is
     c.len.ensures.formed.agreed c.args.stop _ _ c.in_ok-from.ensures.found c.args.other _ _
     c.in_ok-by.ensures.found
-    (λ some. true≢false (sym (c.in-None.ensures.variant.1 some)))).0
-
-pub returns-in-None-clause-state : goal.returns-in-None-clause-state
-returns-in-None-clause-state g c =
-    (told_unswapped _ _ _ _ _ _ _ _ c.self.invariant.book _ c.self.view_is
-    c.len.ensures.formed.agreed c.args.stop _ _ c.in_ok-from.ensures.found c.args.other _ _
-    c.in_ok-by.ensures.found
-    (λ some. true≢false (sym (c.in-None.ensures.variant.1 some)))).1
-
-pub returns-in-None-clause-kept : goal.returns-in-None-clause-kept
-returns-in-None-clause-kept g c =
-    refused_keeps _ _ _ _ _ _ _ _ c.self.invariant.book _ c.self.view_is _ c.in-None.ensures.none
+    (λ some. true≢false (sym (c.in-None.ensures.variant.1 some))) in
+    record {
+      gives = told.0;
+      leaves = told.1;
+      kept =
+          refused_keeps _ _ _ _ _ _ _ _ c.self.invariant.book _ c.self.view_is _ c.in-None.ensures.none;
+      refused = search rules;
+    }

@@ -1,24 +1,24 @@
 use Rattle.std.proofs.Common.{rules, ◌≡◌, option_map}
 use Rattle.triple_arena.specs.Content.{grown_if_full}
-use Rattle.triple_arena_chain.specs.Chains.{IsGap}
+use Rattle.triple_arena_chain.specs.Chains.{IsBetween}
 use Rattle.triple_arena_chain.specs.Links.{ends_in}
-use Rattle.triple_arena_chain.specs.declared.place.Place.TheVariants.{Between}
-use Rattle.triple_arena_chain.proofs.GrowthLemmas.{placed-grown}
+use Rattle.triple_arena_chain.specs.declared.gap.Gap.TheVariants.{Between}
+use Rattle.triple_arena_chain.proofs.GrowthLemmas.{inserted-grown}
 use Rattle.triple_arena_chain.proofs.chain_arena.ChainArena.insert_in_gap_reallocating.Goals as goal
 
-pub put-requires-clause-place : goal.put-requires-clause-place
-put-requires-clause-place g c =
+pub put-requires-clause-gap : goal.put-requires-clause-gap
+put-requires-clause-gap g c =
     let number = g.P.Inx.PtrInxCore.number in
     let grown : c.make_room.new.self ≡ grown_if_full c.args.self.now = search rules in
-    let there : IsGap (ends_in number (grown_if_full c.args.self.now))
+    let there : IsBetween (ends_in number (grown_if_full c.args.self.now))
     (option_map number c.args.prev, option_map number c.args.next) = c.requires in
     rw grown there
 
-pub returns-clause-placed : goal.returns-clause-placed
-returns-clause-placed g c =
+pub returns-clause-inserted : goal.returns-clause-inserted
+returns-clause-inserted g c =
     let number = g.P.Inx.PtrInxCore.number in
     let grown : c.make_room.new.self ≡ grown_if_full c.args.self.now = search rules in
-    placed-grown number c.args.self.now c.make_room.new.self c.put.new.self
+    inserted-grown number c.args.self.now c.make_room.new.self c.put.new.self
     (Between (option_map number c.args.prev) (option_map number c.args.next))
     (g.P.PtrCore.index c.put.result) (g.P.PtrCore.generation c.put.result) c.args.t grown
-    c.put.ensures.placed
+    c.put.ensures.inserted

@@ -1,30 +1,30 @@
 use Rattle.std.proofs.Common.{rules, ◌≡◌}
 use Rattle.triple_arena.specs.Content.{next_index, inserted}
 use Rattle.triple_arena_chain.specs.Links.{link_for, joined_to, IsChained}
-use Rattle.triple_arena_chain.proofs.InsertionLemmas.{placed_in, Placed}
+use Rattle.triple_arena_chain.proofs.InsertionLemmas.{inserted_in, Inserted}
 use Rattle.triple_arena_chain.proofs.chain_arena.ChainArena.put.Given.{Over}
 use Rattle.triple_arena_chain.proofs.chain_arena.ChainArena.put.Goals as goal
 
-placed : (g : Over) (c : goal.After-join g)
-    → Placed g.P.Inx.PtrInxCore.number c.args.self.now c.join.new.arena c.args.place
+linked : (g : Over) (c : goal.After-join g)
+    → Inserted g.P.Inx.PtrInxCore.number c.args.self.now c.join.new.arena c.args.gap
     (g.P.Inx.PtrInxCore.number c.inx-i.result) c.args.self.now.counter c.args.t
-placed g c =
+linked g c =
     let number = g.P.Inx.PtrInxCore.number in
     let old = c.args.self.now in
     let chained : IsChained number old = search rules in
     let index : number c.inx-i.result ≡ next_index old = search rules in
     let is : c.join.new.arena
-    ≡ joined_to number (inserted old (link_for number c.args.place c.inx-i.result c.args.t))
-    c.args.place c.inx-i.result =
+    ≡ joined_to number (inserted old (link_for number c.args.gap c.inx-i.result c.args.t))
+    c.args.gap c.inx-i.result =
     search rules in
-    placed_in number old c.join.new.arena c.args.place c.inx-i.result c.args.t chained
-    c.requires.room c.requires.place index is
+    inserted_in number old c.join.new.arena c.args.gap c.inx-i.result c.args.t chained
+    c.requires.room c.requires.gap index is
 
 pub invariant_of-self : goal.invariant_of-self
-invariant_of-self g c = (placed g c).chained
+invariant_of-self g c = (linked g c).chained
 
-pub returns-clause-placed : goal.returns-clause-placed
-returns-clause-placed g c = let p = placed g c in search rules
+pub returns-clause-inserted : goal.returns-clause-inserted
+returns-clause-inserted g c = let p = linked g c in search rules
 
 pub returns-clause-formed : goal.returns-clause-formed
-returns-clause-formed g c = (placed g c).chained
+returns-clause-formed g c = (linked g c).chained

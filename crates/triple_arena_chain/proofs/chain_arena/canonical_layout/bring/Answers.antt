@@ -13,8 +13,8 @@ swap_inx-requires-clause-j_is_live g c =
     (Some c.args.place) _ c.set_next.ensures
     c.requires.place_is_live
 
-pub set_prev-requires : goal.set_prev-requires
-set_prev-requires g c =
+pub set_prev-requires-clause-live : goal.set_prev-requires-clause-live
+set_prev-requires-clause-live g c =
     place_stays g.P.Inx.PtrInxCore.number c.args.arena.now c.set_next.new.arena c.swap_inx.new.self
     c.swap_inx.new.self c.args.last c.args.at c.args.place
     c.requires.formed c.requires.alike c.requires.at_is_live c.requires.place_is_live

@@ -25,8 +25,8 @@ behind-i-requires g c =
     let bounded = c.capacity.ensures.bounded in
     omega (arith, within, bounded)
 
-pub set_prev-requires : goal.set_prev-requires
-set_prev-requires g c =
+pub set_prev-requires-clause-live : goal.set_prev-requires-clause-live
+set_prev-requires-clause-live g c =
     let number = g.P.Inx.PtrInxCore.number in
     let r = c.link.invariant.rejoined in
     let more = c.link-test.true in
@@ -43,8 +43,8 @@ get_inx_unwrap-requires g c =
     more c.behind-i.ensures
     c.set_prev.ensures
 
-pub set_prev-requires-in-link : goal.set_prev-requires-in-link
-set_prev-requires-in-link g c =
+pub set_prev-requires-in-link-clause-live : goal.set_prev-requires-in-link-clause-live
+set_prev-requires-in-link-clause-live g c =
     let number = g.P.Inx.PtrInxCore.number in
     let r = c.link.invariant.rejoined in
     let more = c.link-test.true in

@@ -23,8 +23,8 @@ get_inx_unwrap-requires g c =
     subst (λ k. IsSome (entry_at c.loop-p.arena k)) (sym c.inx-i.ensures)
     (found_live (entry_at c.loop-p.arena) _ _ (c.in-Some.ensures).given.0.live)
 
-pub relink-requires-clause-after : goal.relink-requires-clause-after
-relink-requires-clause-after g c =
+pub set_prev-requires-clause-live : goal.set_prev-requires-clause-live
+set_prev-requires-clause-live g c =
     let next_is : option_map g.P.Inx.PtrInxCore.number c.next-next.result
     ≡ next_at (ends_in g.P.Inx.PtrInxCore.number c.loop-p.arena)
     (g.P.Inx.PtrInxCore.number c.inx-i.result) =
@@ -47,18 +47,18 @@ loop-p-preserved g c =
     let next = passed_by c.loop-p.advancer c.advance.new.self (g.P.PtrCore.index c.in-Some.p) rises
     after in
     let same =
-    live_as c.loop-p.arena c.relink.new.arena
-    (unchanged g.P.Inx.PtrInxCore.number c.loop-p.arena c.relink.new.arena c.next-next.result
-    (Some c.inx-i.result) c.relink.ensures) in
+    live_as c.loop-p.arena c.set_prev.new.arena
+    (unchanged g.P.Inx.PtrInxCore.number c.loop-p.arena c.set_prev.new.arena c.next-next.result
+    (Some c.inx-i.result) c.set_prev.ensures) in
     record {
       rises = next.rises;
       reaches = λ j some. subst (λ h. j ≤ h) (sym next.high)
           (c.loop-p.invariant.reaches j (sym (same j) ∙ some));
       joined =
-          subst (λ n. IsJoined g.P.Inx.PtrInxCore.number c.args.arena.now n c.relink.new.arena)
+          subst (λ n. IsJoined g.P.Inx.PtrInxCore.number c.args.arena.now n c.set_prev.new.arena)
           (sym next.low)
           (joined_one g.P.Inx.PtrInxCore.number c.args.arena.now c.requires.apart c.loop-p.arena
-          c.relink.new.arena c.loop-p.advancer
+          c.set_prev.new.arena c.loop-p.advancer
           (g.P.PtrCore.index c.in-Some.p) (g.P.PtrCore.generation c.in-Some.p) c.inx-i.result
           c.loop-p.invariant.joined rises (c.in-Some.ensures).given.0
           c.inx-i.ensures c.next-next.result
@@ -68,5 +68,5 @@ loop-p-preserved g c =
           (next_live g.P.Inx.PtrInxCore.number c.args.arena.now c.loop-p.advancer.low c.loop-p.arena
           c.next-next.result _ c.loop-p.invariant.joined
           c.requires.live next_is)
-          c.relink.ensures);
+          c.set_prev.ensures);
     }

@@ -9,8 +9,8 @@ use Rattle.triple_arena_chain.proofs.ConnectionLemmas.{next_read, Relinked}
 use Rattle.triple_arena_chain.proofs.chain_arena.chain_calls.ChainArenaChainArenaTrait.break_next.Given.{Over}
 use Rattle.triple_arena_chain.proofs.chain_arena.chain_calls.ChainArenaChainArenaTrait.break_next.Goals as goal
 
-pub relink-requires-clause-after : goal.relink-requires-clause-after
-relink-requires-clause-after g c =
+pub part-requires-clause-after : goal.part-requires-clause-after
+part-requires-clause-after g c =
     let number = g.P.Inx.PtrInxCore.number in
     let is = next_read number
     (ends_found number c.args.self.now (g.P.PtrCore.index c.args.p)
@@ -23,12 +23,12 @@ relink-requires-clause-after g c =
     (option_map number c.in-Some-default-Some.field-0-0) c.recall_chained.ensures is in
     search rules
 
-done : (g : Over) (c : goal.After-relink g) (q : ℕ)
+done : (g : Over) (c : goal.After-part g) (q : ℕ)
     → next_at (ends_in g.P.Inx.PtrInxCore.number c.args.self.now) (g.P.PtrCore.index c.args.p)
     ≡ Some q
     → Relinked g.P.Inx.PtrInxCore.number
     (unlinked (ends_in g.P.Inx.PtrInxCore.number c.args.self.now) (g.P.PtrCore.index c.args.p)
-    q) c.args.self.now c.relink.new.arena
+    q) c.args.self.now c.part.new.arena
 done g c =
     let number = g.P.Inx.PtrInxCore.number in
     let is = next_read number
@@ -36,17 +36,17 @@ done g c =
     (g.P.PtrCore.generation c.args.p)) c.in-Some-default-Some.field-0-0
     c.in-Some-default-Some.field-0-1 c.in-Some-default-Some.next
     (c.in-Some-default-Some.ensures).numbers c.in-Some-default-Some.field-0-1-is in
-    let made : c.relink.new.arena
+    let made : c.part.new.arena
     ≡ with_prev_of number (with_next_of number c.args.self.now (Some c.inx.result) None)
     (Some c.in-Some-default-Some.next) None =
     search rules in
-    parted_next number c.args.self.now c.relink.new.arena c.inx.result c.in-Some-default-Some.next
+    parted_next number c.args.self.now c.part.new.arena c.inx.result c.in-Some-default-Some.next
     (g.P.PtrCore.index c.args.p) (g.P.PtrCore.generation c.args.p)
     (option_map number c.in-Some-default-Some.field-0-0) c.recall_chained.ensures c.inx.ensures is
     made
 
-chained : (g : Over) (c : goal.After-relink g)
-    → IsChained g.P.Inx.PtrInxCore.number c.relink.new.arena
+chained : (g : Over) (c : goal.After-part g)
+    → IsChained g.P.Inx.PtrInxCore.number c.part.new.arena
 chained g c =
     let number = g.P.Inx.PtrInxCore.number in
     let is = next_read number
@@ -68,7 +68,7 @@ returns-clause-formed g c = chained g c
 pub returns-clause-lists : goal.returns-clause-lists
 returns-clause-lists g c q next =
     let number = g.P.Inx.PtrInxCore.number in
-    is_split (ends_in number c.args.self.now) (ends_in number c.relink.new.arena)
+    is_split (ends_in number c.args.self.now) (ends_in number c.part.new.arena)
     (g.P.PtrCore.index c.args.p) q c.recall_chained.ensures.agreed
     (chained g c).agreed next (done g c q next).relinked.ends
 

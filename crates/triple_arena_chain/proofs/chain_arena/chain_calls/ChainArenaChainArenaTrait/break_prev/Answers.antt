@@ -7,8 +7,8 @@ use Rattle.triple_arena_chain.proofs.ConnectionLemmas.{prev_live, parted_prev, p
 use Rattle.triple_arena_chain.proofs.chain_arena.chain_calls.ChainArenaChainArenaTrait.break_prev.Given.{Over}
 use Rattle.triple_arena_chain.proofs.chain_arena.chain_calls.ChainArenaChainArenaTrait.break_prev.Goals as goal
 
-pub relink-requires-clause-before : goal.relink-requires-clause-before
-relink-requires-clause-before g c =
+pub part-requires-clause-before : goal.part-requires-clause-before
+part-requires-clause-before g c =
     let number = g.P.Inx.PtrInxCore.number in
     let is = sym (c.in-Some-Some-default.ensures).numbers
     ∙ ap (λ o. Some (option_map number o, option_map number c.in-Some-Some-default.field-0-1))
@@ -19,29 +19,29 @@ relink-requires-clause-before g c =
     (option_map number c.in-Some-Some-default.field-0-1) c.recall_chained.ensures is in
     search rules
 
-done : (g : Over) (c : goal.After-relink g) (q : ℕ)
+done : (g : Over) (c : goal.After-part g) (q : ℕ)
     → prev_at (ends_in g.P.Inx.PtrInxCore.number c.args.self.now) (g.P.PtrCore.index c.args.p)
     ≡ Some q
     → Relinked g.P.Inx.PtrInxCore.number
     (unlinked (ends_in g.P.Inx.PtrInxCore.number c.args.self.now) q
-    (g.P.PtrCore.index c.args.p)) c.args.self.now c.relink.new.arena
+    (g.P.PtrCore.index c.args.p)) c.args.self.now c.part.new.arena
 done g c =
     let number = g.P.Inx.PtrInxCore.number in
     let is = sym (c.in-Some-Some-default.ensures).numbers
     ∙ ap (λ o. Some (option_map number o, option_map number c.in-Some-Some-default.field-0-1))
     c.in-Some-Some-default.field-0-0-is in
-    let made : c.relink.new.arena
+    let made : c.part.new.arena
     ≡ with_prev_of number
     (with_next_of number c.args.self.now (Some c.in-Some-Some-default.prev) None)
     (Some c.inx.result) None =
     search rules in
-    parted_prev number c.args.self.now c.relink.new.arena c.in-Some-Some-default.prev c.inx.result
+    parted_prev number c.args.self.now c.part.new.arena c.in-Some-Some-default.prev c.inx.result
     (g.P.PtrCore.index c.args.p) (g.P.PtrCore.generation c.args.p)
     (option_map number c.in-Some-Some-default.field-0-1) c.recall_chained.ensures c.inx.ensures is
     made
 
-chained : (g : Over) (c : goal.After-relink g)
-    → IsChained g.P.Inx.PtrInxCore.number c.relink.new.arena
+chained : (g : Over) (c : goal.After-part g)
+    → IsChained g.P.Inx.PtrInxCore.number c.part.new.arena
 chained g c =
     let number = g.P.Inx.PtrInxCore.number in
     let is = sym (c.in-Some-Some-default.ensures).numbers
@@ -62,7 +62,7 @@ pub returns-clause-lists : goal.returns-clause-lists
 returns-clause-lists g c q prev =
     let number = g.P.Inx.PtrInxCore.number in
     let agreed = c.recall_chained.ensures.agreed in
-    is_split (ends_in number c.args.self.now) (ends_in number c.relink.new.arena) q
+    is_split (ends_in number c.args.self.now) (ends_in number c.part.new.arena) q
     (g.P.PtrCore.index c.args.p) agreed
     (chained g c).agreed (agreed.backward q (g.P.PtrCore.index c.args.p) prev)
     (done g c q prev).relinked.ends

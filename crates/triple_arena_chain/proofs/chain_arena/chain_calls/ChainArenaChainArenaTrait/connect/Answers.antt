@@ -1,17 +1,17 @@
 use Rattle.std.proofs.Common.{rules, ◌≡◌, Some}
 use Rattle.triple_arena_chain.specs.Chains.{linked}
-use Rattle.triple_arena_chain.specs.Kinds.{at_bridge, place_by}
+use Rattle.triple_arena_chain.specs.Kinds.{at_bridge, gap_by}
 use Rattle.triple_arena_chain.specs.Links.{ends_in, ends_found, with_next_of, with_prev_of}
 use Rattle.triple_arena_chain.proofs.ListLemmas.{is_appended}
 use Rattle.triple_arena_chain.proofs.ConnectionLemmas.{connected, Relinked}
 use Rattle.triple_arena_chain.proofs.chain_arena.chain_calls.ChainArenaChainArenaTrait.connect.Given.{Over}
 use Rattle.triple_arena_chain.proofs.chain_arena.chain_calls.ChainArenaChainArenaTrait.connect.Goals as goal
 
-done : (g : Over) (c : goal.After-relink g)
+done : (g : Over) (c : goal.After-follow g)
     → Relinked g.P.Inx.PtrInxCore.number
     (linked (ends_in g.P.Inx.PtrInxCore.number c.args.self.now) (g.P.PtrCore.index c.args.p)
     (g.P.PtrCore.index c.args.q)) c.args.self.now
-    c.relink.new.arena
+    c.follow.new.arena
 done g c =
     let number = g.P.Inx.PtrInxCore.number in
     let old = c.args.self.now in
@@ -19,14 +19,14 @@ done g c =
     let q = g.P.PtrCore.index c.args.q in
     let gp = g.P.PtrCore.generation c.args.p in
     let gq = g.P.PtrCore.generation c.args.q in
-    let place = place_by number c.in-Some.field-0 in
+    let gap = gap_by number c.in-Some.field-0 in
     let bridge : at_bridge p q (ends_found number old p gp) (ends_found number old q gq)
-    ≡ Some place = search rules in
-    let made : c.relink.new.arena
+    ≡ Some gap = search rules in
+    let made : c.follow.new.arena
     ≡ with_prev_of number (with_next_of number old (Some c.inx-i.result) (Some c.inx-j.result))
     (Some c.inx-j.result) (Some c.inx-i.result) =
     search rules in
-    connected number old c.relink.new.arena c.inx-i.result c.inx-j.result p gp q gq place
+    connected number old c.follow.new.arena c.inx-i.result c.inx-j.result p gp q gq gap
     c.recall_chained.ensures c.inx-i.ensures c.inx-j.ensures bridge made
 
 pub invariant_of-self : goal.invariant_of-self
@@ -39,7 +39,7 @@ pub returns-clause-lists : goal.returns-clause-lists
 returns-clause-lists g c =
     let number = g.P.Inx.PtrInxCore.number in
     let d = done g c in
-    is_appended (ends_in number c.args.self.now) (ends_in number c.relink.new.arena)
+    is_appended (ends_in number c.args.self.now) (ends_in number c.follow.new.arena)
     (g.P.PtrCore.index c.args.p) (g.P.PtrCore.index c.args.q) d.chained.agreed
     d.relinked.ends
 

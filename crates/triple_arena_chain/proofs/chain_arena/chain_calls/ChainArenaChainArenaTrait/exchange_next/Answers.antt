@@ -9,8 +9,8 @@ use Rattle.triple_arena_chain.proofs.ConnectionLemmas.{Relinked}
 use Rattle.triple_arena_chain.proofs.chain_arena.chain_calls.ChainArenaChainArenaTrait.exchange_next.Given.{Over}
 use Rattle.triple_arena_chain.proofs.chain_arena.chain_calls.ChainArenaChainArenaTrait.exchange_next.Goals as goal
 
-pub relink-requires-clause-after : goal.relink-requires-clause-after
-relink-requires-clause-after g c =
+pub follow-requires-clause-after : goal.follow-requires-clause-after
+follow-requires-clause-after g c =
     let number = g.P.Inx.PtrInxCore.number in
     let at_q = next_read number
     (ends_found number c.args.self.now (g.P.PtrCore.index c.args.q)
@@ -24,8 +24,8 @@ relink-requires-clause-after g c =
     (option_map number c.in-Some-default-Some-ends_of.field-0-0) c.recall_chained.ensures at_q in
     search rules
 
-pub relink-requires-2-clause-before : goal.relink-requires-2-clause-before
-relink-requires-2-clause-before g c =
+pub follow-requires-2-clause-before : goal.follow-requires-2-clause-before
+follow-requires-2-clause-before g c =
     let number = g.P.Inx.PtrInxCore.number in
     let at_q = next_read number
     (ends_found number c.args.self.now (g.P.PtrCore.index c.args.q)
@@ -33,12 +33,12 @@ relink-requires-2-clause-before g c =
     c.in-Some-default-Some-ends_of.field-0-1 c.in-Some-default-Some-ends_of.t
     (c.in-Some-default-Some-ends_of.ensures).numbers c.in-Some-default-Some-ends_of.field-0-1-is
     in
-    let first : c.relink.new.arena
+    let first : c.follow.new.arena
     ≡ with_prev_of number
     (with_next_of number c.args.self.now (Some c.inx-i.result)
     (Some c.in-Some-default-Some-ends_of.t))
     (Some c.in-Some-default-Some-ends_of.t) (Some c.inx-i.result) = search rules in
-    live_written number c.args.self.now c.relink.new.arena (Some c.inx-i.result)
+    live_written number c.args.self.now c.follow.new.arena (Some c.inx-i.result)
     (Some c.in-Some-default-Some-ends_of.t) (Some c.in-Some-default-Some-ends_of.t)
     (Some c.inx-i.result)
     (number c.inx-j.result) first
@@ -48,20 +48,20 @@ relink-requires-2-clause-before g c =
       Some (number c.in-Some-default-Some-ends_of.t),
     ) c.inx-j.ensures at_q)
 
-pub relink-requires-2-clause-after : goal.relink-requires-2-clause-after
-relink-requires-2-clause-after g c =
+pub follow-requires-2-clause-after : goal.follow-requires-2-clause-after
+follow-requires-2-clause-after g c =
     let number = g.P.Inx.PtrInxCore.number in
     let at_p = next_read number
     (ends_found number c.args.self.now (g.P.PtrCore.index c.args.p)
     (g.P.PtrCore.generation c.args.p)) c.in-Some-default-Some.field-0-0
     c.in-Some-default-Some.field-0-1 c.in-Some-default-Some.s
     (c.in-Some-default-Some.ensures).numbers c.in-Some-default-Some.field-0-1-is in
-    let first : c.relink.new.arena
+    let first : c.follow.new.arena
     ≡ with_prev_of number
     (with_next_of number c.args.self.now (Some c.inx-i.result)
     (Some c.in-Some-default-Some-ends_of.t))
     (Some c.in-Some-default-Some-ends_of.t) (Some c.inx-i.result) = search rules in
-    live_written number c.args.self.now c.relink.new.arena (Some c.inx-i.result)
+    live_written number c.args.self.now c.follow.new.arena (Some c.inx-i.result)
     (Some c.in-Some-default-Some-ends_of.t) (Some c.in-Some-default-Some-ends_of.t)
     (Some c.inx-i.result)
     (number c.in-Some-default-Some.s) first
@@ -69,7 +69,7 @@ relink-requires-2-clause-after g c =
     (number c.in-Some-default-Some.s)
     (option_map number c.in-Some-default-Some.field-0-0) c.recall_chained.ensures at_p)
 
-done : (g : Over) (c : goal.After-relink-2 g) (s t : ℕ)
+done : (g : Over) (c : goal.After-follow-2 g) (s t : ℕ)
     → next_at (ends_in g.P.Inx.PtrInxCore.number c.args.self.now) (g.P.PtrCore.index c.args.p)
     ≡ Some s
     → next_at (ends_in g.P.Inx.PtrInxCore.number c.args.self.now) (g.P.PtrCore.index c.args.q)
@@ -77,7 +77,7 @@ done : (g : Over) (c : goal.After-relink-2 g) (s t : ℕ)
     → Relinked g.P.Inx.PtrInxCore.number
     (exchanged (ends_in g.P.Inx.PtrInxCore.number c.args.self.now) (g.P.PtrCore.index c.args.p)
     (g.P.PtrCore.index c.args.q) s t) c.args.self.now
-    c.relink-2.new.arena
+    c.follow-2.new.arena
 done g c =
     let number = g.P.Inx.PtrInxCore.number in
     let at_p = next_read number
@@ -91,22 +91,22 @@ done g c =
     c.in-Some-default-Some-ends_of.field-0-1 c.in-Some-default-Some-ends_of.t
     (c.in-Some-default-Some-ends_of.ensures).numbers c.in-Some-default-Some-ends_of.field-0-1-is
     in
-    let first : c.relink.new.arena
+    let first : c.follow.new.arena
     ≡ with_prev_of number
     (with_next_of number c.args.self.now (Some c.inx-i.result)
     (Some c.in-Some-default-Some-ends_of.t))
     (Some c.in-Some-default-Some-ends_of.t) (Some c.inx-i.result) = search rules in
-    exchanged_at number c.args.self.now c.relink.new.arena c.relink-2.new.arena c.inx-i.result
+    exchanged_at number c.args.self.now c.follow.new.arena c.follow-2.new.arena c.inx-i.result
     c.inx-j.result c.in-Some-default-Some.s
     c.in-Some-default-Some-ends_of.t (g.P.PtrCore.index c.args.p) (g.P.PtrCore.generation c.args.p)
     (g.P.PtrCore.index c.args.q) (g.P.PtrCore.generation c.args.q)
     (option_map number c.in-Some-default-Some.field-0-0)
     (option_map number c.in-Some-default-Some-ends_of.field-0-0) c.recall_chained.ensures
     c.inx-i.ensures c.inx-j.ensures
-    at_p at_q first c.relink-2.ensures
+    at_p at_q first c.follow-2.ensures
 
 -- the nexts that were there
-both : (g : Over) (c : goal.After-relink-2 g)
+both : (g : Over) (c : goal.After-follow-2 g)
     → (next_at (ends_in g.P.Inx.PtrInxCore.number c.args.self.now) (g.P.PtrCore.index c.args.p)
     ≡ Some (g.P.Inx.PtrInxCore.number c.in-Some-default-Some.s))
     × (next_at (ends_in g.P.Inx.PtrInxCore.number c.args.self.now) (g.P.PtrCore.index c.args.q)
@@ -132,13 +132,13 @@ both g c =
           (option_map number c.in-Some-default-Some-ends_of.field-0-0) at_q,
     )
 
-all : (g : Over) (c : goal.After-relink-2 g)
+all : (g : Over) (c : goal.After-follow-2 g)
     → Relinked g.P.Inx.PtrInxCore.number
     (exchanged (ends_in g.P.Inx.PtrInxCore.number c.args.self.now) (g.P.PtrCore.index c.args.p)
     (g.P.PtrCore.index c.args.q)
     (g.P.Inx.PtrInxCore.number c.in-Some-default-Some.s)
     (g.P.Inx.PtrInxCore.number c.in-Some-default-Some-ends_of.t))
-    c.args.self.now c.relink-2.new.arena
+    c.args.self.now c.follow-2.new.arena
 all g c =
     let number = g.P.Inx.PtrInxCore.number in
     let nexts = both g c in
@@ -156,7 +156,7 @@ returns-clause-lists g c =
     let number = g.P.Inx.PtrInxCore.number in
     let nexts = both g c in
     let one = all g c in
-    is_exchanged (ends_in number c.args.self.now) (ends_in number c.relink-2.new.arena)
+    is_exchanged (ends_in number c.args.self.now) (ends_in number c.follow-2.new.arena)
     (g.P.PtrCore.index c.args.p) (g.P.PtrCore.index c.args.q)
     (number c.in-Some-default-Some.s) (number c.in-Some-default-Some-ends_of.t)
     c.recall_chained.ensures.agreed one.chained.agreed nexts.0 nexts.1

@@ -7,8 +7,8 @@ use Rattle.triple_arena_chain.proofs.RemovalLemmas.{neighbors_live, removed_by, 
 use Rattle.triple_arena_chain.proofs.chain_arena.chain_calls.ChainArenaChainArenaTrait.remove_inx_link_no_gen.Given.{Over}
 use Rattle.triple_arena_chain.proofs.chain_arena.chain_calls.ChainArenaChainArenaTrait.remove_inx_link_no_gen.Goals as goal
 
-pub relink-requires-clause-before : goal.relink-requires-clause-before
-relink-requires-clause-before g c =
+pub follow-requires-clause-before : goal.follow-requires-clause-before
+follow-requires-clause-before g c =
     let number = g.P.Inx.PtrInxCore.number in
     let at : entry_at c.args.self.now (number c.args.i)
     ≡ Some (g.P.Gen.PtrGenCore.number c.in-Some.field-0-0, c.in-Some.link.now) = search rules in
@@ -17,8 +17,8 @@ relink-requires-clause-before g c =
     (subst (IsChained g.P.Inx.PtrInxCore.number) c.self.view_is c.self.invariant) at).0 in
     search rules
 
-pub relink-requires-clause-after : goal.relink-requires-clause-after
-relink-requires-clause-after g c =
+pub follow-requires-clause-after : goal.follow-requires-clause-after
+follow-requires-clause-after g c =
     let number = g.P.Inx.PtrInxCore.number in
     let at : entry_at c.args.self.now (number c.args.i)
     ≡ Some (g.P.Gen.PtrGenCore.number c.in-Some.field-0-0, c.in-Some.link.now) = search rules in
@@ -36,12 +36,12 @@ done g c =
     let number = g.P.Inx.PtrInxCore.number in
     let at : entry_at c.args.self.now (number c.args.i)
     ≡ Some (g.P.Gen.PtrGenCore.number c.in-Some.field-0-0, c.in-Some.link.now) = search rules in
-    let joined : c.relink.new.arena ≡ bridged_over number c.args.self.now c.in-Some.link.now =
+    let joined : c.follow.new.arena ≡ bridged_over number c.args.self.now c.in-Some.link.now =
     search rules in
     removed_by number (λ a. (g.P.Gen.PtrGenCore.number (value_of a).0, (value_of a).1))
     (answer_of c.remove_inx.result) (λ a. (value_of a).1) (λ o. o) g.P.Gen.PtrGenCore.last
     c.args.self.now
-    c.relink.new.arena c.remove_inx.new.self (number c.args.i)
+    c.follow.new.arena c.remove_inx.new.self (number c.args.i)
     (g.P.Gen.PtrGenCore.number c.in-Some.field-0-0) c.in-Some.link.now
     (g.P.Gen.PtrGenCore.number c.in-Some.field-0-0, c.in-Some.link.now)
     (subst (IsChained g.P.Inx.PtrInxCore.number) c.self.view_is c.self.invariant) at refl joined

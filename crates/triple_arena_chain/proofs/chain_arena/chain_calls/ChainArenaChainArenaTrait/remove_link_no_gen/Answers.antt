@@ -10,8 +10,8 @@ use Rattle.triple_arena_chain.proofs.RemovalLemmas.{Removed}
 use Rattle.triple_arena_chain.proofs.chain_arena.chain_calls.ChainArenaChainArenaTrait.remove_link_no_gen.Given.{Over}
 use Rattle.triple_arena_chain.proofs.chain_arena.chain_calls.ChainArenaChainArenaTrait.remove_link_no_gen.Goals as goal
 
-pub relink-requires-clause-before : goal.relink-requires-clause-before
-relink-requires-clause-before g c =
+pub follow-requires-clause-before : goal.follow-requires-clause-before
+follow-requires-clause-before g c =
     let p = g.P.PtrCore.index c.args.p in
     let gp = g.P.PtrCore.generation c.args.p in
     let is : get c.args.self.now p gp ≡ Some c.in-Some.link.now = search rules in
@@ -20,8 +20,8 @@ relink-requires-clause-before g c =
     (subst (IsChained g.P.Inx.PtrInxCore.number) c.self.view_is c.self.invariant) at).0 in
     search rules
 
-pub relink-requires-clause-after : goal.relink-requires-clause-after
-relink-requires-clause-after g c =
+pub follow-requires-clause-after : goal.follow-requires-clause-after
+follow-requires-clause-after g c =
     let p = g.P.PtrCore.index c.args.p in
     let gp = g.P.PtrCore.generation c.args.p in
     let is : get c.args.self.now p gp ≡ Some c.in-Some.link.now = search rules in
@@ -40,10 +40,10 @@ done g c =
     let gp = g.P.PtrCore.generation c.args.p in
     let is : get c.args.self.now p gp ≡ Some c.in-Some.link.now = search rules in
     let at = entry_seen gp (entry_at c.args.self.now p) c.in-Some.link.now is in
-    let joined : c.relink.new.arena ≡ bridged_over number c.args.self.now c.in-Some.link.now =
+    let joined : c.follow.new.arena ≡ bridged_over number c.args.self.now c.in-Some.link.now =
     search rules in
     removed_by number value_of (answer_of c.remove.result) value_of (value_if gp)
-    g.P.Gen.PtrGenCore.last c.args.self.now c.relink.new.arena c.remove.new.self p gp
+    g.P.Gen.PtrGenCore.last c.args.self.now c.follow.new.arena c.remove.new.self p gp
     c.in-Some.link.now c.in-Some.link.now
     (subst (IsChained g.P.Inx.PtrInxCore.number) c.self.view_is c.self.invariant) at
     (entry_shows gp c.in-Some.link.now) joined c.remove.ensures.value c.remove.ensures.exact

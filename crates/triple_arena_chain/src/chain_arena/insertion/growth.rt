@@ -2,12 +2,12 @@
 ghost use Rattle.std.specs.Prelude.{◌≡◌, ◌<◌, Some, IfOk, OnOk, OnErr};
 ghost use Rattle.triple_arena_stack.specs.Push.{IsRefusal};
 ghost use Rattle.triple_arena.specs.Content.{live_count, arena_capacity, next_index, grown_if_full};
-ghost use Rattle.triple_arena_chain.specs.Chains.{IsPlace};
+ghost use Rattle.triple_arena_chain.specs.Chains.{IsGap};
 ghost use Rattle.triple_arena_chain.specs.InsertEntry.{IsLinkRefusal};
-ghost use Rattle.triple_arena_chain.specs.Kinds.{place_by};
-ghost use Rattle.triple_arena_chain.specs.Links.{ends_in, place_among, IsChained};
+ghost use Rattle.triple_arena_chain.specs.Kinds.{gap_by};
+ghost use Rattle.triple_arena_chain.specs.Links.{ends_in, gap_among, IsChained};
 
-use crate::place::Place;
+use crate::gap::Gap;
 use crate::{ChainArena, ChainSlots, LinkInsertKind};
 use triple_arena::{ArenaInsertEntries, ArenaInsertEntryTrait, PtrCore, ReallocationError};
 use triple_arena_ptr::ChainInsertionError;
@@ -29,20 +29,20 @@ impl<P: PtrCore, T: Drop, S: ChainSlots<P, T>> ChainArena<P, T, S> {
         Ok(entry.ptr())
     }
 
-    // The place that the kind asks for, with room for a link there, and the pointer of that link.
+    // The gap that the kind asks for, with room for a link there, and the pointer of that link.
     #[inline(always)]
-    pub(crate) fn place_reallocating(
+    pub(crate) fn gap_reallocating(
         &mut self,
         kind: LinkInsertKind<P>,
-    ) -> Result<(Place<P::Inx>, P), ChainInsertionError>
+    ) -> Result<(Gap<P::Inx>, P), ChainInsertionError>
         ensures refusal { IsLinkRefusal
-            (place_among P.index P.generation P.Inx.number self.old kind)
+            (gap_among P.index P.generation P.Inx.number self.old kind)
             S.takes_memory (live_count self.old) self.old.room result }
-        ensures place { IfOk result
-            (λ made. place_among P.index P.generation P.Inx.number self.old kind
-            ≡ Some (place_by P.Inx.number made.0)) }
-        ensures is_place { IfOk result (λ made.
-            IsPlace (ends_in P.Inx.number self.new) (place_by P.Inx.number made.0)) }
+        ensures gap { IfOk result
+            (λ made. gap_among P.index P.generation P.Inx.number self.old kind
+            ≡ Some (gap_by P.Inx.number made.0)) }
+        ensures is_gap { IfOk result (λ made.
+            IsGap (ends_in P.Inx.number self.new) (gap_by P.Inx.number made.0)) }
         ensures has_index { IfOk result (λ made. P.index made.1 ≡ next_index self.new) }
         ensures has_generation { IfOk result (λ made. P.generation made.1 ≡ self.new.counter) }
         ensures grown { OnOk result (self.new ≡ grown_if_full self.old) }
@@ -52,11 +52,11 @@ impl<P: PtrCore, T: Drop, S: ChainSlots<P, T>> ChainArena<P, T, S> {
     {
         // The interlinks agree.
         self.recall_chained();
-        let Some(place) = self.place(kind) else {
+        let Some(gap) = self.gap(kind) else {
             return Err(ChainInsertionError::FailedLinkRequirement);
         };
         match self.make_room() {
-            Ok(p) => Ok((place, p)),
+            Ok(p) => Ok((gap, p)),
             Err(ReallocationError::BeyondMaxCapacity) => Err(
                 ChainInsertionError::BeyondMaxCapacity,
             ),

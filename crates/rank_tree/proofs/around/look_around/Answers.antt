@@ -6,8 +6,8 @@ use Rattle.rank_tree.specs.Store.{child_of}
 use Rattle.rank_tree.specs.Repair.{Spot}
 use Rattle.rank_tree.specs.SpotLaws.{Reads, spotted, reads, rank_read, spot_low, spot_parent}
 use Rattle.rank_tree.specs.SpotLaws.{spot_high, spot_child, spot_far}
-use Rattle.rank_tree.proofs.looks.look_around.Goals.{After-side_of-side}
-use Rattle.rank_tree.proofs.looks.look_around.Goals as goal
+use Rattle.rank_tree.proofs.around.look_around.Goals.{After-side_of-side}
+use Rattle.rank_tree.proofs.around.look_around.Goals as goal
 
 -- what was read is what stands there
 read : (g : _) (c : After-side_of-side g) (root : Option ℕ)

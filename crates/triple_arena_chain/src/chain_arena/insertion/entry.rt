@@ -1,21 +1,22 @@
-//! A place for one link more, which tells its pointer before the value is there.
-ghost use Rattle.std.specs.Prelude.{◌≡◌, ◌<◌, ◌↔◌, None, Some, IsSome, IfOk, IfSome};
+//! Room for one link more, which tells its pointer before the value is there.
+ghost use Rattle.std.specs.Prelude.{◌≡◌, ◌<◌, ◌↔◌, IsSome, IfSome};
 ghost use Rattle.std.specs.Borrow.{sem, RestsIfErr};
 ghost use Rattle.triple_arena.specs.Content.{live_count, arena_capacity, next_index, grown_if_full};
-ghost use Rattle.triple_arena_chain.specs.InsertEntry.{entry_chains, entry_lender, entry_place};
-ghost use Rattle.triple_arena_chain.specs.InsertEntry.{IsReady, IsLinkAnswer, IsLinkRefusal};
-ghost use Rattle.triple_arena_chain.specs.Links.{place_among, IsChained, IsPlaced};
+ghost use Rattle.triple_arena_chain.specs.InsertEntry.{entry_chains, entry_lender, entry_gap};
+ghost use Rattle.triple_arena_chain.specs.InsertEntry.{IsReady, IsEntryFor, IsLinkAnswer};
+ghost use Rattle.triple_arena_chain.specs.InsertEntry.{IsLinkRefusal};
+ghost use Rattle.triple_arena_chain.specs.Links.{gap_among, IsChained, IsLinkInserted};
 
-use crate::place::Place;
+use crate::gap::Gap;
 use crate::{ChainArena, ChainSlots, LinkInsertKind};
 use triple_arena::{ArenaInsertEntries, ArenaInsertEntryTrait, PtrCore};
 use triple_arena_ptr::ChainInsertionError;
 
-/// A place for one link more. Dropped unused, it leaves the links as they are.
+/// Room for one link more, in a gap. Dropped unused, it leaves the links as they are.
 #[derive(Drop)]
 pub struct ChainArenaInsertEntry<'a, P: PtrCore, T: Drop, S: ChainSlots<P, T>> {
     chains: &'a mut ChainArena<P, T, S>,
-    place: Place<P::Inx>,
+    gap: Gap<P::Inx>,
     ptr: P,
 }
 
@@ -35,7 +36,7 @@ impl<'a, P: PtrCore, T: Drop, S: ChainSlots<P, T>> ArenaInsertEntryTrait<P, T>
         requires { IsReady P.Inx.number P.index P.generation self }
 
         // `self.exit.0.now` are the links as they are left.
-        ensures placed { IsPlaced P.Inx.number (entry_place P.Inx.number self.entry)
+        ensures inserted { IsLinkInserted P.Inx.number (entry_gap P.Inx.number self.entry)
             (P.index result)
             (P.generation result) t (entry_chains self.entry) self.exit.0.now }
         ensures formed { IsChained P.Inx.number self.exit.0.now }
@@ -43,10 +44,10 @@ impl<'a, P: PtrCore, T: Drop, S: ChainSlots<P, T>> ArenaInsertEntryTrait<P, T>
     {
         let ChainArenaInsertEntry {
             chains,
-            place,
+            gap,
             ptr: _,
         } = self;
-        chains.put(place, t)
+        chains.put(gap, t)
     }
 }
 
@@ -66,21 +67,17 @@ impl<P: PtrCore, T: Drop, S: ChainSlots<P, T>> ChainArena<P, T, S> {
         }
     }
 
-    /// A place for one link more, if there is room. It returns `FailedLinkRequirement` if the links
+    /// Room for one link more, if there is some. It returns `FailedLinkRequirement` if the links
     /// are not as the kind requires, and else `NotWithinCapacity` if there is no room. The links
     /// stay as they are then.
     pub fn entry_insert_within_capacity(
         &mut self,
         kind: LinkInsertKind<P>,
     ) -> Result<ChainArenaInsertEntry<'_, P, T, S>, ChainInsertionError>
-        ensures answer { IsLinkAnswer (place_among P.index P.generation P.Inx.number self.old kind)
+        ensures answer { IsLinkAnswer (gap_among P.index P.generation P.Inx.number self.old kind)
             (live_count self.old) (arena_capacity self.old) result }
-        ensures same_reference { IfOk result (λ e. entry_lender e ≡ self.entry.ghost_name) }
-        ensures chains { IfOk result (λ e. entry_chains e ≡ self.old) }
-        ensures ready { IfOk result (λ e. IsReady P.Inx.number P.index P.generation e) }
-        ensures place { IfOk result
-            (λ e. place_among P.index P.generation P.Inx.number self.old kind
-            ≡ Some (entry_place P.Inx.number e)) }
+        ensures entry { IsEntryFor P.Inx.number P.index P.generation kind self.entry.ghost_name
+            self.old self.old result }
         ensures* err { sem 𝓛 (RestsIfErr
             (the_row P.row T.row S.row P.Inx.row P.Gen.row P.Inx.Word.row S.Alloc.row
             P.PtrCore P.Inx.PtrInxCore.own P.Inx.PartialEq P.Gen.PtrGenCore.own P.Gen.PartialEq
@@ -88,44 +85,59 @@ impl<P: PtrCore, T: Drop, S: ChainSlots<P, T>> ChainArena<P, T, S> {
     {
         // The interlinks agree.
         self.recall_chained();
-        let Some(place) = self.place(kind) else {
+        let Some(gap) = self.gap(kind) else {
             return Err(ChainInsertionError::FailedLinkRequirement);
         };
         match self.next_ptr() {
             Some(ptr) => Ok(ChainArenaInsertEntry {
                 chains: self,
-                place,
+                gap,
                 ptr,
             }),
             None => Err(ChainInsertionError::NotWithinCapacity),
         }
     }
 
-    /// A place for one link more. If there is no room, the arena grows, and returns the errors, as
+    /// Room for one link more. If there is none, the arena grows, and returns the errors, as
     /// `insert_reallocating` does. An error leaves the links as they were.
     pub fn entry_insert_reallocating(
         &mut self,
         kind: LinkInsertKind<P>,
     ) -> Result<ChainArenaInsertEntry<'_, P, T, S>, ChainInsertionError>
         ensures refusal { IsLinkRefusal
-            (place_among P.index P.generation P.Inx.number self.old kind)
+            (gap_among P.index P.generation P.Inx.number self.old kind)
             S.takes_memory (live_count self.old) self.old.room result }
-        ensures same_reference { IfOk result (λ e. entry_lender e ≡ self.entry.ghost_name) }
-        ensures chains { IfOk result (λ e. entry_chains e ≡ grown_if_full self.old) }
-        ensures ready { IfOk result (λ e. IsReady P.Inx.number P.index P.generation e) }
-        ensures place { IfOk result
-            (λ e. place_among P.index P.generation P.Inx.number self.old kind
-            ≡ Some (entry_place P.Inx.number e)) }
+        ensures entry { IsEntryFor P.Inx.number P.index P.generation kind self.entry.ghost_name
+            (grown_if_full self.old) self.old result }
         ensures* err { sem 𝓛 (RestsIfErr
             (the_row P.row T.row S.row P.Inx.row P.Gen.row P.Inx.Word.row S.Alloc.row
             P.PtrCore P.Inx.PtrInxCore.own P.Inx.PartialEq P.Gen.PtrGenCore.own P.Gen.PartialEq
             S.NonZeroInxGenericStack) self.entry entry_lender result (λ a. a ≡ self.old)) }
     {
-        let (place, ptr) = self.place_reallocating(kind)?;
+        let (gap, ptr) = self.gap_reallocating(kind)?;
         Ok(ChainArenaInsertEntry {
             chains: self,
-            place,
+            gap,
             ptr,
         })
+    }
+
+    /// The same as `entry_insert_reallocating`, if the links are as the kind requires.
+    pub fn entry_insert(
+        &mut self,
+        kind: LinkInsertKind<P>,
+    ) -> Result<ChainArenaInsertEntry<'_, P, T, S>, ChainInsertionError>
+        requires { IsSome (gap_among P.index P.generation P.Inx.number self.old kind) }
+        ensures refusal { IsLinkRefusal
+            (gap_among P.index P.generation P.Inx.number self.old kind)
+            S.takes_memory (live_count self.old) self.old.room result }
+        ensures entry { IsEntryFor P.Inx.number P.index P.generation kind self.entry.ghost_name
+            (grown_if_full self.old) self.old result }
+        ensures* err { sem 𝓛 (RestsIfErr
+            (the_row P.row T.row S.row P.Inx.row P.Gen.row P.Inx.Word.row S.Alloc.row
+            P.PtrCore P.Inx.PtrInxCore.own P.Inx.PartialEq P.Gen.PtrGenCore.own P.Gen.PartialEq
+            S.NonZeroInxGenericStack) self.entry entry_lender result (λ a. a ≡ self.old)) }
+    {
+        self.entry_insert_reallocating(kind)
     }
 }

@@ -2,10 +2,10 @@
 ghost use Rattle.std.specs.Prelude.{◌≡◌};
 ghost use Rattle.std.specs.Option.{option_map};
 ghost use Rattle.triple_arena.specs.Content.{get};
-ghost use Rattle.triple_arena_chain.specs.Links.{prev_next_of, ends_in, ends_found, place_among};
-ghost use Rattle.triple_arena_chain.specs.Kinds.{ends_by, place_by};
+ghost use Rattle.triple_arena_chain.specs.Links.{prev_next_of, ends_in, ends_found, gap_among};
+ghost use Rattle.triple_arena_chain.specs.Kinds.{ends_by, gap_by};
 
-use crate::place::{Place, after_end, before_start, bridging, inside, next_to, prev_to};
+use crate::gap::{Gap, after_end, before_start, bridging, inside, next_to, prev_to};
 use crate::{ChainArena, ChainSlots, LinkInsertKind};
 use triple_arena::{ArenaTrait, PtrCore};
 
@@ -34,15 +34,15 @@ impl<P: PtrCore, T: Drop, S: ChainSlots<P, T>> ChainArena<P, T, S> {
         }
     }
 
-    // The place that the kind asks for, or `None` if its requirement is not met.
+    // The gap that the kind asks for, or `None` if its requirement is not met.
     #[inline(always)]
-    pub(crate) fn place(&self, kind: LinkInsertKind<P>) -> Option<Place<P::Inx>>
-        ensures { option_map (place_by P.Inx.number) result
-            ≡ place_among P.index P.generation P.Inx.number self.now kind }
+    pub(crate) fn gap(&self, kind: LinkInsertKind<P>) -> Option<Gap<P::Inx>>
+        ensures { option_map (gap_by P.Inx.number) result
+            ≡ gap_among P.index P.generation P.Inx.number self.now kind }
     {
         match kind {
-            LinkInsertKind::Disconnected => Some(Place::Between(None, None)),
-            LinkInsertKind::SingleLinkCyclic => Some(Place::OwnRing),
+            LinkInsertKind::Disconnected => Some(Gap::Between(None, None)),
+            LinkInsertKind::SingleLinkCyclic => Some(Gap::OwnRing),
             LinkInsertKind::ChainEnd(p) => after_end(p.inx(), self.ends_of(p)),
             LinkInsertKind::ChainEndInx(i) => after_end(i, self.ends_at(i)),
             LinkInsertKind::ChainStart(p) => before_start(p.inx(), self.ends_of(p)),
