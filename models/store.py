@@ -30,7 +30,8 @@ POINTERS = {
     'N3': (255, 3),
 }
 BACKINGS = ('heap', 'limited', 'fixed', 'array')
-ARRAY_ROOM = 10
+# The arrays, and what each has room for.
+ARRAYS = {'array': 10, 'array3': 3}
 # What a store that moves on the way may begin as, and what it may become.
 ANY = [(p, b) for p in POINTERS for b in BACKINGS if (p, b) != ('P5', 'array')]
 MOVING = {
@@ -169,8 +170,8 @@ def refusal(pointers, backing, rooms, refused):
         return 'room refused: generation\n'
     if sum(rooms) > greatest:
         return 'room refused: index\n'
-    if backing == 'array':
-        return 'room refused: stack\n' if sum(rooms) > ARRAY_ROOM else None
+    if backing in ARRAYS:
+        return 'room refused: stack\n' if sum(rooms) > ARRAYS[backing] else None
     if max(rooms) > TOO_MANY:
         return 'room refused: memory\n'
     # Each arena with room takes memory for itself and for its mirror, and the ticket book for
@@ -209,7 +210,7 @@ def play_over(pointers, backing, numbers, lines):
         return text
     store = Store(*rooms, last, POINTERS[pointers][1])
     if lines.startswith('>'):
-        text, spent = '', 0 if backing == 'array' else requests(rooms)
+        text, spent = '', 0 if backing in ARRAYS else requests(rooms)
         for part in lines[1:].split('>'):
             words, _, run_lines = part.partition('\n')
             if words.startswith('move '):

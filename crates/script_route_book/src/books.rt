@@ -49,7 +49,7 @@ fn play_over_pointers(
     cut: Cut,
     text: String,
 ) -> Result<String, AllocError> {
-    if book.backing == "array" {
+    if book.backing == "array" || book.backing == "array3" {
         return play_in_array(book, lines, cut, text);
     }
     match book.pointers {
@@ -83,10 +83,11 @@ fn play_in_array(
     cut: Cut,
     text: String,
 ) -> Result<String, AllocError> {
-    match book.pointers {
-        "P0" => play_in::<P0, OnArray<10>>(&OnArray::<10>, book, lines, cut, text),
-        "P1" => play_in::<P1, OnArray<10>>(&OnArray::<10>, book, lines, cut, text),
-        "N3" => play_in::<N3, OnArray<10>>(&OnArray::<10>, book, lines, cut, text),
+    match (book.pointers, book.backing) {
+        ("P1", "array3") => play_in::<P1, OnArray<3>>(&OnArray::<3>, book, lines, cut, text),
+        ("P0", "array") => play_in::<P0, OnArray<10>>(&OnArray::<10>, book, lines, cut, text),
+        ("P1", "array") => play_in::<P1, OnArray<10>>(&OnArray::<10>, book, lines, cut, text),
+        ("N3", "array") => play_in::<N3, OnArray<10>>(&OnArray::<10>, book, lines, cut, text),
         _ => missing(book.pointers, book.backing, text),
     }
 }

@@ -10,7 +10,7 @@
 //! - POINTERS are pointer types, with `,` between them: `P0`, `P1`, `P5`, or `N3`, whose
 //!   generations end at 3;
 //! - BACKINGS are what the stores stand in: `heap`, `limited`, `fixed`, or `array`, which has room
-//!   for ten, and which `P5` lacks;
+//!   for ten, and which `P5` lacks, or `array3`, with room for three, which `P1` alone has;
 //! - PLACES, STOPS and MARKS are the rooms, and LAST is the last ticket that counts as given;
 //! - REFUSED is the request for memory that is refused, and 0 is none.
 //!
