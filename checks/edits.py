@@ -1,7 +1,7 @@
 """The wrong bodies of a file wrong-bodies.txt.
 
-edits.py FILE FOLDER [NAME]    writes each, or the one of that name, as FOLDER/NAME.edit
-edits.py --fit FILE..          sees that each text that an edit replaces stands in its file, once
+edits.py --has FILE [NAME]    whether there is one, or the one of that name
+edits.py --fit FILE..         sees that each text that an edit replaces stands in its file, once
 """
 import os
 import sys
@@ -46,18 +46,10 @@ def fit(files):
     return bad == 0 and count > 0
 
 
-def write(path, folder, only):
-    os.makedirs(folder, exist_ok=True)
-    chosen = [(name, lines) for name, lines in paragraphs(path) if only in (None, name)]
-    for name, lines in chosen:
-        with open(os.path.join(folder, f'{name}.edit'), 'w', encoding='utf-8') as out:
-            out.write('\n'.join(lines) + '\n')
-    return bool(chosen)
+def has(path, name=None):
+    return os.path.isfile(path) and any(name in (None, it) for it, _ in paragraphs(path))
 
 
 if __name__ == '__main__':
-    if sys.argv[1] == '--fit':
-        done = fit(sys.argv[2:])
-    else:
-        done = os.path.isfile(sys.argv[1]) and write(*sys.argv[1:3], (sys.argv[3:] or [None])[0])
+    done = fit(sys.argv[2:]) if sys.argv[1] == '--fit' else has(*sys.argv[2:])
     sys.exit(0 if done else 1)

@@ -4,15 +4,13 @@
 # --fit it only sees that each text that an edit replaces stands in its file, once.
 #
 # A paragraph of wrong-bodies.txt is an edit: its name, a line `file: src/x.rt`, and pairs of lines
-# `old: TEXT` and `new: TEXT`, which are made in turn. Other lines are comments.
+# `old: TEXT` and `new: TEXT`, which are made in turn.
 #
-# The edits are made in a copy, N crates side by side (2 if it is not said), and those of one crate
-# one after another. The first of a crate costs a check of it, and each further one 10 to 60
-# seconds. Run it for a crate if its contracts change.
-edits=$here/edits.py
-
+# The edits are made in a copy, N crates side by side (2 if it is not said). Those of a crate are
+# tried many at once (together.py): the first check costs what the crate costs, if the tree keeps no
+# check of it, and each further one some minutes. Run it for a crate if its contracts change.
 if [[ ${1:-} == --fit ]]; then
-    python3 "$edits" --fit "$top"/crates/*/wrong-bodies.txt
+    python3 "$here/edits.py" --fit "$top"/crates/*/wrong-bodies.txt
     exit
 fi
 jobs=2
@@ -21,40 +19,31 @@ if [[ ${1:-} == -j ]]; then
     shift 2
 fi
 
-# The edits as files of must-fail/, a folder for each crate.
+# The crates and the names, a line each.
 (($# > 0)) || set -- "$top"/crates/*/wrong-bodies.txt
 for name in "$@"; do
-    crate=$(basename -- "${name%/*}")
-    only=
-    if [[ $name != */* ]]; then
-        crate=$name
-    elif [[ $name != */wrong-bodies.txt ]]; then
-        only=${name##*/}
-    fi
-    if ! python3 "$edits" "$top/crates/$crate/wrong-bodies.txt" "$work/$crate.edits" $only; then
+    [[ $name != */wrong-bodies.txt ]] || name=$(basename -- "${name%/*}")
+    crate=${name%%/*}
+    only=${name#"$crate"}
+    only=${only#/}
+    if ! python3 "$here/edits.py" --has "$top/crates/$crate/wrong-bodies.txt" $only; then
         echo "checks/run: $name is no crate with wrong bodies, and no wrong body of one" >&2
         exit 2
     fi
-done
+    echo "$crate $only"
+done >"$work/wanted"
 
-# Each crate's edits in a copy of their own, with what the crates below it keep of earlier checks.
+# Some edits in a copy of their own, with what the tree keeps of earlier checks.
 try() {
-    local crate=$1 room=$work/$1
-    mkdir -p "$room"
+    local room
+    room=$(mktemp -d -p "$work")
     cp -- "$top/crates.txt" "$top/HANDLES" "$room/"
-    tar -C "$top" --exclude=out/incremental --exclude=must-fail -cf - crates | tar -C "$room" -xf -
-    cp -r -- "$work/$crate.edits" "$room/crates/$crate/must-fail"
-    (cd -- "$room" && rt must-fail "$crate" 2>&1) | tee "$work/$crate.log" || true
+    tar -C "$top" -cf - crates | tar -C "$room" -xf -
+    python3 "$here/together.py" "$room" "$@" || touch "$work/failed"
     rm -rf -- "$room"
 }
 export -f try
-export work top
+export work top here
 
-for folder in "$work"/*.edits; do
-    basename -- "$folder" .edits
-done | sort | xargs -P "$jobs" -I{} bash -c 'try {}'
-
-tried=$(find "$work" -name '*.edit' | wc -l)
-refused=$(cat -- "$work"/*.log | grep -c ': refused, as it must be' || true)
-echo "$refused passed, $((tried - refused)) failed"
-((refused == tried))
+xargs -P "$jobs" -L 1 bash -c 'try "$@"' try <"$work/wanted"
+[[ ! -e $work/failed ]]
