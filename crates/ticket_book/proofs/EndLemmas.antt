@@ -1,5 +1,5 @@
 -- What the entries along a list are where one is taken out, and where each is renewed.
-use Rattle.std.proofs.Common.{◌≡◌, ◌∙◌, sym, ap, subst, refl, true, false, ℕ, ◌<◌, List, [], ◌∷◌}
+use Rattle.std.proofs.Common.{◌≡◌, ◌≢◌, ◌∙◌, sym, ap, subst, refl, true, false, ℕ, ◌<◌, List, [], ◌∷◌}
 use Rattle.std.proofs.Common.{◌++◌, map, Option, Some, None, IsSome, OnSome, option_map, arith, inl}
 use Rattle.std.proofs.Common.{inr}
 use Rattle.std.specs.List.{AllByRecursion}
@@ -119,6 +119,10 @@ module _ {I : Type 0} (number : I → ℕ) (old new : Ordered I Entry) (ordered 
         by None none h = absurd
             (let no : ◌≡◌ {A = Option (G × Entry)} None (Some taken) = none in cc)
         by (Some a) some h = h
+
+    -- all others stand where they stood
+    pub others_stand : (k : ℕ) → k ≢ i → entry_in new k ≡ entry_in old k
+    others_stand k other = gone.entries k ∙ rw (ne_eqb k i other) refl
 
     pub entry_taken : entries_of number new ≡ without_ticket taken.1.ticket (entries_of number old)
     entry_taken = entry_out last i (generation taken.0, taken.1) gone taken_stood

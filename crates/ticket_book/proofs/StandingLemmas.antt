@@ -5,6 +5,7 @@ use Rattle.std.proofs.lemmas.Bool.{eq-eqb, ne_eqb}
 use Rattle.std.proofs.lemmas.Bool.Decides.{eqb_tells}
 use Rattle.triple_arena_chain.specs.Chains.{On}
 use Rattle.triple_arena_ord.specs.Ascending.{entries_along}
+use Rattle.triple_arena_ord.specs.Inserted.{IsAdded}
 use Rattle.triple_arena_ord.specs.Ordered.{Ordered, entry_in, order_in}
 use Rattle.ticket_book.specs.InArena.{standing_in}
 use Rattle.ticket_book.specs.Tickets.{Entry}
@@ -87,3 +88,16 @@ module _ {I : Type 0} (number : I → ℕ) (o : Ordered I Entry)
           let there = on i (rw is refl) in
           ap (found (entry_in o) i) there.is ∙ found_on (entry_in o) there.front i there.back e is
           ∙ sym (ap (option_map (λ (e : ℕ × Entry). e.1)) is)
+
+-- the entries that stood still stand where there is one more
+pub added_stay : {I : Type 0} (number : I → ℕ) (old new : Ordered I Entry) (j g : ℕ) (t : Entry)
+    → IsAdded number j g t old new → (i : ℕ) (e : Entry)
+    → option_map (λ (x : ℕ × Entry). x.1) (entry_in old i) ≡ Some e
+    → option_map (λ (x : ℕ × Entry). x.1) (entry_in new i) ≡ Some e
+added_stay number old new j g t added i e stood = elim (eqb_tells i j) [
+  | inl same ↦ absurd (let no : ◌≡◌ {A = Option Entry} None (Some e) =
+      sym (ap (option_map (λ (x : ℕ × Entry). x.1)) (ap (entry_in old) same.1 ∙ added.vacant))
+      ∙ stood in cc)
+  | inr other ↦
+      ap (option_map (λ (x : ℕ × Entry). x.1)) (added.entries i ∙ rw other.0 refl) ∙ stood
+]

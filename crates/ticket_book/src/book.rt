@@ -1,6 +1,6 @@
 //! The book of living tickets.
-ghost use Rattle.std.specs.Prelude.{◌≡◌, ℕ, ◌+◌, ◌<◌, ◌≤◌, ◌↔◌, ◌⊎◌, ◌++◌, [], ◌∷◌, length, map};
-ghost use Rattle.std.specs.Prelude.{Some, None, IsTrue, IsOk, IsErrOf, IfOk, IfSome, IfNone};
+ghost use Rattle.std.specs.Prelude.{◌≡◌, ◌≢◌, ℕ, ◌+◌, ◌<◌, ◌≤◌, ◌↔◌, ◌⊎◌, ◌++◌, [], ◌∷◌, length};
+ghost use Rattle.std.specs.Prelude.{map, Some, None, IsTrue, IsOk, IsErrOf, IfOk, IfSome, IfNone};
 ghost use Rattle.std.specs.Prelude.{IsSome, ⊤};
 ghost use Rattle.std.specs.Option.{option_map};
 ghost use Rattle.rank_tree.specs.Comparisons.{most_comparisons};
@@ -205,6 +205,8 @@ impl<P: PtrCore, S: OrdSlots<P, Entry<P>>> TicketBook<P, S> {
     pub fn add(&mut self, ticket: u64, kind: Kind, at: P)
         requires above { AreBelow self.old.entries ticket }
         requires room { length self.old.entries < self.old.capacity }
+        ensures stay { (i : ℕ) (e : EntryView) → entry_at self.old i ≡ Some e
+            → entry_at self.new i ≡ Some e }
         ensures entries { self.new.entries ≡ self.old.entries ++ record {
           ticket = ticket;
           kind = kind;
@@ -214,6 +216,7 @@ impl<P: PtrCore, S: OrdSlots<P, Entry<P>>> TicketBook<P, S> {
         } ∷ [] }
         ensures capacity { self.new.capacity ≡ self.old.capacity }
     {
+        entries_stand_in_the_list::<P, Entry<P>>();
         the_list_has_as_many_entries_as_are_live::<P, Entry<P>>();
         // The list is as it must be.
         let _ = self.arena.len();
@@ -236,6 +239,8 @@ impl<P: PtrCore, S: OrdSlots<P, Entry<P>>> TicketBook<P, S> {
         ensures entry { entry_at self.old (P.Inx.number at) ≡ Some result }
         ensures found { lookup self.old.entries result.ticket ≡ Some result }
         ensures out { self.new.entries ≡ without_ticket result.ticket self.old.entries }
+        ensures stay { (i : ℕ) → i ≢ P.Inx.number at
+            → entry_at self.new i ≡ entry_at self.old i }
         ensures capacity { self.new.capacity ≡ self.old.capacity }
     {
         entries_stand_in_the_list::<P, Entry<P>>();

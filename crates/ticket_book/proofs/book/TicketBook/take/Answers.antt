@@ -3,7 +3,8 @@ use Rattle.triple_arena_ptr.specs.InvalidationOption.{value_of}
 use Rattle.triple_arena_chain.specs.Chains.{On}
 use Rattle.triple_arena_ord.specs.Ordered.{entry_in, order_in}
 use Rattle.ticket_book.specs.Tickets.{Entry, Tickets, entry_at, lookup, without_ticket}
-use Rattle.ticket_book.proofs.EndLemmas.{entry_taken, none_taken, rise_taken, taken_stood}
+use Rattle.ticket_book.proofs.EndLemmas.{entry_taken, none_taken, others_stand, rise_taken}
+use Rattle.ticket_book.proofs.EndLemmas.{taken_stood}
 use Rattle.ticket_book.proofs.StandingLemmas.{stands_there}
 use Rattle.ticket_book.proofs.TicketLemmas.{lookup_standing}
 use Rattle.ticket_book.proofs.book.TicketBook.take.Goals as goal
@@ -63,3 +64,21 @@ returns-clause-out g c =
     g.P.Gen.PtrGenCore.number value_of _ _ _ c.in-Some.taken (sym c.allow.ensures ∙ c.in-Some.is)
     c.remove_inx.ensures.value c.remove_inx.ensures.exact
     ∙ ap (λ (book : Tickets). without_ticket c.in-Some.taken.1.ticket book.entries) c.self.view_is
+
+pub returns-clause-stay : goal.returns-clause-stay
+returns-clause-stay g c i other =
+    let number = g.P.Inx.PtrInxCore.number in
+    let old = c.self.inside.arena in
+    let new = c.remove_inx.new.self in
+    let law = c.entries_stand_in_the_list.ensures in
+    let on : (j : ℕ) → IsSome (entry_in old j) → On (order_in number old) j =
+    λ j some. law old j c.len.ensures.formed.ordered some in
+    let on' : (j : ℕ) → IsSome (entry_in new j) → On (order_in number new) j =
+    λ j some. law new j c.remove_inx.ensures.formed.ordered some in
+    stands_there number new on' i
+    ∙ ap (option_map (λ (x : ℕ × Entry). x.1))
+    (others_stand number old new c.len.ensures.formed.ordered c.self.invariant
+    g.P.Gen.PtrGenCore.number value_of _ _ _ c.in-Some.taken (sym c.allow.ensures ∙ c.in-Some.is)
+    c.remove_inx.ensures.value c.remove_inx.ensures.exact i other)
+    ∙ sym (stands_there number old on i)
+    ∙ ap (λ (book : Tickets). entry_at book i) c.self.view_is
