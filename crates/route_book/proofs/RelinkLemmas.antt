@@ -1,6 +1,6 @@
 -- What `join`, `cut` and `swap` answer, and what they make of what ties a store's parts.
 use Rattle.std.proofs.Common.{◌≡◌, ◌≢◌, ◌↔◌, ◌∙◌, sym, ap, subst, refl, Bool, true, false, ◌||◌}
-use Rattle.std.proofs.Common.{◌==◌, ℕ, ◌≤◌, List, [], ◌∷◌, ◌++◌, length, Option, Some, None, IsSome}
+use Rattle.std.proofs.Common.{◌==◌, ℕ, List, [], ◌∷◌, ◌++◌, length, Option, Some, None, IsSome}
 use Rattle.std.proofs.Common.{true≢false, Result, Ok, Err, find, cond}
 use Rattle.std.specs.List.{list_any}
 use Rattle.std.specs.Option.{option_map, option_or, option_and_then}
@@ -86,14 +86,14 @@ none_of : {X : Type 0} (o : Option X) → (IsSome o → ⊥) → o ≡ None
 none_of None none = refl
 none_of (Some x) none = absurd (none refl)
 
--- a mirror still has room where the arena keeps its room
-pub roomy : {T : Type 0} (c c' : Content T) (m : ℕ) → c'.room ≡ c.room → arena_capacity c ≤ m
-    → arena_capacity c' ≤ m
-roomy c c' m same fits = subst (λ r. capacity r ≤ m) (sym same) fits
+-- a mirror still has the arena's room where that stays
+pub roomy : {T : Type 0} (c c' : Content T) (m : ℕ) → c'.room ≡ c.room → arena_capacity c ≡ m
+    → arena_capacity c' ≡ m
+roomy c c' m same fits = subst (λ r. capacity r ≡ m) (sym same) fits
 
 pub still_mirrored : {I T : Type 0} (c c' : Content (IndexLink I T)) (n : ℕ) → IsKept c c'
-    → arena_capacity c ≤ n → arena_capacity c' ≤ n
-still_mirrored c c' n kept fits = subst (λ r. capacity r ≤ n) (sym kept.room) fits
+    → arena_capacity c ≡ n → arena_capacity c' ≡ n
+still_mirrored c c' n kept fits = subst (λ r. capacity r ≡ n) (sym kept.room) fits
 
 -- ---- a stop that a ticket names
 

@@ -7,6 +7,7 @@ use Rattle.std.proofs.lemmas.Bool.Decides.{eqb_tells}
 use Rattle.triple_arena_ptr.specs.Generation.{next_wraps}
 use Rattle.triple_arena.specs.Changes.{IsRemoved as IsGoneFrom}
 use Rattle.triple_arena.specs.Content.{Content, entry_at, get, live_count, some_counter}
+use Rattle.triple_arena.specs.Content.{removed as removed_of}
 use Rattle.triple_arena.specs.Entries.{value_if}
 use Rattle.triple_arena_chain.specs.LinkShape.{IndexLink}
 use Rattle.triple_arena_chain.specs.Links.{values_in, valued, IsChained, IsTakenOut}
@@ -275,9 +276,9 @@ module _ {I : Type 0} (number : I → ℕ) (rooms : Rooms) (last : ℕ) (s : Sta
           (λ gone. mark_leaves number rooms last s places stops marks marks' book b i g w
           found_mark.1.0 final removed s' gone sound) laws
 
-      pub mark_ends : (s' : State) → s' ≡ after_removed s t
+      pub mark_ends : (s' : State) → s' ≡ after_removed s t → marks' ≡ removed_of final marks i
           → Ends final OfMark t (as_book s places stops marks) (as_book s' places stops marks')
-      mark_ends s' is = (
+      mark_ends s' is exact = (
         mark (state_mark f w),
         (
           found_mark.1.1,
@@ -286,6 +287,7 @@ module _ {I : Type 0} (number : I → ℕ) (rooms : Rooms) (last : ℕ) (s : Sta
             (
               record {
                 counter = some_same removed.counter;
+                exact = (i, exact);
                 room = removed.room;
                 others = subst (λ u. OthersStay (λ (x : MarkView). x.ticket) u (entry_at marks)
                     (entry_at marks')) mark_named

@@ -70,12 +70,12 @@ module _ (last : Option ℕ) (greatest : ℕ) (limit : Option ℕ) (total : ℕ)
       (λ beyond. not_beyond limit is_accepted.stacked n within
       ((same n).0 (subst (λ q. IsBeyond q.limit n) is beyond)))
 
--- a mirror has room for an arena whose stack is made for as many
+-- a mirror has the room of an arena whose stack is made for as many
 pub mirror_fits : {T U : Type 0} (c : Content T) (d : DirectContent U) (counter greatest : ℕ)
     (r q : Room) → c ≡ empty counter (room_of greatest r) → d ≡ no_pointers (room_of greatest q)
     → r ≡ q
-    → arena_capacity c ≤ mirror_capacity d
+    → arena_capacity c ≡ mirror_capacity d
 mirror_fits c d counter greatest r q one two same =
     let arena = ap arena_capacity one ∙ ap (λ (x : Room). capacity (room_of greatest x)) same in
     let mirror = ap mirror_capacity two in
-    omega (arith, arena, mirror)
+    arena ∙ sym mirror

@@ -46,9 +46,9 @@ module _ {I : Type 0} (number : I → ℕ) (rooms : Rooms) (last : ℕ) (s : Sta
       subst (λ l. IsBook number rooms l s' places' stops' marks' book') b.last_is
       (subst (λ r. IsBook number r s.last s' places' stops' marks' book') b.within.rooms_are b')
 
--- an arena whose room stays is within a mirror whose room stays
+-- an arena whose room stays has that of a mirror whose room stays
 pub fits_still : (room room' mirror mirror' : Room) → room' ≡ room → mirror' ≡ mirror
-    → capacity room ≤ capacity mirror → capacity room' ≤ capacity mirror'
+    → capacity room ≡ capacity mirror → capacity room' ≡ capacity mirror'
 fits_still room room' mirror mirror' same kept fits = rw (same, kept) fits
 
 -- renewed entries have their tickets and their kinds

@@ -3,7 +3,7 @@ use Rattle.std.specs.Prelude.{◌≡◌, ◌≢◌, ◌↔◌, ℕ, ◌+◌, ◌
 use Rattle.std.specs.Prelude.{Option, Some, IsSome, Result, Ok, Err, length}
 use Rattle.std.specs.List.{range_with_len}
 use Rattle.triple_arena_ptr.specs.Generation.{next_generation, next_wraps, second_generation}
-use Rattle.triple_arena.specs.Content.{entry_at, live_count}
+use Rattle.triple_arena.specs.Content.{entry_at, live_count, removed}
 use Rattle.triple_arena_chain.specs.CanonicalLayout.{IsLaidOut}
 use Rattle.triple_arena_chain.specs.Links.{ends_in, values_in}
 use Rattle.triple_arena_ord.specs.Ordered.{entry_in, order_in}
@@ -56,9 +56,10 @@ module _ {I : Type 0} where
     pub marks : new.marks ≡ old.marks
 
   -- the same of a mark. No reference is to a mark, so its arena's counter steps even if that starts
-  -- it again
+  -- it again, and its slot is the next to be taken
   pub record IsMarkEnded (last : Option ℕ) (t : ℕ) (old new : Book I) : Type 0 where
     pub counter : new.marks.counter ≡ next_generation last old.marks.counter
+    pub exact : (i : ℕ) × (new.marks ≡ removed last old.marks i)
     pub room : new.marks.room ≡ old.marks.room
     pub others : OthersStay (λ (v : MarkView). v.ticket) t (entry_at old.marks) (entry_at new.marks)
     pub places : new.places ≡ old.places

@@ -82,9 +82,9 @@ impl<P: PtrCore, B: BookBacking<P>> Model for RouteBook<P, B> {
       sound : IsSound b.held.state;
       counts : counts_short P.Gen.last ≡ false;
       room : b.place_room + b.stop_room + b.mark_room ≤ b.tickets.capacity;
-      place_mirror : arena_capacity b.places.chains ≤ mirror_capacity b.mirrors.places;
-      stop_mirror : arena_capacity b.stops ≤ mirror_capacity b.mirrors.stops;
-      mark_mirror : arena_capacity b.marks ≤ mirror_capacity b.mirrors.marks;
+      place_mirror : arena_capacity b.places.chains ≡ mirror_capacity b.mirrors.places;
+      stop_mirror : arena_capacity b.stops ≡ mirror_capacity b.mirrors.stops;
+      mark_mirror : arena_capacity b.marks ≡ mirror_capacity b.mirrors.marks;
     } };
 }
 

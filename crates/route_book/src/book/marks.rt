@@ -1,10 +1,12 @@
 //! Marks.
-ghost use Rattle.std.specs.Prelude.{◌≡◌};
+ghost use Rattle.std.specs.Prelude.{◌≡◌, IfOk};
 ghost use Rattle.rank_tree.specs.Comparisons.{most_comparisons};
+ghost use Rattle.triple_arena.specs.Content.{inserted};
 ghost use Rattle.route_lines.specs.Calls.{marked, after_mark};
 ghost use Rattle.route_lines.specs.Searches.{CountsWithin, living_count};
 ghost use Rattle.route_lines.specs.State.{is_full_of_marks};
 ghost use Rattle.route_book.specs.Book.{Changes};
+ghost use Rattle.route_book.specs.Item.{MarkView};
 
 use crate::backing::BookBacking;
 use crate::book::RouteBook;
@@ -33,6 +35,8 @@ impl<P: PtrCore, B: BookBacking<P>> RouteBook<P, B> {
         ensures changes { Changes (marked self.old.state place stop)
             (after_mark self.old.state place stop) result self.old self.new }
         ensures others { (self.new.places ≡ self.old.places) × (self.new.stops ≡ self.old.stops) }
+        ensures arena { IfOk result
+            (λ _. (m : MarkView) × (self.new.marks ≡ inserted self.old.marks m)) }
     {
         self.mark_counted(place, stop, &mut Counts::new())
     }
@@ -47,6 +51,8 @@ impl<P: PtrCore, B: BookBacking<P>> RouteBook<P, B> {
         ensures changes { Changes (marked self.old.state place stop)
             (after_mark self.old.state place stop) result self.old self.new }
         ensures others { (self.new.places ≡ self.old.places) × (self.new.stops ≡ self.old.stops) }
+        ensures arena { IfOk result
+            (λ _. (m : MarkView) × (self.new.marks ≡ inserted self.old.marks m)) }
         ensures counts { CountsWithin counts.old counts.new
             0 (most_comparisons (living_count self.old.state))
             (most_comparisons (living_count self.old.state)) }

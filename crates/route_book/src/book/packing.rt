@@ -1,5 +1,5 @@
 //! A pack: all items at the first indexes, and no dead reference.
-ghost use Rattle.std.specs.Prelude.{◌≡◌, ℕ, ◌≤◌};
+ghost use Rattle.std.specs.Prelude.{◌≡◌, ℕ};
 ghost use Rattle.triple_arena.specs.Content.{arena_capacity};
 ghost use Rattle.triple_arena.specs.DirectContent.{arena_capacity as mirror_capacity};
 ghost use Rattle.ticket_book.specs.Tickets.{entry_at};
@@ -66,9 +66,9 @@ pub(crate) fn pack_if<P: PtrCore, B: BookBacking<P>>(
 )
     requires book { IsBook P.Inx.number held.now.state.rooms held.now.state.last held.now.state
         places.old stops.old marks.old tickets.old.entries }
-    requires place_mirror { arena_capacity places.old.chains ≤ mirror_capacity mirrors.old.places }
-    requires stop_mirror { arena_capacity stops.old ≤ mirror_capacity mirrors.old.stops }
-    requires mark_mirror { arena_capacity marks.old ≤ mirror_capacity mirrors.old.marks }
+    requires place_mirror { arena_capacity places.old.chains ≡ mirror_capacity mirrors.old.places }
+    requires stop_mirror { arena_capacity stops.old ≡ mirror_capacity mirrors.old.stops }
+    requires mark_mirror { arena_capacity marks.old ≡ mirror_capacity mirrors.old.marks }
     ensures book { IsBook P.Inx.number held.now.state.rooms held.now.state.last held.now.state
         places.new stops.new marks.new tickets.new.entries }
     ensures ready { IsReady P.Inx.number P.Gen.last needed looks.old looks.new

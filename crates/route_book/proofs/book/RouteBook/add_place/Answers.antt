@@ -1,4 +1,4 @@
-use Rattle.std.proofs.Common.{◌≡◌, ◌∙◌, ◌++◌, ◌∷◌, [], ◌+◌, ◌<◌, ◌≤◌, ap, sym, subst, arith}
+use Rattle.std.proofs.Common.{◌≡◌, ◌∙◌, ◌++◌, ◌∷◌, [], ◌+◌, ◌<◌, ap, sym, subst, arith}
 use Rattle.triple_arena.specs.DirectContent.{arena_capacity as mirror_capacity}
 use Rattle.triple_arena_stack.specs.Room.{capacity}
 use Rattle.triple_arena_ord.specs.Found.{IsSimilar}
@@ -103,7 +103,7 @@ invariant_of-self g c =
       sound = subst IsSound (sym c.changed-self-inside.ensures) sound;
       counts = c.self.invariant.counts;
       room = omega (arith, room, more);
-      place_mirror = subst (λ r. capacity r ≤ mirror_capacity c.self.inside.mirrors.places)
+      place_mirror = subst (λ r. capacity r ≡ mirror_capacity c.self.inside.mirrors.places)
           (sym put.same_room) c.self.invariant.place_mirror;
       stop_mirror = c.self.invariant.stop_mirror;
       mark_mirror = c.self.invariant.mark_mirror;

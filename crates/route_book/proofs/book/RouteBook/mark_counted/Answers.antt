@@ -1,6 +1,9 @@
-use Rattle.std.proofs.Common.{rules, sym, subst, arith}
+use Rattle.std.proofs.Common.{rules, ◌≡◌, sym, subst, arith}
+use Rattle.triple_arena.specs.Content.{inserted}
 use Rattle.route_lines.specs.Sound.{IsSound}
 use Rattle.route_lines.specs.declared.change.Change.TheVariants.{Mark}
+use Rattle.route_book.specs.Book.{Book}
+use Rattle.route_book.specs.Item.{MarkView}
 use Rattle.route_book.proofs.ExtendLemmas.{next_above}
 use Rattle.route_book.proofs.NewItemLemmas.{mark_leaves, mark_keeps}
 use Rattle.route_book.proofs.OptionLemmas.{some_same}
@@ -35,6 +38,12 @@ invariant_of-self g c =
       mark_mirror = roomy c.self.inside.marks c.insert_within_capacity.new.self _
           c.in-Ok.ensures.room c.self.invariant.mark_mirror;
     }
+
+pub returns-clause-arena : goal.returns-clause-arena
+returns-clause-arena g c =
+    subst (λ (b : Book g.row.P-Inx.Denot). (m : MarkView)
+    × (c.insert_within_capacity.new.self ≡ inserted b.marks m))
+    c.self.view_is (c.new-mark.result, c.in-Ok.ensures.exact)
 
 pub returns-clause-changes : goal.returns-clause-changes
 returns-clause-changes g c =

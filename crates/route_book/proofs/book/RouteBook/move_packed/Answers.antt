@@ -72,11 +72,11 @@ invariant_of-moved g c =
           (fit_p, (fit_s, fit_m)) c.self.invariant.sound);
       counts = c.moved.invariant.counts;
       room = omega (arith, room, same);
-      place_mirror = subst (λ r. capacity r ≤ capacity moved.mirrors.places.room) (sym places.room)
+      place_mirror = subst (λ r. capacity r ≡ capacity moved.mirrors.places.room) (sym places.room)
           c.moved.invariant.place_mirror;
-      stop_mirror = subst (λ r. capacity r ≤ capacity moved.mirrors.stops.room) (sym stops.room)
+      stop_mirror = subst (λ r. capacity r ≡ capacity moved.mirrors.stops.room) (sym stops.room)
           c.moved.invariant.stop_mirror;
-      mark_mirror = subst (λ r. capacity r ≤ capacity moved.mirrors.marks.room) (sym marks.room)
+      mark_mirror = subst (λ r. capacity r ≡ capacity moved.mirrors.marks.room) (sym marks.room)
           c.moved.invariant.mark_mirror;
     }
 

@@ -1,4 +1,4 @@
-use Rattle.std.proofs.Common.{rules, ◌≡◌, ◌∙◌, ◌≤◌, ap, sym, subst, Ok, Some}
+use Rattle.std.proofs.Common.{rules, ◌≡◌, ◌∙◌, ap, sym, subst, Ok, Some}
 use Rattle.triple_arena.specs.DirectContent.{arena_capacity as mirror_capacity}
 use Rattle.triple_arena.specs.Entries.{value_if}
 use Rattle.triple_arena_stack.specs.Room.{capacity}
@@ -47,7 +47,7 @@ invariant_of-self g c =
       sound = subst IsSound (sym c.changed-self-inside.ensures) sound;
       counts = c.self.invariant.counts;
       room = room;
-      place_mirror = subst (λ r. capacity r ≤ mirror_capacity c.self.inside.mirrors.places)
+      place_mirror = subst (λ r. capacity r ≡ mirror_capacity c.self.inside.mirrors.places)
           (sym replaced.kept.room) c.self.invariant.place_mirror;
       stop_mirror = c.self.invariant.stop_mirror;
       mark_mirror = c.self.invariant.mark_mirror;

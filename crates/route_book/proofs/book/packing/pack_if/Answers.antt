@@ -1,4 +1,4 @@
-use Rattle.std.proofs.Common.{◌∙◌, sym, subst, refl}
+use Rattle.std.proofs.Common.{◌∙◌, sym, subst, refl, arith}
 use Rattle.triple_arena_chain.specs.CanonicalLayout.{IsLaidOut}
 use Rattle.triple_arena_chain.specs.Links.{ends_in}
 use Rattle.triple_arena_chain.specs.CanonicalLayoutLaws.{laid_same}
@@ -14,19 +14,19 @@ pub mirror_places-requires : goal.mirror_places-requires
 mirror_places-requires g c =
     ready_places g.P.Inx.PtrInxCore.number g.P.Gen.PtrGenCore.last _ _ _ _ _ _ _ _ _ _
     c.requires.book c.compress_all.ensures c.entries_stand_in_the_list.ensures _ refl _
-    c.requires.place_mirror
+    (let same = c.requires.place_mirror in omega (arith, same))
 
 pub mirror_stops-requires : goal.mirror_stops-requires
 mirror_stops-requires g c =
     ready_stops g.P.Inx.PtrInxCore.number g.P.Gen.PtrGenCore.last _ _ _ _ _ _ _ _ _ _
     c.requires.book c.compress_all.ensures c.entries_stand_in_the_list.ensures _ refl _
-    c.requires.stop_mirror
+    (let same = c.requires.stop_mirror in omega (arith, same))
 
 pub mirror_marks-requires : goal.mirror_marks-requires
 mirror_marks-requires g c =
     ready_marks g.P.Inx.PtrInxCore.number g.P.Gen.PtrGenCore.last _ _ _ _ _ _ _ _ _ _
     c.requires.book c.compress_all.ensures c.entries_stand_in_the_list.ensures _ refl _
-    c.requires.mark_mirror
+    (let same = c.requires.mark_mirror in omega (arith, same))
 
 pub returns-clause-ready : goal.returns-clause-ready
 returns-clause-ready g c = rw c.if-not-needed.false (record {

@@ -195,7 +195,8 @@ returns-in-Mark-clause-ends g c =
     c.remove-in-Mark.ensures.removed in
     ends_of last _ e c.take-entry.ensures.entry _ _ _ kind
     (mark_ends _ _ _ _ _ _ _ _ c.requires.book e found _ _ index generation kind
-    c.remove-in-Mark.new.self _ removed _ now)
+    c.remove-in-Mark.new.self _ removed _ now
+    (told _ _ _ _ (c.remove-in-Mark.ensures.value ∙ it.1.0) c.remove-in-Mark.ensures.exact))
 
 pub returns-in-Mark-clause-rooms : goal.returns-in-Mark-clause-rooms
 returns-in-Mark-clause-rooms g c =
