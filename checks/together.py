@@ -176,9 +176,10 @@ def attempt(crate, batch):
     told = [it for it in told if "not proved" in it[2] or it[2].startswith("error")]
     is_read = any(it.startswith("logic=not-proved") for it in lines)
     if len(batch) == 1:
-        if is_read and told:
-            return [tell(batch[0], *verdict(told))]
-        return [tell(batch[0], "NO VERDICT", next((it for it in lines if "error" in it), ""))]
+        if is_read:
+            return [tell(batch[0], *(verdict(told) if told else ["refused with no goal told"]))]
+        why = next((it for it in lines if ": error" in it), lines[-1])
+        return [tell(batch[0], "NO VERDICT", why)]
     ends = []
     for edit in batch:
         own = [

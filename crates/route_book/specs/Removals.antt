@@ -56,7 +56,7 @@ module _ {I : Type 0} where
     pub marks : new.marks ≡ old.marks
 
   -- the same of a mark. No reference is to a mark, so its arena's counter steps even if that starts
-  -- it again, and its slot is the next to be taken
+  -- it again; its arena is exactly what one removal leaves
   pub record IsMarkEnded (last : Option ℕ) (t : ℕ) (old new : Book I) : Type 0 where
     pub counter : new.marks.counter ≡ next_generation last old.marks.counter
     pub exact : (i : ℕ) × (new.marks ≡ removed last old.marks i)

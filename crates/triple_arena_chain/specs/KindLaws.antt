@@ -18,7 +18,7 @@ use Rattle.triple_arena_chain.specs.Lists.{IsPutIn, IsOwnRing}
 use Rattle.triple_arena_chain.specs.declared.gap.Gap.{Gap}
 use Rattle.triple_arena_chain.specs.declared.gap.Gap.TheVariants.{Between}
 
--- the places that are asked for, where the links are as they have to be
+-- the gaps that are asked for, where the links are as they have to be
 end_gap : (i : ℕ) (o : Option Ends) → IsSome (at_end i o)
     → at_end i o ≡ Some (Between (Some i) None)
 end_gap i None there = absurd (true≢false (sym there))
