@@ -177,7 +177,7 @@ module _ {P I T : Type 0} (index generation : P → ℕ) (number : I → ℕ)
     (chained : IsChained number c) (formed : IsChained number d) where
   pub restored_after : IsSome (gap_among index generation number c (NextTo p))
       → IfSome (gap_among index generation number c (NextTo p))
-      (λ gap. IsLinkInserted number gap i g t c d) → IsTakenOut number last i d f
+      (λ place. IsLinkInserted number place i g t c d) → IsTakenOut number last i d f
       → (k : ℕ) → (ends_in number f k ≡ ends_in number c k) × (values_in f k ≡ values_in c k)
   restored_after there placed taken k =
       by (ends_found number c (index p) (generation p))
@@ -185,7 +185,7 @@ module _ {P I T : Type 0} (index generation : P → ℕ) (number : I → ℕ)
     where
       by : (o : Option Ends) → ((v : Ends) → o ≡ Some v → ends_in number c (index p) ≡ Some v)
           → IsSome (after_link (index p) o)
-          → IfSome (after_link (index p) o) (λ gap. IsLinkInserted number gap i g t c d)
+          → IfSome (after_link (index p) o) (λ place. IsLinkInserted number place i g t c d)
           → (ends_in number f k ≡ ends_in number c k) × (values_in f k ≡ values_in c k)
       by None at there placed = absurd (let no : false ≡ true = there in cc)
       by (Some v) at there placed =
@@ -201,7 +201,7 @@ module _ {P I T : Type 0} (index generation : P → ℕ) (number : I → ℕ)
 
   pub restored_before : IsSome (gap_among index generation number c (PrevTo p))
       → IfSome (gap_among index generation number c (PrevTo p))
-      (λ gap. IsLinkInserted number gap i g t c d) → IsTakenOut number last i d f
+      (λ place. IsLinkInserted number place i g t c d) → IsTakenOut number last i d f
       → (k : ℕ) → (ends_in number f k ≡ ends_in number c k) × (values_in f k ≡ values_in c k)
   restored_before there placed taken k =
       by (ends_found number c (index p) (generation p))
@@ -209,7 +209,7 @@ module _ {P I T : Type 0} (index generation : P → ℕ) (number : I → ℕ)
     where
       by : (o : Option Ends) → ((v : Ends) → o ≡ Some v → ends_in number c (index p) ≡ Some v)
           → IsSome (before_link (index p) o)
-          → IfSome (before_link (index p) o) (λ gap. IsLinkInserted number gap i g t c d)
+          → IfSome (before_link (index p) o) (λ place. IsLinkInserted number place i g t c d)
           → (ends_in number f k ≡ ends_in number c k) × (values_in f k ≡ values_in c k)
       by None at there placed = absurd (let no : false ≡ true = there in cc)
       by (Some v) at there placed =
