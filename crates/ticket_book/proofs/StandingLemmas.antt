@@ -3,12 +3,12 @@ use Rattle.std.proofs.Common.{◌≡◌, ◌==◌, ◌∙◌, sym, ap, subst, re
 use Rattle.std.proofs.Common.{◌++◌, find, map, Option, Some, None, IsSome, option_map, inl, inr}
 use Rattle.std.proofs.lemmas.Bool.{eq-eqb, ne_eqb}
 use Rattle.std.proofs.lemmas.Bool.Decides.{eqb_tells}
-use Rattle.triple_arena_chain.specs.Chains.{On}
 use Rattle.triple_arena_ord.specs.Ascending.{entries_along}
 use Rattle.triple_arena_ord.specs.Inserted.{IsAdded}
-use Rattle.triple_arena_ord.specs.Ordered.{Ordered, entry_in, order_in}
+use Rattle.triple_arena_ord.specs.Ordered.{Ordered, IsOrdered, entry_in, order_in}
 use Rattle.ticket_book.specs.InArena.{standing_in}
 use Rattle.ticket_book.specs.Tickets.{Entry}
+use Rattle.ticket_book.proofs.TicketLemmas.{AllStand}
 
 module _ (at : ℕ → Option (ℕ × Entry)) where
   abbrev standing : List ℕ → List (ℕ × Entry)
@@ -71,13 +71,12 @@ pub stands_renewed : (f : Entry → Entry) (old new : Option (ℕ × Entry))
 stands_renewed f None new is = ap (option_map (λ (e : ℕ × Entry). e.1)) is
 stands_renewed f (Some e) new is = ap (option_map (λ (e : ℕ × Entry). e.1)) is
 
-module _ {I : Type 0} (number : I → ℕ) (o : Ordered I Entry)
-    (on : (i : ℕ) → IsSome (entry_in o i) → On (order_in number o) i) where
-  pub stands_there : (i : ℕ)
+module _ {I : Type 0} (number : I → ℕ) (law : AllStand number) where
+  pub stands_there : (o : Ordered I Entry) → IsOrdered number o → (i : ℕ)
       → option_map (λ (x : ℕ × Entry). x.1)
       (find (λ (x : ℕ × Entry). x.0 == i) (standing_in number o))
       ≡ option_map (λ (e : ℕ × Entry). e.1) (entry_in o i)
-  stands_there i = by (entry_in o i) refl
+  stands_there o ordered i = by (entry_in o i) refl
     where
       by : (e : Option (ℕ × Entry)) → entry_in o i ≡ e
           → found (entry_in o) i (order_in number o)
@@ -85,19 +84,27 @@ module _ {I : Type 0} (number : I → ℕ) (o : Ordered I Entry)
       by None is = found_nowhere (entry_in o) i (order_in number o) is
           ∙ sym (ap (option_map (λ (e : ℕ × Entry). e.1)) is)
       by (Some e) is =
-          let there = on i (rw is refl) in
+          let there = law o i ordered (rw is refl) in
           ap (found (entry_in o) i) there.is ∙ found_on (entry_in o) there.front i there.back e is
           ∙ sym (ap (option_map (λ (e : ℕ × Entry). e.1)) is)
 
--- the entries that stood still stand where there is one more
-pub added_stay : {I : Type 0} (number : I → ℕ) (old new : Ordered I Entry) (j g : ℕ) (t : Entry)
-    → IsAdded number j g t old new → (i : ℕ) (e : Entry)
-    → option_map (λ (x : ℕ × Entry). x.1) (entry_in old i) ≡ Some e
-    → option_map (λ (x : ℕ × Entry). x.1) (entry_in new i) ≡ Some e
-added_stay number old new j g t added i e stood = elim (eqb_tells i j) [
-  | inl same ↦ absurd (let no : ◌≡◌ {A = Option Entry} None (Some e) =
-      sym (ap (option_map (λ (x : ℕ × Entry). x.1)) (ap (entry_in old) same.1 ∙ added.vacant))
-      ∙ stood in cc)
-  | inr other ↦
-      ap (option_map (λ (x : ℕ × Entry). x.1)) (added.entries i ∙ rw other.0 refl) ∙ stood
-]
+  -- the entries that stood still stand if there is one more
+  pub still_stand : (old new : Ordered I Entry) (j g : ℕ) (t : Entry)
+      → IsOrdered number old → IsOrdered number new → IsAdded number j g t old new
+      → (i : ℕ) (e : Entry)
+      → option_map (λ (x : ℕ × Entry). x.1)
+      (find (λ (x : ℕ × Entry). x.0 == i) (standing_in number old)) ≡ Some e
+      → option_map (λ (x : ℕ × Entry). x.1)
+      (find (λ (x : ℕ × Entry). x.0 == i) (standing_in number new)) ≡ Some e
+  still_stand old new j g t ordered ordered' added i e stood =
+      let there : option_map (λ (x : ℕ × Entry). x.1) (entry_in old i) ≡ Some e =
+      sym (stands_there old ordered i) ∙ stood in
+      let now : option_map (λ (x : ℕ × Entry). x.1) (entry_in new i) ≡ Some e =
+      elim (eqb_tells i j) [
+        | inl same ↦ absurd (let no : ◌≡◌ {A = Option Entry} None (Some e) =
+            sym (ap (option_map (λ (x : ℕ × Entry). x.1))
+            (ap (entry_in old) same.1 ∙ added.vacant)) ∙ there in cc)
+        | inr other ↦
+            ap (option_map (λ (x : ℕ × Entry). x.1)) (added.entries i ∙ rw other.0 refl) ∙ there
+      ] in
+      stands_there new ordered' i ∙ now

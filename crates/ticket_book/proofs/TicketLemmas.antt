@@ -157,6 +157,11 @@ module _ (ends : ℕ → Option Ends) where
       ended [] stands last = last_stands None h after h stands last
       ended (x ∷ xs) stands last = last_stands None x (xs ++ h ∷ after) h stands last
 
+-- each live index of an ordered arena is in its list
+abbrev pub AllStand : {I : Type 0} → (I → ℕ) → Type 0
+AllStand {I = I} number = (o : Ordered I Entry) (i : ℕ) → IsOrdered number o
+    → IsSome (entry_in o i) → On (order_in number o) i
+
 module _ {I : Type 0} (number : I → ℕ) where
   -- each index of the list is live
   live_along : (o : Ordered I Entry) (b : Option ℕ) (w : List ℕ)
@@ -173,13 +178,12 @@ module _ {I : Type 0} (number : I → ℕ) where
       live (Some c) is ends = rw is refl
 
   -- an entry of the arena is found under its ticket
-  pub lookup_standing : (o : Ordered I Entry) (i : ℕ) (e : ℕ × Entry)
-      → TicketsRise (entries_of number o)
-      → ((k : ℕ) → IsSome (entry_in o k) → On (order_in number o) k) → entry_in o i ≡ Some e
+  pub lookup_standing : AllStand number → (o : Ordered I Entry) (i : ℕ) (e : ℕ × Entry)
+      → IsOrdered number o → TicketsRise (entries_of number o) → entry_in o i ≡ Some e
       → lookup (entries_of number o) e.1.ticket ≡ Some e.1
-  lookup_standing o i e rise on is =
+  lookup_standing law o i e ordered rise is =
       let at = entry_in o in
-      let there = on i (rw is refl) in
+      let there = law o i ordered (rw is refl) in
       let split : entries_of number o ≡ along at there.front ++ e.1 ∷ along at there.back =
       ap (along at) there.is ∙ along-append at there.front (i ∷ there.back)
       ∙ ap (λ l. along at there.front ++ l) (along_some at i there.back e is) in
@@ -187,13 +191,13 @@ module _ {I : Type 0} (number : I → ℕ) where
       ∙ lookup_at (along at there.front) (along at there.back) e.1 (subst TicketsRise split rise)
 
   -- a search that found an entry
-  pub lookup_found : {P : Type 0} (index generation : P → ℕ) (o : Ordered I Entry) (t : ℕ) (p : P)
-      → TicketsRise (entries_of number o)
-      → ((i : ℕ) → IsSome (entry_in o i) → On (order_in number o) i)
+  pub lookup_found : AllStand number → {P : Type 0} (index generation : P → ℕ)
+      (o : Ordered I Entry) (t : ℕ) (p : P)
+      → IsOrdered number o → TicketsRise (entries_of number o)
       → Answers index generation (asked_at nat_cmp (λ (e : Entry). e.ticket) t o) o p Equal
       → (e : Entry) × ((option_map (λ (x : ℕ × Entry). x.1) (entry_in o (index p)) ≡ Some e)
       × (lookup (entries_of number o) t ≡ Some e))
-  lookup_found index generation o t p rise on answers =
+  lookup_found law index generation o t p ordered rise answers =
       by (entry_in o (index p)) refl answers.live answers.way
     where
       at : ℕ → Option (ℕ × Entry)
@@ -213,7 +217,8 @@ module _ {I : Type 0} (number : I → ℕ) where
             e.1,
             (
               ap (option_map (λ (x : ℕ × Entry). x.1)) is,
-              ap (lookup (entries_of number o)) same ∙ lookup_standing o (index p) e rise on is,
+              ap (lookup (entries_of number o)) same
+                  ∙ lookup_standing law o (index p) e ordered rise is,
             ),
           )
 

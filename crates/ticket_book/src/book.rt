@@ -102,7 +102,7 @@ impl<P: PtrCore, S: OrdSlots<P, Entry<P>>> TicketBook<P, S> {
 
     // The entry that is looked at before a search, with its index, which has the ticket's own
     // number.
-    fn first(&self, ticket: u64) -> Option<(P::Inx, &Entry<P>)>
+    fn looked_at(&self, ticket: u64) -> Option<(P::Inx, &Entry<P>)>
         ensures entry { option_map (λ x. x.1.now) result ≡ looked_at self.now ticket }
         ensures index { IfSome result (λ x. P.Inx.number x.0 ≡ ticket) }
         ensures found { IfSome result (λ x. lookup self.now.entries x.1.now.ticket ≡ Some x.1.now) }
@@ -139,7 +139,7 @@ impl<P: PtrCore, S: OrdSlots<P, Entry<P>>> TicketBook<P, S> {
             → asked_among self.now.asked_below self.now.entries self.now.asked_along ticket + 1
             ≤ most_comparisons (length self.now.entries) }
     {
-        match self.first(ticket) {
+        match self.looked_at(ticket) {
             Some(looked) => {
                 probes.tick();
                 if looked.1.ticket() == ticket {

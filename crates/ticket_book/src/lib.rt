@@ -7,6 +7,9 @@
 //! mirror, which has it under the old one.
 #![tactic(auto)]
 
+// The clause `no_more` asks nothing. It stands beside a `requires` that callers answer by hand,
+// which alone takes long to state.
+
 mod book;
 mod entry;
 mod moving;

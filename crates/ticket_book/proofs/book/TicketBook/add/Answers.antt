@@ -1,10 +1,8 @@
-use Rattle.std.proofs.Common.{◌∙◌, ◌++◌, ◌∷◌, ◌<◌, [], ap, sym, subst, option_map, Some, IsSome, ℕ}
+use Rattle.std.proofs.Common.{◌∙◌, ◌++◌, ◌∷◌, ◌<◌, [], ap, sym, subst, option_map, Some}
 use Rattle.std.specs.List.{AllByRecursion}
-use Rattle.triple_arena_chain.specs.Chains.{On}
-use Rattle.triple_arena_ord.specs.Ordered.{entry_in, order_in}
 use Rattle.ticket_book.specs.InArena.{entries_of}
 use Rattle.ticket_book.specs.Tickets.{Entry, Tickets, TicketsRise, entry_at}
-use Rattle.ticket_book.proofs.StandingLemmas.{added_stay, stands_there}
+use Rattle.ticket_book.proofs.StandingLemmas.{still_stand}
 use Rattle.ticket_book.proofs.TicketLemmas.{TicketsRise-added, added_behind}
 use Rattle.ticket_book.proofs.book.TicketBook.add.Goals as goal
 
@@ -44,32 +42,14 @@ returns-in-Some-clause-entries g c =
 
 pub returns-in-Some-clause-stay : goal.returns-in-Some-clause-stay
 returns-in-Some-clause-stay g c i e stood =
-    let number = g.P.Inx.PtrInxCore.number in
-    let old = c.self.inside.arena in
     let put = c.insert_inx_manual_within_capacity in
-    let new = put.new.self in
-    let law = c.entries_stand_in_the_list.ensures in
-    let on : (j : ℕ) → IsSome (entry_in old j) → On (order_in number old) j =
-    λ j some. law old j c.len.ensures.formed.ordered some in
-    let on' : (j : ℕ) → IsSome (entry_in new j) → On (order_in number new) j =
-    λ j some. law new j put.ensures.ordered some in
-    stands_there number new on' i
-    ∙ added_stay number old new _ _ _ put.ensures.added i e
-    (sym (stands_there number old on i) ∙ ap (λ (book : Tickets). entry_at book i) c.self.view_is
-    ∙ stood)
+    still_stand g.P.Inx.PtrInxCore.number c.entries_stand_in_the_list.ensures c.self.inside.arena
+    put.new.self _ _ _ c.len.ensures.formed.ordered put.ensures.ordered put.ensures.added i e
+    (ap (λ (book : Tickets). entry_at book i) c.self.view_is ∙ stood)
 
 pub returns-in-None-clause-stay : goal.returns-in-None-clause-stay
 returns-in-None-clause-stay g c i e stood =
-    let number = g.P.Inx.PtrInxCore.number in
-    let old = c.self.inside.arena in
     let put = c.insert_inx_manual_within_capacity-in-None in
-    let new = put.new.self in
-    let law = c.entries_stand_in_the_list.ensures in
-    let on : (j : ℕ) → IsSome (entry_in old j) → On (order_in number old) j =
-    λ j some. law old j c.len.ensures.formed.ordered some in
-    let on' : (j : ℕ) → IsSome (entry_in new j) → On (order_in number new) j =
-    λ j some. law new j put.ensures.ordered some in
-    stands_there number new on' i
-    ∙ added_stay number old new _ _ _ put.ensures.added i e
-    (sym (stands_there number old on i) ∙ ap (λ (book : Tickets). entry_at book i) c.self.view_is
-    ∙ stood)
+    still_stand g.P.Inx.PtrInxCore.number c.entries_stand_in_the_list.ensures c.self.inside.arena
+    put.new.self _ _ _ c.len.ensures.formed.ordered put.ensures.ordered put.ensures.added i e
+    (ap (λ (book : Tickets). entry_at book i) c.self.view_is ∙ stood)

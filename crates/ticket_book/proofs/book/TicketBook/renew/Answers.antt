@@ -1,5 +1,4 @@
-use Rattle.std.proofs.Common.{◌∙◌, ap, sym, subst, refl, ℕ, IsSome, map, option_map}
-use Rattle.triple_arena_chain.specs.Chains.{On}
+use Rattle.std.proofs.Common.{◌∙◌, ap, sym, subst, refl, map, option_map}
 use Rattle.triple_arena_ord.specs.Ordered.{entry_in, order_in}
 use Rattle.ticket_book.specs.Mirrors.{numbers, renewed_entry}
 use Rattle.ticket_book.specs.Tickets.{Tickets, TicketsRise, entry_at}
@@ -34,13 +33,10 @@ returns-clause-stands g c =
     (numbers g.P.PtrCore.index g.P.PtrCore.generation (g.O.ArenaTrait.entry_at c.args.marks.now)) in
     let old = c.self.inside.arena in
     let new = c.renew_entries.new.arena in
-    let on_old : (i : ℕ) → IsSome (entry_in old i) → On (order_in number old) i =
-    λ i some. c.entries_stand_in_the_list.ensures old i c.len.ensures.formed.ordered some in
-    let on_new : (i : ℕ) → IsSome (entry_in new i) → On (order_in number new) i =
-    λ i some. c.entries_stand_in_the_list.ensures new i c.len-2.ensures.formed.ordered some in
-    λ i. stands_there number new on_new i
+    let law = c.entries_stand_in_the_list.ensures in
+    λ i. stands_there number law new c.len-2.ensures.formed.ordered i
     ∙ stands_renewed f (entry_in old i) (entry_in new i) (c.renew_entries.ensures.entries i)
-    ∙ ap (option_map f) (sym (stands_there number old on_old i))
+    ∙ ap (option_map f) (sym (stands_there number law old c.len.ensures.formed.ordered i))
     ∙ ap (λ (b : Tickets). option_map f (entry_at b i)) c.self.view_is
 
 pub returns-clause-entries : goal.returns-clause-entries

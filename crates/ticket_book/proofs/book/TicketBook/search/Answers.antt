@@ -1,7 +1,6 @@
-use Rattle.std.proofs.Common.{◌∙◌, ◌+◌, ◌≤◌, ap, sym, subst, refl, ℕ, length, IsSome, option_map}
+use Rattle.std.proofs.Common.{◌∙◌, ◌+◌, ◌≤◌, ap, sym, subst, refl, ℕ, length, option_map}
 use Rattle.rank_tree.specs.Comparisons.{most_comparisons}
-use Rattle.triple_arena_chain.specs.Chains.{On}
-use Rattle.triple_arena_ord.specs.Ordered.{entry_in, order_in}
+use Rattle.triple_arena_ord.specs.Ordered.{entry_in}
 use Rattle.ticket_book.specs.Tickets.{Entry, Tickets, asked_among, entry_at, lookup}
 use Rattle.ticket_book.proofs.AskedLemmas.{asked_there, asked_within}
 use Rattle.ticket_book.proofs.StandingLemmas.{stands_there}
@@ -11,14 +10,12 @@ use Rattle.ticket_book.proofs.book.TicketBook.search.Goals as goal
 pub returns-in-Some-clause-found : goal.returns-in-Some-clause-found
 returns-in-Some-clause-found g c =
     let number = g.P.Inx.PtrInxCore.number in
-    let on : (i : ℕ) → IsSome (entry_in c.self.inside.arena i)
-    → On (order_in number c.self.inside.arena) i =
-    λ i some. c.entries_stand_in_the_list.ensures c.self.inside.arena i c.len.ensures.formed.ordered
-    some in
-    let there = lookup_found number g.P.PtrCore.index g.P.PtrCore.generation c.self.inside.arena
-    c.args.ticket c.in-Some.p c.self.invariant on (c.in-Some.ensures.found.some c.in-Some.p refl) in
+    let there = lookup_found number c.entries_stand_in_the_list.ensures g.P.PtrCore.index
+    g.P.PtrCore.generation c.self.inside.arena c.args.ticket c.in-Some.p
+    c.len.ensures.formed.ordered c.self.invariant (c.in-Some.ensures.found.some c.in-Some.p refl) in
     let stands = ap (λ (book : Tickets). entry_at book (number c.inx.result)) (sym c.self.view_is)
-    ∙ stands_there number c.self.inside.arena on (number c.inx.result)
+    ∙ stands_there number c.entries_stand_in_the_list.ensures c.self.inside.arena
+    c.len.ensures.formed.ordered (number c.inx.result)
     ∙ ap (option_map (λ (x : ℕ × Entry). x.1)) (ap (entry_in c.self.inside.arena) c.inx.ensures)
     ∙ there.1.0 in
     let known = ap (λ (book : Tickets). lookup book.entries c.args.ticket) (sym c.self.view_is)

@@ -1,7 +1,5 @@
 use Rattle.std.proofs.Common.{◌∙◌, ap, sym, subst, ℕ, IsSome, option_map}
 use Rattle.triple_arena_ptr.specs.InvalidationOption.{value_of}
-use Rattle.triple_arena_chain.specs.Chains.{On}
-use Rattle.triple_arena_ord.specs.Ordered.{entry_in, order_in}
 use Rattle.ticket_book.specs.Tickets.{Entry, Tickets, entry_at, lookup, without_ticket}
 use Rattle.ticket_book.proofs.EndLemmas.{entry_taken, none_taken, others_stand, rise_taken}
 use Rattle.ticket_book.proofs.EndLemmas.{taken_stood}
@@ -19,12 +17,9 @@ invariant_of-self g c =
 pub returns-clause-entry : goal.returns-clause-entry
 returns-clause-entry g c =
     let number = g.P.Inx.PtrInxCore.number in
-    let on : (i : ℕ) → IsSome (entry_in c.self.inside.arena i)
-    → On (order_in number c.self.inside.arena) i =
-    λ i some. c.entries_stand_in_the_list.ensures c.self.inside.arena i c.len.ensures.formed.ordered
-    some in
     ap (λ (book : Tickets). entry_at book (number c.args.at)) (sym c.self.view_is)
-    ∙ stands_there number c.self.inside.arena on (number c.args.at)
+    ∙ stands_there number c.entries_stand_in_the_list.ensures c.self.inside.arena
+    c.len.ensures.formed.ordered (number c.args.at)
     ∙ ap (option_map (λ (x : ℕ × Entry). x.1))
     (taken_stood number c.self.inside.arena c.remove_inx.new.self c.len.ensures.formed.ordered
     c.self.invariant
@@ -34,24 +29,18 @@ returns-clause-entry g c =
 pub unreached-unreachable-requires : goal.unreached-unreachable-requires
 unreached-unreachable-requires g c =
     let number = g.P.Inx.PtrInxCore.number in
-    let on : (i : ℕ) → IsSome (entry_in c.self.inside.arena i)
-    → On (order_in number c.self.inside.arena) i =
-    λ i some. c.entries_stand_in_the_list.ensures c.self.inside.arena i c.len.ensures.formed.ordered
-    some in
     let there = ap (λ (book : Tickets). entry_at book (number c.args.at)) (sym c.self.view_is)
-    ∙ stands_there number c.self.inside.arena on (number c.args.at) in
+    ∙ stands_there number c.entries_stand_in_the_list.ensures c.self.inside.arena
+    c.len.ensures.formed.ordered (number c.args.at) in
     none_taken value_of (λ a. (g.P.Gen.PtrGenCore.number (value_of a).0, (value_of a).1)) _ _
     (sym c.allow.ensures ∙ c.in-None.is) c.remove_inx.ensures.value
     (subst IsSome there c.requires.stands)
 
 pub returns-clause-found : goal.returns-clause-found
 returns-clause-found g c =
-    let on : (i : ℕ) → IsSome (entry_in c.self.inside.arena i)
-    → On (order_in g.P.Inx.PtrInxCore.number c.self.inside.arena) i =
-    λ i some. c.entries_stand_in_the_list.ensures c.self.inside.arena i c.len.ensures.formed.ordered
-    some in
     ap (λ (book : Tickets). lookup book.entries c.in-Some.taken.1.ticket) (sym c.self.view_is)
-    ∙ lookup_standing g.P.Inx.PtrInxCore.number c.self.inside.arena _ _ c.self.invariant on
+    ∙ lookup_standing g.P.Inx.PtrInxCore.number c.entries_stand_in_the_list.ensures
+    c.self.inside.arena _ _ c.len.ensures.formed.ordered c.self.invariant
     (taken_stood g.P.Inx.PtrInxCore.number c.self.inside.arena c.remove_inx.new.self
     c.len.ensures.formed.ordered c.self.invariant
     g.P.Gen.PtrGenCore.number value_of _ _ _ c.in-Some.taken (sym c.allow.ensures ∙ c.in-Some.is)
@@ -68,17 +57,13 @@ returns-clause-out g c =
 pub returns-clause-stay : goal.returns-clause-stay
 returns-clause-stay g c i other =
     let number = g.P.Inx.PtrInxCore.number in
+    let law = c.entries_stand_in_the_list.ensures in
     let old = c.self.inside.arena in
     let new = c.remove_inx.new.self in
-    let law = c.entries_stand_in_the_list.ensures in
-    let on : (j : ℕ) → IsSome (entry_in old j) → On (order_in number old) j =
-    λ j some. law old j c.len.ensures.formed.ordered some in
-    let on' : (j : ℕ) → IsSome (entry_in new j) → On (order_in number new) j =
-    λ j some. law new j c.remove_inx.ensures.formed.ordered some in
-    stands_there number new on' i
+    stands_there number law new c.remove_inx.ensures.formed.ordered i
     ∙ ap (option_map (λ (x : ℕ × Entry). x.1))
     (others_stand number old new c.len.ensures.formed.ordered c.self.invariant
     g.P.Gen.PtrGenCore.number value_of _ _ _ c.in-Some.taken (sym c.allow.ensures ∙ c.in-Some.is)
     c.remove_inx.ensures.value c.remove_inx.ensures.exact i other)
-    ∙ sym (stands_there number old on i)
+    ∙ sym (stands_there number law old c.len.ensures.formed.ordered i)
     ∙ ap (λ (book : Tickets). entry_at book i) c.self.view_is

@@ -1,17 +1,16 @@
-use Rattle.std.proofs.Common.{◌≡◌, ◌∙◌, ◌+◌, ◌≤◌, ap, sym, subst, ℕ, Some, None, true, IsSome}
+use Rattle.std.proofs.Common.{◌≡◌, ◌∙◌, ◌+◌, ◌≤◌, ap, sym, subst, ℕ, true}
 use Rattle.std.proofs.Common.{IsTrue, length, option_map}
 use Rattle.std.specs.Ordering.{nat_cmp}
 use Rattle.rank_tree.specs.Comparisons.{most_comparisons}
-use Rattle.triple_arena_chain.specs.Chains.{On}
-use Rattle.triple_arena_ord.specs.Ordered.{asked_at, entry_in, order_in}
+use Rattle.triple_arena_ord.specs.Ordered.{asked_at, entry_in}
 use Rattle.ticket_book.specs.Tickets.{Entry, Tickets, asked_among, entry_at, lookup, looked_at}
 use Rattle.ticket_book.proofs.AskedLemmas.{asked_spared}
 use Rattle.ticket_book.proofs.LookLemmas.{looked_there, nowhere}
 use Rattle.ticket_book.proofs.StandingLemmas.{stands_there}
 use Rattle.ticket_book.proofs.TicketLemmas.{lookup_standing}
-use Rattle.ticket_book.proofs.book.TicketBook.first.Goals.{After-spares_a_comparison}
-use Rattle.ticket_book.proofs.book.TicketBook.first.Goals.{Else-not-spares_a_comparison}
-use Rattle.ticket_book.proofs.book.TicketBook.first.Goals as goal
+use Rattle.ticket_book.proofs.book.TicketBook.looked_at.Goals.{After-spares_a_comparison}
+use Rattle.ticket_book.proofs.book.TicketBook.looked_at.Goals.{Else-not-spares_a_comparison}
+use Rattle.ticket_book.proofs.book.TicketBook.looked_at.Goals as goal
 
 -- what is looked at is the entry of the arena there
 there : (g : _) (c : Else-not-spares_a_comparison g)
@@ -19,14 +18,11 @@ there : (g : _) (c : Else-not-spares_a_comparison g)
     ≡ looked_at c.args.self.now c.args.ticket
 there g c =
     let number = g.P.Inx.PtrInxCore.number in
-    let on : (i : ℕ) → IsSome (entry_in c.self.inside.arena i)
-    → On (order_in number c.self.inside.arena) i =
-    λ i some. c.entries_stand_in_the_list.ensures c.self.inside.arena i c.len.ensures.formed.ordered
-    some in
     let spares : c.args.self.now.spares ≡ true =
     ap (λ (b : Tickets). b.spares) (sym c.self.view_is) ∙ sym c.spares_a_comparison.ensures.told
     ∙ c.if-not-spares_a_comparison.false in
-    sym (stands_there number c.self.inside.arena on c.args.ticket)
+    sym (stands_there number c.entries_stand_in_the_list.ensures c.self.inside.arena
+    c.len.ensures.formed.ordered c.args.ticket)
     ∙ ap (λ (b : Tickets). entry_at b c.args.ticket) c.self.view_is
     ∙ sym (looked_there c.args.self.now c.args.ticket spares)
 
@@ -84,11 +80,8 @@ returns-in-None-clause-spared g c =
 
 pub returns-in-Some-get_inx-clause-found : goal.returns-in-Some-get_inx-clause-found
 returns-in-Some-get_inx-clause-found g c =
-    let on : (i : ℕ) → IsSome (entry_in c.self.inside.arena i)
-    → On (order_in g.P.Inx.PtrInxCore.number c.self.inside.arena) i =
-    λ i some. c.entries_stand_in_the_list.ensures c.self.inside.arena i c.len.ensures.formed.ordered
-    some in
     ap (λ (b : Tickets). lookup b.entries c.in-Some-get_inx.found.1.now.ticket) (sym c.self.view_is)
-    ∙ lookup_standing g.P.Inx.PtrInxCore.number c.self.inside.arena _ _ c.self.invariant on
+    ∙ lookup_standing g.P.Inx.PtrInxCore.number c.entries_stand_in_the_list.ensures
+    c.self.inside.arena _ _ c.len.ensures.formed.ordered c.self.invariant
     (sym c.get_inx.ensures
     ∙ ap (option_map (λ e. (g.P.Gen.PtrGenCore.number e.0, e.1.now))) c.in-Some-get_inx.is)
