@@ -1,3 +1,4 @@
+pub mod KeyInsertionLemmas
 pub mod WriteLemmas
 pub mod RestLemmas
 pub mod NameLemmas

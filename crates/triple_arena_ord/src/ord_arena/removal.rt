@@ -33,7 +33,7 @@ pub(crate) fn neighbors<P: PtrCore, T: Drop, S: OrdSlots<P, T>>(
 }
 
 // An end of the list leaves an index, which had this neighbor.
-fn end_at<I: PtrInxCore>(end: &mut Option<I>, gone: I, neighbor: Option<I>)
+fn leave_end<I: PtrInxCore>(end: &mut Option<I>, gone: I, neighbor: Option<I>)
     ensures { option_map I.number end.new
         ≡ ended (option_map I.number end.old) (I.number gone) (option_map I.number neighbor) }
 {
@@ -84,8 +84,8 @@ impl<P: PtrCore, T: Drop, S: OrdSlots<P, T>> SimpleOrdArena<P, T, S> {
     {
         let (prev, next) = neighbors(&self.chains, gone);
         let taken = take_entry(&mut self.chains, &mut self.root, gone, next);
-        end_at(&mut self.first, gone, next);
-        end_at(&mut self.last, gone, prev);
+        leave_end(&mut self.first, gone, next);
+        leave_end(&mut self.last, gone, prev);
         item_of::<P, T>(taken)
     }
 }

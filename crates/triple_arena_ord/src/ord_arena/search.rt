@@ -81,10 +81,10 @@ impl<P: PtrCore, T: SimpleOrdItem + Drop, S: OrdSlots<P, T>> SimpleOrdArena<P, T
         }
     }
 
-    /// The pointer to an entry with an equal key; in a list whose keys ascend, exactly if there is
-    /// one. Each comparison is a tick, one at each entry on the way down from the root, and among n
-    /// entries there are at most c of them, where c is the greatest number with
-    /// `2^(c+1) <= (n+1)^2`; there is none in an empty arena.
+    /// The pointer to an entry with an equal key. If the keys ascend, `None` means that there is
+    /// none. Each comparison is a tick, one at each entry on the way down from the root. Among
+    /// n > 0 entries there are at most c, the greatest number with `2^(c+1) <= (n+1)^2`, and none
+    /// in an empty arena.
     pub fn find_key_counted(&self, k: &T::Key, probes: &mut Probes) -> Option<P>
         ensures found { IsFound P.index P.generation (asked_at T.Key.cmp T.key_of k.now self.now)
             (IsAscending P.Inx.number T.Key.cmp T.key_of self.now) result self.now }

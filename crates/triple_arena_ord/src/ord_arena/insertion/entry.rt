@@ -1,4 +1,4 @@
-//! A place for one item more, which tells its pointer before the item is there.
+//! Room for one item more, which tells its pointer before the item is there.
 ghost use Rattle.std.specs.Prelude.{◌≡◌, ◌≤◌, Some, None, Ok, Err, IsSome, IfOk, IfSome, IfNone};
 ghost use Rattle.std.specs.Prelude.{OnOk, OnErr};
 ghost use Rattle.std.specs.Option.{option_map};
@@ -21,7 +21,7 @@ use triple_arena::{ArenaTrait, PtrCore};
 use triple_arena_ptr::OrdInsertionError;
 use unreached::unreached;
 
-/// A place for one item more. Dropped unused, it leaves the entries as they are.
+/// Room for one item more. Dropped unused, it leaves the entries as they are.
 #[derive(Drop)]
 pub struct SimpleOrdArenaInsertEntry<'a, P: PtrCore, T: Drop, S: OrdSlots<P, T>> {
     arena: &'a mut SimpleOrdArena<P, T, S>,
@@ -126,7 +126,7 @@ impl<P: PtrCore, T: Drop, S: OrdSlots<P, T>> SimpleOrdArena<P, T, S> {
 impl<P: PtrCore, T: SimpleOrdItem + Drop, S: OrdSlots<P, T>> SimpleOrdArena<P, T, S> {
     ghost use Rattle.triple_arena_ord.specs.contracts.ord_arena.SimpleOrdArena.{the_row};
 
-    /// A place for one item more, where the kind says. It returns `FailedOrdRequirement` for
+    /// Room for one item more, where the kind says. It returns `FailedOrdRequirement` for
     /// `Empty` if there is an entry, and for `Manual` at an index that is not live; and else
     /// `NotWithinCapacity` if a new entry is needed and there is no room. The entries stay as they
     /// are then.

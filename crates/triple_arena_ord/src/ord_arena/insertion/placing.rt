@@ -79,7 +79,7 @@ impl<P: PtrCore, T: SimpleOrdItem + Drop, S: OrdSlots<P, T>> SimpleOrdArena<P, T
         ensures empty { IfSome result (λ place. place ≡ None → size_in self.now ≡ 0) }
         ensures ordered { IsOrdered P.Inx.number self.now }
     {
-        // The list is as it must be.
+        // It also says that the list is as it must be.
         let len = self.len();
         match kind {
             InsertKind::Empty => if len == 0 { Some(None) } else { None },

@@ -7,7 +7,8 @@ use Rattle.triple_arena_ord.specs.CanonicalLayout.{IsLaidInOrder}
 use Rattle.triple_arena_ord.proofs.CanonicalLayoutLemmas.{Laid, laid_by, run_linear}
 use Rattle.triple_arena_ord.proofs.ord_arena.SimpleOrdArena.compress_canonical.Goals as goal
 
-pub rebuild_run-self-inside-requires-clause-linear : goal.rebuild_run-self-inside-requires-clause-linear
+pub rebuild_run-self-inside-requires-clause-linear :
+    goal.rebuild_run-self-inside-requires-clause-linear
 rebuild_run-self-inside-requires-clause-linear g c =
     let number = g.P.Inx.PtrInxCore.number in
     let o : Ordered g.row.P-Inx.Denot g.row.T.Denot =

@@ -27,9 +27,10 @@ invariant_of-self g c =
     let prev = option_map number c.neighbors.result.0 in
     let next = option_map number c.neighbors.result.1 in (
       c.take_entry-taken.ensures.ordered,
-      c.end_at.ensures ∙ first_lost number o p c.self.invariant.0 h c.take_entry-taken.ensures.order
+      c.leave_end.ensures
+          ∙ first_lost number o p c.self.invariant.0 h c.take_entry-taken.ensures.order
           prev next c.neighbors.ensures _ c.self.invariant.1,
-      c.end_at-2.ensures ∙ last_lost number o p c.self.invariant.0 h
+      c.leave_end-2.ensures ∙ last_lost number o p c.self.invariant.0 h
           c.take_entry-taken.ensures.order prev next c.neighbors.ensures _ c.self.invariant.2,
     )
 

@@ -9,7 +9,8 @@ use Rattle.triple_arena_ord.proofs.CanonicalTransferLemmas.{transferred_along, n
 use Rattle.triple_arena_ord.proofs.CanonicalTransferLemmas.{run_linear}
 use Rattle.triple_arena_ord.proofs.ord_arena.SimpleOrdArena.transfer_canonical_reallocating.Goals as goal
 
-pub rebuild_run-self-inside-requires-clause-linear : goal.rebuild_run-self-inside-requires-clause-linear
+pub rebuild_run-self-inside-requires-clause-linear :
+    goal.rebuild_run-self-inside-requires-clause-linear
 rebuild_run-self-inside-requires-clause-linear g c =
     let before = g.Q.Inx.PtrInxCore.number in
     let o : Ordered g.row.Q-Inx.Denot g.row.U.Denot =
