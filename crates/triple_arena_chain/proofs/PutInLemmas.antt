@@ -4,7 +4,8 @@ use Rattle.std.proofs.Common.{sym, ap, subst, ◌∙◌, inl, inr, is_some, true
 use Rattle.std.proofs.lemmas.Bool.{eq-eqb, ne_eqb}
 use Rattle.std.proofs.lemmas.Bool.Decides.{eqb_tells}
 use Rattle.triple_arena_chain.specs.Chains.{Ends, next_in, prev_in, next_at, prev_at, with_next_if}
-use Rattle.triple_arena_chain.specs.Chains.{added, put_between, IsBetween, IsAgreed, first_or, last_or, Off}
+use Rattle.triple_arena_chain.specs.Chains.{added, put_between, IsBetween, IsAgreed, first_or}
+use Rattle.triple_arena_chain.specs.Chains.{last_or, Off}
 use Rattle.triple_arena_chain.specs.Chains.{On, Apart, IsLinear, IsRing}
 use Rattle.triple_arena_chain.specs.ChainLaws.{first_or-append, last_or-append, Apart-both}
 use Rattle.triple_arena_chain.specs.UniquenessLaws.{Ended, none, some_last, ended, linear_apart}

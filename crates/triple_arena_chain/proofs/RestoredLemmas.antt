@@ -19,7 +19,8 @@ use Rattle.triple_arena_chain.specs.Chains.{bridged}
 use Rattle.triple_arena_chain.specs.Chains.{taken_out, On, Apart}
 use Rattle.triple_arena_chain.specs.ChainLaws.{Apart-both, Apart-last}
 use Rattle.triple_arena_chain.specs.Links.{valued, values_in, link_ends, entry_ends, ends_in}
-use Rattle.triple_arena_chain.specs.Links.{ends_found, gap_among, IsChained, IsLinkInserted, IsTakenOut}
+use Rattle.triple_arena_chain.specs.Links.{ends_found, gap_among, IsChained, IsLinkInserted}
+use Rattle.triple_arena_chain.specs.Links.{IsTakenOut}
 use Rattle.triple_arena_chain.specs.Lists.{Chain, members, IsChainOf, Linear, Cyclic}
 use Rattle.triple_arena_chain.specs.ListLaws.{On-front, On-back, On-either, On-first, On-split}
 use Rattle.triple_arena_chain.specs.ListLaws.{Apart-turned, Apart-front, Apart-back, Apart-append}

@@ -135,7 +135,8 @@ pub record IsBetween (ends : ℕ → Option Ends) (gap : Ends) : Type 0 where
 
 -- the interlinks with one more index in a gap
 abbrev pub put_between : (ℕ → Option Ends) → ℕ → Ends → ℕ → Option Ends
-put_between ends n gap = with_prev_if (with_next_if (added ends n gap) gap.0 (Some n)) gap.1 (Some n)
+put_between ends n gap =
+    with_prev_if (with_next_if (added ends n gap) gap.0 (Some n)) gap.1 (Some n)
 
 -- one more index may stand at this gap
 abbrev pub IsGap : (ℕ → Option Ends) → Gap ℕ → Type 0

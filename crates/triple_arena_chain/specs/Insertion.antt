@@ -8,7 +8,8 @@ use Rattle.triple_arena_chain.specs.InsertEntry.{IsLinkAnswer, IsLinkRefusal}
 use Rattle.triple_arena_chain.specs.LinkShape.{IndexLink}
 use Rattle.triple_arena_chain.specs.Links.{gap_among, IsChained, IsLinkInserted}
 
-module _ {P I T : Type 0} (index generation : P → ℕ) (number : I → ℕ) (kind : InsertKind P I) (t : T)
+module _ {P I T : Type 0} (index generation : P → ℕ) (number : I → ℕ) (kind : InsertKind P I)
+    (t : T)
     (result : Result P ChainInsertionError) (old new : Content (IndexLink I T)) where
   -- a link in the gap that the kind asks for
   abbrev pub IsInItsGap : Type 0

@@ -1,6 +1,6 @@
 //! The canonical layout: the links of each chain at successive indexes.
 ghost use Rattle.std.specs.Prelude.{◌≡◌, ◌↔◌, IsTrue, ◌+◌, ◌<◌, ◌≤◌, ℕ, Some, None, IsSome, IfSome};
-ghost use Rattle.std.specs.Prelude.{[], length};
+ghost use Rattle.std.specs.Prelude.{[], length, ⊤};
 ghost use Rattle.std.specs.Option.{option_map};
 ghost use Rattle.triple_arena_ptr.specs.Index.{max_index_of};
 ghost use Rattle.triple_arena_ptr.specs.InvalidationOption.{overflowed};
@@ -14,7 +14,7 @@ ghost use Rattle.triple_arena_chain.specs.CanonicalLayout.{IsCanonical};
 ghost use Rattle.triple_arena_chain.specs.Notes.{up_to, before_past, IsLed, IsLedOn, IsBrought};
 ghost use Rattle.triple_arena_chain.specs.Notes.{IsGathering, IsRejoinable, StartsAt, GathersUpTo};
 
-use crate::chain_arena::interlinks::{set_next, set_prev};
+use crate::chain_arena::interlinks::{read_next, read_prev, set_next, set_prev};
 use crate::{ChainArena, ChainSlots, LinkNoGen};
 use std::num::NonZeroUsize;
 use triple_arena::{
@@ -31,7 +31,8 @@ pub(crate) fn is_one<I: PtrInxCore>(i: I, j: I) -> bool
 
 // The index behind so many others.
 pub(crate) fn behind<I: PtrInxCore>(count: usize) -> I
-    requires { count + 1 ≤ max_index_of I.greatest }
+    requires fits { count + 1 ≤ max_index_of I.greatest }
+    requires no_more { ⊤ }
     ensures { I.number result ≡ count + 1 }
 {
     match I::try_from_usize(NonZeroUsize::MIN.saturating_add(count)) {
@@ -59,7 +60,7 @@ where
     let mut at = k;
     // No more links are passed than indexes fit.
     'back: for _ in 0..arena.capacity() {
-        match arena.get_inx_unwrap(at).prev() {
+        match read_prev(arena, at) {
             Some(prev) => {
                 if is_one(prev, k) {
                     return k;
@@ -99,12 +100,13 @@ where
     T: Drop,
     S: ChainSlots<P, T>,
     requires led { IsLedOn (ends_in P.Inx.number arena.now) placed (P.Inx.number i) }
+    requires no_more { ⊤ }
     ensures { (k : ℕ) → IsLed (ends_in P.Inx.number arena.now) placed (P.Inx.number i) k
         → P.Inx.number result ≡ k }
 {
     let mut at = i;
     'note: while is_within(at, placed) {
-        match arena.get_inx_unwrap(at).prev() {
+        match read_prev(arena, at) {
             Some(to) => at = to,
             None => unreached!(),
         }
@@ -132,7 +134,7 @@ where
     let mut at = k;
     // No more links are passed than indexes fit.
     'back: for _ in 0..arena.capacity() {
-        match arena.get_inx_unwrap(at).prev() {
+        match read_prev(arena, at) {
             Some(prev) => {
                 let before = led_to(arena, prev, placed);
                 if is_one(before, k) {
@@ -192,7 +194,7 @@ where
     let mut last = start;
     let mut placed = first + 1;
     'link: loop {
-        match arena.get_inx_unwrap(last).next() {
+        match read_next(arena, last) {
             Some(next) => {
                 if is_same(round, next) {
                     set_next(arena, Some(last), Some(start));
@@ -251,7 +253,7 @@ where
         let i = behind(count);
         count += 1;
         set_prev(arena, Some(i), before);
-        let (back, following) = parted(arena.get_inx_unwrap(i).next(), i, count);
+        let (back, following) = parted(read_next(arena, i), i, count);
         set_prev(arena, back, Some(i));
         before = following;
     }

@@ -11,7 +11,7 @@ ghost use Rattle.triple_arena_chain.specs.Listed.{listed_values};
 ghost use Rattle.triple_arena_chain.specs.Renaming.{numbered, prev_of, forwarded, IsCompacted};
 ghost use Rattle.triple_arena_chain.specs.Values.{room_in};
 
-use crate::chain_arena::interlinks::{set_next, set_prev};
+use crate::chain_arena::interlinks::{read_next, read_prev, set_next, set_prev};
 use crate::chain_arena::mapping::{compact_links, renew_links};
 use crate::{ChainSlots, LinkNoGen};
 use std::num::NonZeroUsize;
@@ -52,8 +52,8 @@ where
     ensures { option_map P.Inx.number result ≡ prev_of (ends_in P.Inx.number arena.now)
         (next_at (ends_in P.Inx.number arena.now) (P.Inx.number i)) }
 {
-    match arena.get_inx_unwrap(i).next() {
-        Some(next) => arena.get_inx_unwrap(next).prev(),
+    match read_next(arena, i) {
+        Some(next) => read_prev(arena, next),
         None => None,
     }
 }
@@ -102,7 +102,7 @@ where
     let mut advancer = arena.advancer();
     while let Some(p) = advancer.advance(arena) {
         let i = p.inx();
-        let next = arena.get_inx_unwrap(i).next();
+        let next = read_next(arena, i);
         set_prev(arena, next, Some(i));
     }
 }

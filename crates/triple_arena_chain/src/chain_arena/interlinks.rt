@@ -1,7 +1,9 @@
-//! Interlinks, written where the links lie.
+//! Interlinks, read and written where the links lie.
 ghost use Rattle.std.specs.Prelude.{◌≡◌, Some, None, IsSome, IfSome, ⊤};
+ghost use Rattle.std.specs.Option.{option_map};
 ghost use Rattle.triple_arena.specs.Content.{entry_at, IsWellFormed};
-ghost use Rattle.triple_arena_chain.specs.Links.{with_next_of, with_prev_of, joined_to};
+ghost use Rattle.triple_arena_chain.specs.Chains.{next_at, prev_at};
+ghost use Rattle.triple_arena_chain.specs.Links.{ends_in, with_next_of, with_prev_of, joined_to};
 ghost use Rattle.triple_arena_chain.specs.Links.{AreNeighborsLive};
 
 use crate::gap::Gap;
@@ -17,6 +19,32 @@ pub(crate) fn recall_formed<P: PtrCore, T: Drop, S: ChainSlots<P, T>>(
     ensures { IsWellFormed arena.now }
 {
     let _len = arena.len();
+}
+
+// The next index of the link at a live index.
+pub(crate) fn read_next<P: PtrCore, T: Drop, S: ChainSlots<P, T>>(
+    arena: &Arena<P, LinkNoGen<P, T>, S>,
+    i: P::Inx,
+) -> Option<P::Inx>
+    requires live { IsSome (entry_at arena.now (P.Inx.number i)) }
+    requires no_more { ⊤ }
+    ensures { option_map P.Inx.number result
+        ≡ next_at (ends_in P.Inx.number arena.now) (P.Inx.number i) }
+{
+    arena.get_inx_unwrap(i).next()
+}
+
+// Its previous index.
+pub(crate) fn read_prev<P: PtrCore, T: Drop, S: ChainSlots<P, T>>(
+    arena: &Arena<P, LinkNoGen<P, T>, S>,
+    i: P::Inx,
+) -> Option<P::Inx>
+    requires live { IsSome (entry_at arena.now (P.Inx.number i)) }
+    requires no_more { ⊤ }
+    ensures { option_map P.Inx.number result
+        ≡ prev_at (ends_in P.Inx.number arena.now) (P.Inx.number i) }
+{
+    arena.get_inx_unwrap(i).prev()
 }
 
 // Gives the link at `at`, which is live if it is an index, another next.

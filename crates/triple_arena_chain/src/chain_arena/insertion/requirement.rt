@@ -1,39 +1,14 @@
 //! What an insertion's kind requires of the links.
 ghost use Rattle.std.specs.Prelude.{◌≡◌};
 ghost use Rattle.std.specs.Option.{option_map};
-ghost use Rattle.triple_arena.specs.Content.{get};
-ghost use Rattle.triple_arena_chain.specs.Links.{prev_next_of, ends_in, ends_found, gap_among};
-ghost use Rattle.triple_arena_chain.specs.Kinds.{ends_by, gap_by};
+ghost use Rattle.triple_arena_chain.specs.Links.{gap_among};
+ghost use Rattle.triple_arena_chain.specs.Kinds.{gap_by};
 
 use crate::gap::{Gap, after_end, before_start, bridging, inside, next_to, prev_to};
 use crate::{ChainArena, ChainSlots, LinkInsertKind};
-use triple_arena::{ArenaTrait, PtrCore};
+use triple_arena::PtrCore;
 
 impl<P: PtrCore, T: Drop, S: ChainSlots<P, T>> ChainArena<P, T, S> {
-    // The previous and the next index of the link that `p` points to.
-    pub(crate) fn ends_of(&self, p: P) -> Option<(Option<P::Inx>, Option<P::Inx>)>
-        ensures value { result
-            ≡ option_map prev_next_of (get self.now (P.index p) (P.generation p)) }
-        ensures numbers { option_map (ends_by P.Inx.number) result
-            ≡ ends_found P.Inx.number self.now (P.index p) (P.generation p) }
-    {
-        match self.arena.get(p) {
-            Some(link) => Some((link.prev(), link.next())),
-            None => None,
-        }
-    }
-
-    // Those of the link at an index.
-    pub(crate) fn ends_at(&self, i: P::Inx) -> Option<(Option<P::Inx>, Option<P::Inx>)>
-        ensures { option_map (ends_by P.Inx.number) result
-            ≡ ends_in P.Inx.number self.now (P.Inx.number i) }
-    {
-        match self.arena.get_inx(i) {
-            Some((_, link)) => Some((link.prev(), link.next())),
-            None => None,
-        }
-    }
-
     // The gap that the kind asks for, or `None` if its requirement is not met.
     #[inline(always)]
     pub(crate) fn gap(&self, kind: LinkInsertKind<P>) -> Option<Gap<P::Inx>>

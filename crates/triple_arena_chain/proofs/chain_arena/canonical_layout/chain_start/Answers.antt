@@ -5,14 +5,13 @@ use Rattle.triple_arena_chain.specs.Links.{ends_in}
 use Rattle.triple_arena_chain.proofs.PassLemmas.{live_ends}
 use Rattle.triple_arena_chain.proofs.ChainStartLemmas.{back_live, back_begun, back_more, back_few}
 use Rattle.triple_arena_chain.proofs.ChainStartLemmas.{back_none, ring_head}
-use Rattle.triple_arena_chain.proofs.SwappedLinkLemmas.{prev_found}
 use Rattle.triple_arena_chain.proofs.chain_arena.canonical_layout.chain_start.Goals as goal
 
 pub back-init : goal.back-init
 back-init g c = back_begun _ _ c.requires.live
 
-pub get_inx_unwrap-requires : goal.get_inx_unwrap-requires
-get_inx_unwrap-requires g c =
+pub read_prev-requires-clause-live : goal.read_prev-requires-clause-live
+read_prev-requires-clause-live g c =
     let number = g.P.Inx.PtrInxCore.number in
     sym (live_ends number c.args.arena.now (number c.back.at))
     ∙ back_live _ c.requires.chained.agreed _ _ _ c.back.invariant
@@ -24,8 +23,7 @@ back-preserved g c =
     λ same. true≢false (sym (c.is_one.ensures.1 same) ∙ c.if-is_one.false) in
     let came : prev_at (ends_in number c.args.arena.now) (number c.back.at)
     ≡ Some (number c.in-Some.prev) =
-    prev_found number c.args.arena.now _ _ c.get_inx_unwrap.ensures
-    ∙ ap (option_map number) (sym c.prev.ensures ∙ c.in-Some.is) in
+    sym c.read_prev.ensures ∙ ap (option_map number) c.in-Some.is in
     back_more _ c.requires.chained.agreed _ _ _ c.back.invariant (number c.in-Some.prev) came other
 
 pub unreachable-requires : goal.unreachable-requires
@@ -42,14 +40,12 @@ returns-then-is_one-clause-head g c =
     let same : number c.in-Some.prev ≡ number c.args.k = c.is_one.ensures.0 c.if-is_one.true in
     let came : prev_at (ends_in number c.args.arena.now) (number c.back.at)
     ≡ Some (number c.in-Some.prev) =
-    prev_found number c.args.arena.now _ _ c.get_inx_unwrap.ensures
-    ∙ ap (option_map number) (sym c.prev.ensures ∙ c.in-Some.is) in
+    sym c.read_prev.ensures ∙ ap (option_map number) c.in-Some.is in
     ring_head _ c.requires.chained.agreed _ _ _ c.back.invariant (came ∙ ap Some same)
 
 pub returns-in-None-clause-own : goal.returns-in-None-clause-own
 returns-in-None-clause-own g c =
     let number = g.P.Inx.PtrInxCore.number in
     let lone : prev_at (ends_in number c.args.arena.now) (number c.back.at) ≡ None =
-    prev_found number c.args.arena.now _ _ c.get_inx_unwrap.ensures
-    ∙ ap (option_map number) (sym c.prev.ensures ∙ c.in-None.is) in
+    sym c.read_prev.ensures ∙ ap (option_map number) c.in-None.is in
     back_none _ c.requires.chained.agreed _ _ _ c.back.invariant lone

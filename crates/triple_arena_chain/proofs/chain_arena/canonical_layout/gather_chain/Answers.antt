@@ -6,10 +6,35 @@ use Rattle.triple_arena_chain.specs.Links.{ends_in}
 use Rattle.triple_arena_chain.specs.Notes.{IsBrought}
 use Rattle.triple_arena_chain.proofs.GoingLemmas.{place_first, start_live, way_first, way_last}
 use Rattle.triple_arena_chain.proofs.GoingLemmas.{way_formed, way_alike, way_within, way_next}
-use Rattle.triple_arena_chain.proofs.GoingLemmas.{way_more, way_over, way_round}
+use Rattle.triple_arena_chain.proofs.GoingLemmas.{way_more, way_over, way_round, Next}
 use Rattle.triple_arena_chain.proofs.PassLemmas.{live_ends}
-use Rattle.triple_arena_chain.proofs.SwappedLinkLemmas.{next_found}
+use Rattle.triple_arena_chain.proofs.chain_arena.canonical_layout.gather_chain.Goals.{Else-is_same}
 use Rattle.triple_arena_chain.proofs.chain_arena.canonical_layout.gather_chain.Goals as goal
+
+-- the last link placed has a next one, which does not close a ring
+goes_on : (g : _) (c : Else-is_same g)
+    → (next_at (ends_in g.P.Inx.PtrInxCore.number c.link.arena) c.link.placed
+    ≡ Some (g.P.Inx.PtrInxCore.number c.in-Some.next))
+    × (option_map g.P.Inx.PtrInxCore.number c.unplaced_start.result.1
+    ≢ Some (g.P.Inx.PtrInxCore.number c.in-Some.next))
+goes_on g c =
+    let number = g.P.Inx.PtrInxCore.number in
+    let away : option_map number c.unplaced_start.result.1 ≢ Some (number c.in-Some.next) =
+    λ same. true≢false (sym (c.is_same.ensures.1 same) ∙ c.if-is_same.false) in (
+      ap (next_at (ends_in number c.link.arena)) (sym c.link.invariant.last)
+          ∙ sym c.read_next.ensures ∙ ap (option_map number) c.in-Some.is,
+      away,
+    )
+
+-- where it is, and that there is an index for it
+next_on : (g : _) (c : Else-is_same g)
+    → Next g.P.Inx.PtrInxCore.number c.args.first c.link.placed
+    (option_map g.P.Inx.PtrInxCore.number c.unplaced_start.result.1) c.args.arena.now c.link.arena
+    c.requires.gathering c.link.invariant.way (g.P.Inx.PtrInxCore.number c.in-Some.next)
+next_on g c =
+    let on = goes_on g c in
+    way_next g.P.Inx.PtrInxCore.number c.args.first c.link.placed _ c.args.arena.now c.link.arena
+    c.requires.gathering c.link.invariant.way (g.P.Inx.PtrInxCore.number c.in-Some.next) on.0 on.1
 
 pub unplaced_start-requires-clause-live : goal.unplaced_start-requires-clause-live
 unplaced_start-requires-clause-live g c =
@@ -49,8 +74,8 @@ link-init g c =
       more = omega arith;
     }
 
-pub get_inx_unwrap-requires : goal.get_inx_unwrap-requires
-get_inx_unwrap-requires g c =
+pub read_next-requires-clause-live : goal.read_next-requires-clause-live
+read_next-requires-clause-live g c =
     let number = g.P.Inx.PtrInxCore.number in
     subst (λ k. IsSome (entry_at c.link.arena k)) (sym c.link.invariant.last)
     (way_last number c.args.first c.link.placed _ c.args.arena.now c.link.arena c.requires.gathering
@@ -61,8 +86,7 @@ returns-then-is_same-clause-gathered g c =
     let number = g.P.Inx.PtrInxCore.number in
     let goes : next_at (ends_in number c.link.arena) c.link.placed ≡ Some (number c.in-Some.next) =
     ap (next_at (ends_in number c.link.arena)) (sym c.link.invariant.last)
-    ∙ next_found number c.link.arena _ _ c.get_inx_unwrap.ensures
-    ∙ ap (option_map number) (sym c.next.ensures ∙ c.in-Some.is) in
+    ∙ sym c.read_next.ensures ∙ ap (option_map number) c.in-Some.is in
     way_round number c.args.first c.link.placed (number c.in-Some.next) _ c.args.arena.now
     c.link.arena c.set_next.new.arena c.link.last c.behind-start.result
     c.link.invariant.way goes (c.is_same.ensures.0 c.if-is_same.true) c.link.invariant.last
@@ -78,8 +102,7 @@ returns-in-None-clause-gathered g c =
     let number = g.P.Inx.PtrInxCore.number in
     let gone : next_at (ends_in number c.link.arena) c.link.placed ≡ None =
     ap (next_at (ends_in number c.link.arena)) (sym c.link.invariant.last)
-    ∙ next_found number c.link.arena _ _ c.get_inx_unwrap.ensures
-    ∙ ap (option_map number) (sym c.next.ensures ∙ c.in-None.is) in
+    ∙ sym c.read_next.ensures ∙ ap (option_map number) c.in-None.is in
     way_over number c.args.first c.link.placed _ c.args.arena.now c.link.arena c.link.invariant.way
     gone
 
@@ -88,32 +111,14 @@ returns-in-None-clause-within g c =
     way_within g.P.Inx.PtrInxCore.number c.args.first c.link.placed _ c.args.arena.now c.link.arena
     c.requires.gathering c.link.invariant.way
 
-pub led_to-at-requires : goal.led_to-at-requires
-led_to-at-requires g c =
-    let number = g.P.Inx.PtrInxCore.number in
-    let goes : next_at (ends_in number c.link.arena) c.link.placed ≡ Some (number c.in-Some.next) =
-    ap (next_at (ends_in number c.link.arena)) (sym c.link.invariant.last)
-    ∙ next_found number c.link.arena _ _ c.get_inx_unwrap.ensures
-    ∙ ap (option_map number) (sym c.next.ensures ∙ c.in-Some.is) in
-    let away : option_map number c.unplaced_start.result.1 ≢ Some (number c.in-Some.next) =
-    λ same. true≢false (sym (c.is_same.ensures.1 same) ∙ c.if-is_same.false) in
-    let n = way_next number c.args.first c.link.placed _ c.args.arena.now c.link.arena
-    c.requires.gathering c.link.invariant.way (number c.in-Some.next) goes
-    away in
-    record { led = (n.at, n.led) }
+pub led_to-at-requires-clause-led : goal.led_to-at-requires-clause-led
+led_to-at-requires-clause-led g c =
+    let n = next_on g (goal.at.led_to-at-requires-clause-led g c).Else-is_same in
+    (n.at, n.led)
 
-pub behind-place-requires : goal.behind-place-requires
-behind-place-requires g c =
-    let number = g.P.Inx.PtrInxCore.number in
-    let goes : next_at (ends_in number c.link.arena) c.link.placed ≡ Some (number c.in-Some.next) =
-    ap (next_at (ends_in number c.link.arena)) (sym c.link.invariant.last)
-    ∙ next_found number c.link.arena _ _ c.get_inx_unwrap.ensures
-    ∙ ap (option_map number) (sym c.next.ensures ∙ c.in-Some.is) in
-    let away : option_map number c.unplaced_start.result.1 ≢ Some (number c.in-Some.next) =
-    λ same. true≢false (sym (c.is_same.ensures.1 same) ∙ c.if-is_same.false) in
-    let n = way_next number c.args.first c.link.placed _ c.args.arena.now c.link.arena
-    c.requires.gathering c.link.invariant.way (number c.in-Some.next) goes
-    away in
+pub behind-place-requires-clause-fits : goal.behind-place-requires-clause-fits
+behind-place-requires-clause-fits g c =
+    let n = next_on g (goal.at.behind-place-requires-clause-fits g c).Else-is_same in
     let holds = c.capacity.ensures.holds_all in
     let bounded = c.capacity.ensures.bounded in
     let counted = c.requires.gathering.have.are.noted.formed.counted in
@@ -140,44 +145,17 @@ bring-requires-in-Some-clause-last_is_live g c =
 
 pub bring-requires-in-Some-clause-at_is_live : goal.bring-requires-in-Some-clause-at_is_live
 bring-requires-in-Some-clause-at_is_live g c =
-    let number = g.P.Inx.PtrInxCore.number in
-    let goes : next_at (ends_in number c.link.arena) c.link.placed ≡ Some (number c.in-Some.next) =
-    ap (next_at (ends_in number c.link.arena)) (sym c.link.invariant.last)
-    ∙ next_found number c.link.arena _ _ c.get_inx_unwrap.ensures
-    ∙ ap (option_map number) (sym c.next.ensures ∙ c.in-Some.is) in
-    let away : option_map number c.unplaced_start.result.1 ≢ Some (number c.in-Some.next) =
-    λ same. true≢false (sym (c.is_same.ensures.1 same) ∙ c.if-is_same.false) in
-    let n = way_next number c.args.first c.link.placed _ c.args.arena.now c.link.arena
-    c.requires.gathering c.link.invariant.way (number c.in-Some.next) goes
-    away in
+    let n = next_on g (goal.at.bring-requires-in-Some-clause-at_is_live g c).Else-is_same in
     subst (λ k. IsSome (entry_at c.link.arena k)) (sym (c.led_to-at.ensures n.at n.led)) n.live
 
 pub bring-requires-in-Some-clause-place_is_live : goal.bring-requires-in-Some-clause-place_is_live
 bring-requires-in-Some-clause-place_is_live g c =
-    let number = g.P.Inx.PtrInxCore.number in
-    let goes : next_at (ends_in number c.link.arena) c.link.placed ≡ Some (number c.in-Some.next) =
-    ap (next_at (ends_in number c.link.arena)) (sym c.link.invariant.last)
-    ∙ next_found number c.link.arena _ _ c.get_inx_unwrap.ensures
-    ∙ ap (option_map number) (sym c.next.ensures ∙ c.in-Some.is) in
-    let away : option_map number c.unplaced_start.result.1 ≢ Some (number c.in-Some.next) =
-    λ same. true≢false (sym (c.is_same.ensures.1 same) ∙ c.if-is_same.false) in
-    let n = way_next number c.args.first c.link.placed _ c.args.arena.now c.link.arena
-    c.requires.gathering c.link.invariant.way (number c.in-Some.next) goes
-    away in
+    let n = next_on g (goal.at.bring-requires-in-Some-clause-place_is_live g c).Else-is_same in
     subst (λ k. IsSome (entry_at c.link.arena k)) (sym c.behind-place.ensures) n.place
 
 pub overflow_add-placed-in-Some : goal.overflow_add-placed-in-Some
 overflow_add-placed-in-Some g c =
-    let number = g.P.Inx.PtrInxCore.number in
-    let goes : next_at (ends_in number c.link.arena) c.link.placed ≡ Some (number c.in-Some.next) =
-    ap (next_at (ends_in number c.link.arena)) (sym c.link.invariant.last)
-    ∙ next_found number c.link.arena _ _ c.get_inx_unwrap.ensures
-    ∙ ap (option_map number) (sym c.next.ensures ∙ c.in-Some.is) in
-    let away : option_map number c.unplaced_start.result.1 ≢ Some (number c.in-Some.next) =
-    λ same. true≢false (sym (c.is_same.ensures.1 same) ∙ c.if-is_same.false) in
-    let n = way_next number c.args.first c.link.placed _ c.args.arena.now c.link.arena
-    c.requires.gathering c.link.invariant.way (number c.in-Some.next) goes
-    away in
+    let n = next_on g (goal.at.overflow_add-placed-in-Some g c).Else-is_same in
     let holds = c.capacity.ensures.holds_all in
     let bounded = c.capacity.ensures.bounded in
     let counted = c.requires.gathering.have.are.noted.formed.counted in
@@ -189,37 +167,20 @@ overflow_add-placed-in-Some g c =
 
 pub link-smaller : goal.link-smaller
 link-smaller g c =
-    let number = g.P.Inx.PtrInxCore.number in
-    let goes : next_at (ends_in number c.link.arena) c.link.placed ≡ Some (number c.in-Some.next) =
-    ap (next_at (ends_in number c.link.arena)) (sym c.link.invariant.last)
-    ∙ next_found number c.link.arena _ _ c.get_inx_unwrap.ensures
-    ∙ ap (option_map number) (sym c.next.ensures ∙ c.in-Some.is) in
-    let away : option_map number c.unplaced_start.result.1 ≢ Some (number c.in-Some.next) =
-    λ same. true≢false (sym (c.is_same.ensures.1 same) ∙ c.if-is_same.false) in
-    let n = way_next number c.args.first c.link.placed _ c.args.arena.now c.link.arena
-    c.requires.gathering c.link.invariant.way (number c.in-Some.next) goes
-    away in
+    let n = next_on g (goal.at.link-smaller g c).Else-is_same in
     let more = n.more in
     omega (arith, more)
 
 pub link-preserved : goal.link-preserved
 link-preserved g c =
     let number = g.P.Inx.PtrInxCore.number in
-    let goes : next_at (ends_in number c.link.arena) c.link.placed ≡ Some (number c.in-Some.next) =
-    ap (next_at (ends_in number c.link.arena)) (sym c.link.invariant.last)
-    ∙ next_found number c.link.arena _ _ c.get_inx_unwrap.ensures
-    ∙ ap (option_map number) (sym c.next.ensures ∙ c.in-Some.is) in
-    let away : option_map number c.unplaced_start.result.1 ≢ Some (number c.in-Some.next) =
-    λ same. true≢false (sym (c.is_same.ensures.1 same) ∙ c.if-is_same.false) in
-    let n = way_next number c.args.first c.link.placed _ c.args.arena.now c.link.arena
-    c.requires.gathering c.link.invariant.way (number c.in-Some.next) goes
-    away in
+    let on = goes_on g (goal.at.link-preserved g c).Else-is_same in
     let more = c.link.invariant.more in
     record {
       way =
           way_more number c.args.first c.link.placed (number c.led_to-at.result) _ c.args.arena.now
           c.link.arena c.bring-in-Some.new.arena c.link.invariant.way
-          (number c.in-Some.next) goes away c.led_to-at.ensures
+          (number c.in-Some.next) on.0 on.1 c.led_to-at.ensures
           (subst (λ k. IsBrought number (Some c.link.placed) (number c.led_to-at.result) k
           c.link.arena c.bring-in-Some.new.arena) c.behind-place.ensures
           (subst (λ k. IsBrought number (Some k) (number c.led_to-at.result)

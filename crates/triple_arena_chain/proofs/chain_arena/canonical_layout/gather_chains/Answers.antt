@@ -12,7 +12,8 @@ chain-init g c =
       within = omega arith;
     }
 
-pub gather_chain-placed-requires-clause-gathering : goal.gather_chain-placed-requires-clause-gathering
+pub gather_chain-placed-requires-clause-gathering :
+    goal.gather_chain-placed-requires-clause-gathering
 gather_chain-placed-requires-clause-gathering g c =
     record { old = c.args.arena.now; have = c.chain.invariant.places }
 

@@ -2,14 +2,13 @@ use Rattle.std.proofs.Common.{true≢false, ◌≡◌, Some, None, option_map, s
 use Rattle.triple_arena_chain.specs.Chains.{prev_at}
 use Rattle.triple_arena_chain.specs.Links.{ends_in}
 use Rattle.triple_arena_chain.proofs.NoteLemmas.{led_by, led_end, led_live, led_some, not_within}
-use Rattle.triple_arena_chain.proofs.SwappedLinkLemmas.{prev_found}
 use Rattle.triple_arena_chain.proofs.chain_arena.canonical_layout.led_to.Goals as goal
 
 pub note-init : goal.note-init
 note-init g c = record { on = c.requires.led; same = λ k l. l }
 
-pub get_inx_unwrap-requires : goal.get_inx_unwrap-requires
-get_inx_unwrap-requires g c =
+pub read_prev-requires-clause-live : goal.read_prev-requires-clause-live
+read_prev-requires-clause-live g c =
     led_live g.P.Inx.PtrInxCore.number c.args.arena.now c.args.placed _ _ c.note.invariant.on.1
     (c.is_within.ensures.0 c.note-test.true)
 
@@ -17,8 +16,7 @@ pub unreached-unreachable-requires : goal.unreached-unreachable-requires
 unreached-unreachable-requires g c =
     let number = g.P.Inx.PtrInxCore.number in
     let gone : prev_at (ends_in number c.args.arena.now) (number c.note.at) ≡ None =
-    prev_found number c.args.arena.now _ _ c.get_inx_unwrap.ensures
-    ∙ ap (option_map number) (sym c.prev.ensures ∙ c.in-None.is) in
+    sym c.read_prev.ensures ∙ ap (option_map number) c.in-None.is in
     led_some (ends_in number c.args.arena.now) c.args.placed _ _ c.note.invariant.on.1
     (c.is_within.ensures.0 c.note-test.true) gone
 
@@ -28,8 +26,7 @@ note-smaller g c =
     let within = c.is_within.ensures.0 c.note-test.true in
     let comes : prev_at (ends_in number c.args.arena.now) (number c.note.at)
     ≡ Some (number c.in-Some.to) =
-    prev_found number c.args.arena.now _ _ c.get_inx_unwrap.ensures
-    ∙ ap (option_map number) (sym c.prev.ensures ∙ c.in-Some.is) in
+    sym c.read_prev.ensures ∙ ap (option_map number) c.in-Some.is in
     let further = (led_by (ends_in number c.args.arena.now) c.args.placed _ _ _
     c.note.invariant.on.1 within comes).0 in
     omega (arith, within, further)
@@ -40,8 +37,7 @@ note-preserved g c =
     let within = c.is_within.ensures.0 c.note-test.true in
     let comes : prev_at (ends_in number c.args.arena.now) (number c.note.at)
     ≡ Some (number c.in-Some.to) =
-    prev_found number c.args.arena.now _ _ c.get_inx_unwrap.ensures
-    ∙ ap (option_map number) (sym c.prev.ensures ∙ c.in-Some.is) in
+    sym c.read_prev.ensures ∙ ap (option_map number) c.in-Some.is in
     record {
       on = (
         c.note.invariant.on.0,

@@ -6,7 +6,6 @@ use Rattle.triple_arena_chain.proofs.PassLemmas.{live_ends}
 use Rattle.triple_arena_chain.proofs.RejoinLemmas.{IsRejoined, rejoined_none, rejoined_more}
 use Rattle.triple_arena_chain.proofs.RejoinLemmas.{rejoined_all, link_live, link_there, next_one}
 use Rattle.triple_arena_chain.proofs.RejoinLemmas.{back_live}
-use Rattle.triple_arena_chain.proofs.SwappedLinkLemmas.{next_found}
 use Rattle.triple_arena_chain.proofs.chain_arena.canonical_layout.rejoin.Goals as goal
 
 pub link-init : goal.link-init
@@ -15,8 +14,8 @@ link-init g c = record {
   within = omega arith;
 }
 
-pub behind-i-requires : goal.behind-i-requires
-behind-i-requires g c =
+pub behind-i-requires-clause-fits : goal.behind-i-requires-clause-fits
+behind-i-requires-clause-fits g c =
     let number = g.P.Inx.PtrInxCore.number in
     let more = c.link-test.true in
     let live = c.requires.rejoinable.live (c.link.count + 1) (omega arith) (omega (arith, more)) in
@@ -33,8 +32,8 @@ set_prev-requires-clause-live g c =
     link_live number c.args.len c.link.count (number c.behind-i.result) _ c.args.arena.now
     c.link.arena c.requires.rejoinable r more c.behind-i.ensures
 
-pub get_inx_unwrap-requires : goal.get_inx_unwrap-requires
-get_inx_unwrap-requires g c =
+pub read_next-requires-clause-live : goal.read_next-requires-clause-live
+read_next-requires-clause-live g c =
     let number = g.P.Inx.PtrInxCore.number in
     let r = c.link.invariant.rejoined in
     let more = c.link-test.true in
@@ -48,10 +47,9 @@ set_prev-requires-in-link-clause-live g c =
     let number = g.P.Inx.PtrInxCore.number in
     let r = c.link.invariant.rejoined in
     let more = c.link-test.true in
-    let next_is : option_map number c.next.result
+    let next_is : option_map number c.read_next.result
     ≡ next_at (ends_in number c.args.arena.now) (c.link.count + 1) =
-    sym (next_found number c.set_prev.new.arena _ _ c.get_inx_unwrap.ensures
-    ∙ ap (option_map number) (sym c.next.ensures))
+    c.read_next.ensures
     ∙ next_one number c.args.len c.link.count c.link.before c.args.arena.now c.link.arena
     c.set_prev.new.arena c.set_prev.new.arena c.behind-i.result None c.requires.rejoinable r
     more c.behind-i.ensures
@@ -70,10 +68,9 @@ link-preserved g c =
     let number = g.P.Inx.PtrInxCore.number in
     let r = c.link.invariant.rejoined in
     let more = c.link-test.true in
-    let next_is : option_map number c.next.result
+    let next_is : option_map number c.read_next.result
     ≡ next_at (ends_in number c.args.arena.now) (c.link.count + 1) =
-    sym (next_found number c.set_prev.new.arena _ _ c.get_inx_unwrap.ensures
-    ∙ ap (option_map number) (sym c.next.ensures))
+    c.read_next.ensures
     ∙ next_one number c.args.len c.link.count c.link.before c.args.arena.now c.link.arena
     c.set_prev.new.arena c.set_prev.new.arena c.behind-i.result None c.requires.rejoinable r
     more c.behind-i.ensures
@@ -90,7 +87,7 @@ link-preserved g c =
           c.behind-i.ensures c.set_prev.ensures back_is c.set_prev-in-link.ensures
           c.parted-back.result.1
           (c.parted-back.ensures.before
-          ∙ ap (λ i. before_past (c.link.count + 1) i (option_map number c.next.result))
+          ∙ ap (λ i. before_past (c.link.count + 1) i (option_map number c.read_next.result))
           c.behind-i.ensures
           ∙ ap (before_past (c.link.count + 1) (c.link.count + 1)) next_is);
       within = omega (arith, more);

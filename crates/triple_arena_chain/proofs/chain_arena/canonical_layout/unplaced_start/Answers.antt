@@ -5,40 +5,37 @@ use Rattle.triple_arena_chain.proofs.PassLemmas.{live_ends}
 use Rattle.triple_arena_chain.proofs.ChainStartLemmas.{back_begun, back_few}
 use Rattle.triple_arena_chain.proofs.HeadLemmas.{laid_zero, walk_live, walk_before, walk_more}
 use Rattle.triple_arena_chain.proofs.HeadLemmas.{start_round, start_line}
-use Rattle.triple_arena_chain.proofs.SwappedLinkLemmas.{prev_found}
 use Rattle.triple_arena_chain.proofs.chain_arena.canonical_layout.unplaced_start.Goals as goal
 
 pub back-init : goal.back-init
 back-init g c = λ old laid a. back_begun laid _ (sym (a.noted.live _) ∙ c.requires.live)
 
-pub get_inx_unwrap-requires : goal.get_inx_unwrap-requires
-get_inx_unwrap-requires g c =
+pub read_prev-requires-clause-live : goal.read_prev-requires-clause-live
+read_prev-requires-clause-live g c =
     let number = g.P.Inx.PtrInxCore.number in
     let a = c.requires.gathering.have.are in
     let b = c.back.invariant _ _ a in
     sym (live_ends number c.args.arena.now (number c.back.at)) ∙ a.noted.live (number c.back.at)
     ∙ walk_live number c.args.placed _ _ c.args.arena.now a _ _ _ b c.requires.behind
 
-pub led_to-before-requires : goal.led_to-before-requires
-led_to-before-requires g c =
+pub led_to-before-requires-clause-led : goal.led_to-before-requires-clause-led
+led_to-before-requires-clause-led g c =
     let number = g.P.Inx.PtrInxCore.number in
     let comes : prev_at (ends_in number c.args.arena.now) (number c.back.at)
     ≡ Some (number c.in-Some.prev) =
-    prev_found number c.args.arena.now _ _ c.get_inx_unwrap.ensures
-    ∙ ap (option_map number) (sym c.prev.ensures ∙ c.in-Some.is) in
+    sym c.read_prev.ensures ∙ ap (option_map number) c.in-Some.is in
     let a = c.requires.gathering.have.are in
     let b = c.back.invariant _ _ a in
     let w = walk_before number c.args.placed _ _ c.args.arena.now a _ _ _ b c.requires.behind
     (number c.in-Some.prev) comes in
-    record { led = (a.to (number c.in-Some.prev), w.led) }
+    (a.to (number c.in-Some.prev), w.led)
 
 pub back-preserved : goal.back-preserved
 back-preserved g c =
     let number = g.P.Inx.PtrInxCore.number in
     let comes : prev_at (ends_in number c.args.arena.now) (number c.back.at)
     ≡ Some (number c.in-Some.prev) =
-    prev_found number c.args.arena.now _ _ c.get_inx_unwrap.ensures
-    ∙ ap (option_map number) (sym c.prev.ensures ∙ c.in-Some.is) in
+    sym c.read_prev.ensures ∙ ap (option_map number) c.in-Some.is in
     let other : number c.led_to-before.result ≢ number c.args.k =
     λ same. true≢false (sym (c.is_one.ensures.1 same) ∙ c.if-is_one.false) in
     λ old laid a.
@@ -64,8 +61,7 @@ returns-then-is_one g c =
     let number = g.P.Inx.PtrInxCore.number in
     let comes : prev_at (ends_in number c.args.arena.now) (number c.back.at)
     ≡ Some (number c.in-Some.prev) =
-    prev_found number c.args.arena.now _ _ c.get_inx_unwrap.ensures
-    ∙ ap (option_map number) (sym c.prev.ensures ∙ c.in-Some.is) in
+    sym c.read_prev.ensures ∙ ap (option_map number) c.in-Some.is in
     let same : number c.led_to-before.result ≡ number c.args.k =
     c.is_one.ensures.0 c.if-is_one.true in
     λ old laid a.
@@ -81,7 +77,6 @@ pub returns-in-None : goal.returns-in-None
 returns-in-None g c =
     let number = g.P.Inx.PtrInxCore.number in
     let gone : prev_at (ends_in number c.args.arena.now) (number c.back.at) ≡ None =
-    prev_found number c.args.arena.now _ _ c.get_inx_unwrap.ensures
-    ∙ ap (option_map number) (sym c.prev.ensures ∙ c.in-None.is) in
+    sym c.read_prev.ensures ∙ ap (option_map number) c.in-None.is in
     λ old laid a. start_line number c.args.placed old laid c.args.arena.now a _ _ _
     (c.back.invariant old laid a) c.requires.behind gone

@@ -115,8 +115,8 @@ link_done g c =
     (λ j leads other fits. c.next_place-next.ensures.on j leads other
     (omega (arith, fits, c.capacity.ensures.bounded)))
 
-pub behind-place-requires : goal.behind-place-requires
-behind-place-requires g c =
+pub behind-place-requires-clause-fits : goal.behind-place-requires-clause-fits
+behind-place-requires-clause-fits g c =
     let fits =
     way_fits g.Q.PtrCore.index g.Q.PtrCore.generation g.P.PtrCore.index g.P.PtrCore.generation
     g.Q.Inx.PtrInxCore.number g.P.Inx.PtrInxCore.number (goal.F-step g) c.args.map

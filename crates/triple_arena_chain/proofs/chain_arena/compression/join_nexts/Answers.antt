@@ -1,4 +1,4 @@
-use Rattle.std.proofs.Common.{◌≡◌, ◌≤◌, Some, IsSome, option_map, sym, ap, subst, ◌∙◌}
+use Rattle.std.proofs.Common.{◌≡◌, ◌≤◌, Some, IsSome, option_map, sym, subst, ◌∙◌}
 use Rattle.triple_arena.specs.Content.{entry_at}
 use Rattle.triple_arena.specs.Walk.{past}
 use Rattle.triple_arena_chain.specs.Chains.{next_at}
@@ -6,7 +6,6 @@ use Rattle.triple_arena_chain.specs.Links.{ends_in}
 use Rattle.triple_arena.specs.WalkLaws.{passed_by}
 use Rattle.triple_arena_chain.proofs.PassLemmas.{found_live, IsJoined, unchanged, live_as}
 use Rattle.triple_arena_chain.proofs.PassLemmas.{joined_none, next_live, joined_one}
-use Rattle.triple_arena_chain.proofs.SwappedLinkLemmas.{next_found}
 use Rattle.triple_arena_chain.proofs.chain_arena.compression.join_nexts.Goals as goal
 
 pub loop-p-init : goal.loop-p-init
@@ -18,29 +17,18 @@ loop-p-init g c =
           c.advancer-advancer.ensures.low c.requires.alone c.requires.formed;
     }
 
-pub get_inx_unwrap-requires : goal.get_inx_unwrap-requires
-get_inx_unwrap-requires g c =
+pub read_next-next-requires-clause-live : goal.read_next-next-requires-clause-live
+read_next-next-requires-clause-live g c =
     subst (λ k. IsSome (entry_at c.loop-p.arena k)) (sym c.inx-i.ensures)
     (found_live (entry_at c.loop-p.arena) _ _ (c.in-Some.ensures).given.0.live)
 
 pub set_prev-requires-clause-live : goal.set_prev-requires-clause-live
 set_prev-requires-clause-live g c =
-    let next_is : option_map g.P.Inx.PtrInxCore.number c.next-next.result
-    ≡ next_at (ends_in g.P.Inx.PtrInxCore.number c.loop-p.arena)
-    (g.P.Inx.PtrInxCore.number c.inx-i.result) =
-    ap (option_map g.P.Inx.PtrInxCore.number) c.next-next.ensures
-    ∙ sym (next_found g.P.Inx.PtrInxCore.number c.loop-p.arena _ _ c.get_inx_unwrap.ensures) in
     next_live g.P.Inx.PtrInxCore.number c.args.arena.now c.loop-p.advancer.low c.loop-p.arena
-    c.next-next.result _ c.loop-p.invariant.joined c.requires.live
-    next_is
+    c.read_next-next.result _ c.loop-p.invariant.joined c.requires.live c.read_next-next.ensures
 
 pub loop-p-preserved : goal.loop-p-preserved
 loop-p-preserved g c =
-    let next_is : option_map g.P.Inx.PtrInxCore.number c.next-next.result
-    ≡ next_at (ends_in g.P.Inx.PtrInxCore.number c.loop-p.arena)
-    (g.P.Inx.PtrInxCore.number c.inx-i.result) =
-    ap (option_map g.P.Inx.PtrInxCore.number) c.next-next.ensures
-    ∙ sym (next_found g.P.Inx.PtrInxCore.number c.loop-p.arena _ _ c.get_inx_unwrap.ensures) in
     let after : c.advance.new.self ≡ past c.loop-p.advancer (g.P.PtrCore.index c.in-Some.p) =
     (c.in-Some.ensures).given.1 in
     let rises = c.loop-p.invariant.rises in
@@ -48,7 +36,7 @@ loop-p-preserved g c =
     after in
     let same =
     live_as c.loop-p.arena c.set_prev.new.arena
-    (unchanged g.P.Inx.PtrInxCore.number c.loop-p.arena c.set_prev.new.arena c.next-next.result
+    (unchanged g.P.Inx.PtrInxCore.number c.loop-p.arena c.set_prev.new.arena c.read_next-next.result
     (Some c.inx-i.result) c.set_prev.ensures) in
     record {
       rises = next.rises;
@@ -61,12 +49,12 @@ loop-p-preserved g c =
           c.set_prev.new.arena c.loop-p.advancer
           (g.P.PtrCore.index c.in-Some.p) (g.P.PtrCore.generation c.in-Some.p) c.inx-i.result
           c.loop-p.invariant.joined rises (c.in-Some.ensures).given.0
-          c.inx-i.ensures c.next-next.result
-          (subst (λ n. option_map g.P.Inx.PtrInxCore.number c.next-next.result
+          c.inx-i.ensures c.read_next-next.result
+          (subst (λ n. option_map g.P.Inx.PtrInxCore.number c.read_next-next.result
           ≡ next_at (ends_in g.P.Inx.PtrInxCore.number c.loop-p.arena) n) c.inx-i.ensures
-          next_is)
+          c.read_next-next.ensures)
           (next_live g.P.Inx.PtrInxCore.number c.args.arena.now c.loop-p.advancer.low c.loop-p.arena
-          c.next-next.result _ c.loop-p.invariant.joined
-          c.requires.live next_is)
+          c.read_next-next.result _ c.loop-p.invariant.joined
+          c.requires.live c.read_next-next.ensures)
           c.set_prev.ensures);
     }
