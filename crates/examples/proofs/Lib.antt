@@ -4,4 +4,3 @@ pub mod MoveLemmas
 pub mod PlaylistLemmas
 pub mod ReversalLemmas
 pub mod SceneLemmas
-pub mod SideTableLemmas

@@ -3,4 +3,3 @@ pub mod Follow
 pub mod Playlists
 pub mod Scene
 pub mod Scheduler
-pub mod SideTable

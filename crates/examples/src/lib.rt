@@ -1,5 +1,5 @@
 //! Examples of what arenas and chain arenas are for, each a page to copy from. Those of ordered
-//! arenas are in `ord_examples`.
+//! arenas are in `ord_examples`, and tables beside an arena in `side_table`.
 //!
 //! - [`Scheduler`]: tasks named by pointers, where a task that was cancelled is never found again.
 //! - [`Scene`]: nodes that name their parents by numbers, which a compression does not change.
@@ -7,8 +7,6 @@
 //!   compression, which the scene stands on.
 //! - [`tidy`]: a document whose nodes name one another by pointers, which is compressed and keeps
 //!   its names.
-//! - [`put_beside`], [`follow_compression`], [`compress_beside`]: a table of values beside the
-//!   pointers of an arena, which follows them through a compression.
 //! - [`number_paragraphs`]: a document whose sections are lists of paragraphs, which get successive
 //!   numbers.
 //! - [`add_after`], [`move_after`], [`reverse_pair`], [`play_from`]: playlists, which are lists in
@@ -21,7 +19,6 @@ mod playlist;
 mod scene;
 mod scheduler;
 mod sections;
-mod side_table;
 
 pub use document::tidy;
 pub use follow::{Moved, compress_and_follow, compress_with_table};
@@ -29,4 +26,3 @@ pub use playlist::{add_after, move_after, play_from, reverse_pair};
 pub use scene::{Node, Scene};
 pub use scheduler::{Scheduler, Task};
 pub use sections::number_paragraphs;
-pub use side_table::{compress_beside, follow_compression, put_beside};

@@ -1,7 +1,7 @@
 use Rattle.std.specs.Prelude.{◌≡◌, ℕ, ◌+◌, ◌-◌, ◌≤◌, false, IsSome}
 use Rattle.triple_arena.specs.DirectContent.{entry_at, IsWellFormed}
-use Rattle.examples.proofs.SideTableLemmas.{IsCarriedTo}
-use Rattle.examples.proofs.side_table.follow_compression.Given as goal
+use Rattle.side_table.proofs.SideTableLemmas.{IsCarriedTo}
+use Rattle.side_table.proofs.following.follow_compression.Given as goal
 
 -- the values at the indexes that are passed are carried over, and the others are as they were
 abbrev pub invariant-loop-old : goal.invariant-loop-old

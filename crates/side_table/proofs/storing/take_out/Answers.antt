@@ -2,9 +2,9 @@ use Rattle.std.proofs.Common.{◌∙◌, subst, ap}
 use Rattle.std.specs.Option.{option_map}
 use Rattle.triple_arena.specs.DirectContent.{entry_at}
 use Rattle.triple_arena_ptr.specs.InvalidationResult.{answer_of}
-use Rattle.examples.specs.SideTable.{IsTaken}
-use Rattle.examples.proofs.SideTableLemmas.{taken, value_taken}
-use Rattle.examples.proofs.side_table.take_out.Goals as goal
+use Rattle.side_table.specs.SideTable.{IsTaken}
+use Rattle.side_table.proofs.SideTableLemmas.{taken, value_taken}
+use Rattle.side_table.proofs.storing.take_out.Goals as goal
 
 pub returns-clause-taken : goal.returns-clause-taken
 returns-clause-taken g c =

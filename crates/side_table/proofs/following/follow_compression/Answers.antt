@@ -1,9 +1,9 @@
 use Rattle.std.proofs.Common.{◌≤◌, ◌∙◌, sym, subst, arith, refl}
 use Rattle.triple_arena.specs.DirectContent.{entry_at}
 use Rattle.triple_arena.specs.WalkLaws.{step_is, end_all}
-use Rattle.examples.proofs.SideTableLemmas.{IsCarriedTo, none_carried, carried_on, reaches_on}
-use Rattle.examples.proofs.SideTableLemmas.{all_carried}
-use Rattle.examples.proofs.side_table.follow_compression.Goals as goal
+use Rattle.side_table.proofs.SideTableLemmas.{IsCarriedTo, none_carried, carried_on, reaches_on}
+use Rattle.side_table.proofs.SideTableLemmas.{all_carried}
+use Rattle.side_table.proofs.following.follow_compression.Goals as goal
 
 pub loop-old-init : goal.loop-old-init
 loop-old-init g c =
@@ -49,4 +49,5 @@ returns-clause-carried g c =
     let now = entry_at c.loop-old.table in
     all_carried g.P.PtrCore.index g.P.PtrCore.generation (entry_at c.args.map.now)
     (entry_at c.args.table.now) c.loop-old.walk.low now c.requires.down inv.carried
-    (end_all now c.loop-old.walk c.advance.new.self inv.rises inv.reaches c.in_default.ensures.given)
+    (end_all now c.loop-old.walk c.advance.new.self inv.rises inv.reaches
+    c.in_default.ensures.given)

@@ -1,6 +1,6 @@
 use Rattle.std.proofs.Common.{◌∙◌}
-use Rattle.examples.proofs.SideTableLemmas.{put_over, place_taken}
-use Rattle.examples.proofs.side_table.put.Goals as goal
+use Rattle.side_table.proofs.SideTableLemmas.{put_over, place_taken}
+use Rattle.side_table.proofs.storing.put.Goals as goal
 
 pub store-requires-clause-place : goal.store-requires-clause-place
 store-requires-clause-place g c =

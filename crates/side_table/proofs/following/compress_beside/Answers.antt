@@ -3,22 +3,19 @@ use Rattle.triple_arena.specs.Content.{get}
 use Rattle.triple_arena.specs.DirectContent.{entry_at, live_entries as entries_of}
 use Rattle.triple_arena.specs.DirectContent.{get as get_of}
 use Rattle.triple_arena.specs.LiveEntries.{live_entries}
-use Rattle.examples.proofs.SideTableLemmas.{of_compression, never_up, rising, follows, beside_kept}
-use Rattle.examples.proofs.SideTableLemmas.{beside_valid, new_valid}
-use Rattle.examples.proofs.side_table.compress_beside.Goals as goal
+use Rattle.side_table.specs.CompressionLaws.{of_compression, rises, never_goes_up, follows}
+use Rattle.side_table.specs.CompressionLaws.{new_valid}
+use Rattle.side_table.proofs.SideTableLemmas.{beside_kept, beside_valid}
+use Rattle.side_table.proofs.following.compress_beside.Goals as goal
 
 pub follow_compression-requires : goal.follow_compression-requires
 follow_compression-requires g c =
+    let e = c.in_ok-map.ensures in
     let old = c.args.arena.now in
     let new = c.compress_recaster.new.arena in
-    let map = c.in_ok-map.map in
-    let index = g.P.PtrCore.index in
-    let generation = g.P.PtrCore.generation in
-    let told = of_compression old new map c.in_ok-map.ensures.recaster
-    c.in_ok-map.ensures.compressed.compact in
     record {
-      rises = rising index generation (entry_at map) (entries_of map) (live_entries new) told;
-      down = never_up index generation (entry_at map) (entries_of map) (live_entries new) told;
+      rises = rises old new c.in_ok-map.map e.recaster e.compressed.compact;
+      down = never_goes_up old new c.in_ok-map.map e.recaster e.compressed.compact;
     }
 
 pub returns-clause-beside : goal.returns-clause-beside
@@ -35,7 +32,7 @@ returns-clause-beside g c =
     beside_kept index generation (entries_of map) (live_entries old) (live_entries new)
     (get_of before) (get_of after) r.from r.to
     (λ k i h q at. follows index generation (entry_at map) (entry_at before) (entry_at after)
-    (rising index generation (entry_at map) (entries_of map) (live_entries new) told)
+    (rises old new map r c.in_ok-map.ensures.compressed.compact)
     c.follow_compression.ensures.carried i h q (told.found k i h q at))
 
 pub returns-clause-only : goal.returns-clause-only

@@ -1,8 +1,8 @@
 use Rattle.std.proofs.Common.{◌≤◌, sym, subst}
 use Rattle.triple_arena.specs.DirectContent.{entry_at}
 use Rattle.triple_arena_ptr.specs.InvalidationResult.{answer_of}
-use Rattle.examples.proofs.SideTableLemmas.{fits_still}
-use Rattle.examples.proofs.side_table.follow_one.Goals as goal
+use Rattle.side_table.proofs.SideTableLemmas.{fits_still}
+use Rattle.side_table.proofs.following.follow_one.Goals as goal
 
 pub put-requires-clause-fits : goal.put-requires-clause-fits
 put-requires-clause-fits g c =

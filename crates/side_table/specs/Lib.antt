@@ -1,0 +1,2 @@
+pub mod CompressionLaws
+pub mod SideTable

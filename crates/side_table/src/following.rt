@@ -1,0 +1,116 @@
+//! Tables that follow an arena through a compression.
+ghost use Rattle.std.specs.Prelude.{◌≡◌, ◌≤◌, ◌↔◌, ℕ, IsOk, IsSome, IfSome, OnOk, OnErr, IsErrOf};
+ghost use Rattle.std.specs.Prelude.{IsTrue, Some, ⊤};
+ghost use Rattle.triple_arena_stack.specs.Room.{capacity, IsBeyond};
+ghost use Rattle.triple_arena.specs.ArenaRoom.{room_of};
+ghost use Rattle.triple_arena.specs.Changes.{IsCompressed};
+ghost use Rattle.triple_arena.specs.Compression.{live_values};
+ghost use Rattle.triple_arena.specs.Content.{entry_at as arena_at, get, live_count, some_counter};
+ghost use Rattle.triple_arena.specs.Content.{last_index, IsWellFormed as IsArenaFormed};
+ghost use Rattle.triple_arena.specs.DirectContent.{entry_at, IsWellFormed};
+ghost use Rattle.triple_arena.specs.Entries.{value_if};
+ghost use Rattle.triple_arena.specs.LiveEntries.{live_entries};
+ghost use Rattle.side_table.specs.SideTable.{Rises, NeverGoesUp, IsCarried, with_moved, beside};
+
+use crate::storing::put;
+use triple_arena::{
+    Advancer, Arena, ArenaSlots, ArenaTrait, DirectArena, DirectSlots, PtrCore, ReallocationError,
+    compress_recaster,
+};
+
+// Moves the value under `old`, if there is one, to the pointer that `map` has for `old`. If the map
+// has none, the value is dropped.
+fn follow_one<P, T, S, R>(table: &mut DirectArena<P, T, S>, map: &DirectArena<P, P, R>, old: P)
+where
+    P: PtrCore,
+    T: Drop,
+    S: DirectSlots<P, T>,
+    R: DirectSlots<P, P>,
+    requires down { NeverGoesUp P.index (entry_at map.now) }
+    requires no_more { ⊤ }
+    ensures entries { (j : ℕ) → entry_at table.new j
+        ≡ with_moved P.index P.generation (entry_at table.old) (P.index old)
+        (value_if (P.generation old) (entry_at table.old (P.index old)))
+        (value_if (P.generation old) (entry_at map.now (P.index old))) j }
+    ensures room { table.new.room ≡ table.old.room }
+    ensures formed { IsWellFormed table.new }
+{
+    // Each live index is within the capacity.
+    let _ = table.capacity();
+    if let Some(value) = table.remove(old).allow() {
+        if let Some(new) = map.get(old) {
+            let _ = put(table, *new, value);
+        }
+    }
+}
+
+/// Moves each value of `table`, in place, to the pointer that `map` has for its old one. If the map
+/// has none, the value is dropped: the entry that it stood beside had ended.
+///
+/// `map` is what a compression of the other arena returns. Such a map keeps the order of the
+/// indexes and gives no greater one, so the call takes no memory and cannot fail.
+pub fn follow_compression<P, T, S, R>(table: &mut DirectArena<P, T, S>, map: &DirectArena<P, P, R>)
+where
+    P: PtrCore,
+    T: Drop,
+    S: DirectSlots<P, T>,
+    R: DirectSlots<P, P>,
+    requires rises { Rises P.index (entry_at map.now) }
+    requires down { NeverGoesUp P.index (entry_at map.now) }
+    ensures carried { (j h : ℕ) (t : T) → (entry_at table.new j ≡ Some (h, t))
+        ↔ IsCarried P.index P.generation (entry_at map.now) (entry_at table.old) j h t }
+    ensures room { table.new.room ≡ table.old.room }
+    ensures formed { IsWellFormed table.new }
+{
+    // The table is well-formed before.
+    let _ = table.len();
+    let mut walk = table.advancer();
+    while let Some(old) = walk.advance(table) {
+        follow_one(table, map, old);
+    }
+}
+
+/// Moves the entries of `arena` to the first indexes, as `compress` does, and has `table` follow:
+/// beside each entry stands what stood beside it before. A value beside no entry is dropped.
+///
+/// The memory for the new pointers is taken from `alloc` before, for as many slots as the last live
+/// index says. It returns `BeyondMaxCapacity` if there can't be so many, and `AllocError` if the
+/// memory was refused. An error leaves the arena and the table as they were.
+pub fn compress_beside<P, T, U, S, R, M>(
+    arena: &mut Arena<P, T, S>,
+    table: &mut DirectArena<P, U, R>,
+    reset: bool,
+    alloc: M::Alloc,
+) -> Result<(), ReallocationError>
+where
+    P: PtrCore,
+    T: Drop,
+    U: Drop,
+    S: ArenaSlots<P, T>,
+    R: DirectSlots<P, U>,
+    M: DirectSlots<P, P>,
+    ensures beside { OnOk result (beside table.new (live_entries arena.new)
+        ≡ beside table.old (live_entries arena.old)) }
+    ensures only { OnOk result ((j : ℕ) → IfSome (entry_at table.new j)
+        (λ e. IsSome (get arena.new j e.0))) }
+    ensures values { OnOk result (live_values arena.new ≡ live_values arena.old) }
+    ensures compressed { OnOk result (IsCompressed arena_at live_count some_counter (λ c. c.room)
+        P.Gen.last live_entries reset arena.old arena.new) }
+    ensures room { table.new.room ≡ table.old.room }
+    ensures arena_formed { OnOk result (IsArenaFormed arena.new) }
+    ensures formed { OnOk result (IsWellFormed table.new) }
+
+    // No memory is asked for if new pointers have the room already.
+    ensures succeeds { last_index arena.old ≤ capacity (room_of P.Inx.greatest (M.room_at 0))
+        → IsOk result }
+    ensures beyond { IsErrOf result ReallocationError.BeyondMaxCapacity
+        ↔ IsBeyond (room_of P.Inx.greatest (M.room_at (last_index arena.old))).limit
+        (last_index arena.old) }
+    ensures memory { IsErrOf result ReallocationError.AllocError → IsTrue M.takes_memory }
+    ensures err { OnErr result (arena.new ≡ arena.old) }
+    ensures table_err { OnErr result (table.new ≡ table.old) }
+{
+    let map = compress_recaster::<P, T, S, M>(arena, reset, alloc)?;
+    follow_compression(table, &map);
+    Ok(())
+}
