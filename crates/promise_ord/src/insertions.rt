@@ -79,7 +79,7 @@ pub fn insert_inx_manual_within_capacity<P: PtrCore, T: Drop, S: OrdSlots<P, T>>
     p
 }
 
-/// A place for one item more, where the kind says.
+/// Room for one item more, where the kind says.
 pub fn entry_insert_within_capacity<'a, P: PtrCore, T: SimpleOrdItem + Drop, S: OrdSlots<P, T>>(
     arena: &'a mut SimpleOrdArena<P, T, S>,
     kind: OrdInsertKind<P, &T::Key>,

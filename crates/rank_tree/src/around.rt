@@ -8,6 +8,8 @@ use crate::{Knots, side_of};
 use triple_arena_ptr::PtrCore;
 use unreached::unreached;
 
+// A node `low` with its parent `high`: `outer` and `inner` are the children of `low`, `far` is its
+// sibling.
 #[derive(Clone, Copy, Drop)]
 pub(crate) struct Around<I> {
     pub(crate) high: I,
@@ -19,7 +21,7 @@ pub(crate) struct Around<I> {
     pub(crate) far_rank: u8,
 }
 
-/// A node that has a parent: `outer` and `inner` are its children, `far` is its sibling.
+// Reads what stands round `low`, which has a parent.
 pub(crate) fn look_around<N, P: PtrCore, K: Knots<N, P>>(knots: &K, low: P::Inx) -> Around<P::Inx>
     requires spot { (root : Option ℕ) × Spot (K.knots knots.now) root (P.Inx.number low) }
     requires no_more { ⊤ }

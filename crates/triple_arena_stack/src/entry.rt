@@ -1,4 +1,4 @@
-//! A place for one item more, which tells its index before the item is there.
+//! Room for one item more, which tells its index before the item is there.
 ghost use Rattle.std.specs.Prelude.{◌≡◌, ℕ, ◌+◌, ◌<◌, ◌↔◌, length, IsOk, IfOk};
 ghost use Rattle.std.specs.Borrow.{sem, RestsIfErr};
 ghost use Rattle.std.specs.Int.NonZero.{non_zero_usize_get};
@@ -14,7 +14,7 @@ use triple_arena_ptr::{NotWithinCapacityError, ReallocationError};
 
 /// The calls of a stack that answer an entry. Each stack has them.
 pub trait NonZeroInxGenericStackEntries: NonZeroInxGenericStack {
-    /// A place for one item more. If all slots are taken, the stack stays as it is.
+    /// Room for one item more. If all slots are taken, the stack stays as it is.
     fn entry_push_within_capacity(
         &mut self,
     ) -> Result<NonZeroInxGenericStackPushEntry<'_, Self::Item, Self>, NotWithinCapacityError>
@@ -25,7 +25,7 @@ pub trait NonZeroInxGenericStackEntries: NonZeroInxGenericStack {
         ensures* err { sem 𝓛 (RestsIfErr Self.row self.entry entry_lender result
             (λ s. s ≡ self.old)) };
 
-    /// A place for one item more. If all slots are taken, the stack grows, and returns the
+    /// Room for one item more. If all slots are taken, the stack grows, and returns the
     /// errors, as `push_reallocating` does. An error leaves the stack as it was.
     fn entry_push_reallocating(
         &mut self,
@@ -51,7 +51,7 @@ pub trait NonZeroInxGenericStackEntries: NonZeroInxGenericStack {
             (λ s. s ≡ self.old)) };
 }
 
-/// What a place for one item more does.
+/// What room for one item more does.
 pub trait NonZeroInxGenericStackPushEntryTrait<T> {
     // The index that the item gets.
     ghost index: { Self → ℕ };
@@ -70,7 +70,7 @@ pub trait NonZeroInxGenericStackPushEntryTrait<T> {
         ensures { non_zero_usize_get result ≡ index self };
 }
 
-/// A place for one item more in a stack `S`. Dropped unused, it leaves the stack as it is.
+/// Room for one item more in a stack `S`. Dropped unused, it leaves the stack as it is.
 #[derive(Drop)]
 pub struct NonZeroInxGenericStackPushEntry<'a, T, S> {
     stack: &'a mut S,

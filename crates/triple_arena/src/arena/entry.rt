@@ -1,4 +1,4 @@
-//! A place for one entry more, which tells its pointer before the value is there.
+//! Room for one entry more, which tells its pointer before the value is there.
 ghost use Rattle.std.specs.Prelude.{◌≡◌, ℕ, ◌<◌, ◌↔◌, Some, IsOk, IfOk, IsErrOf};
 ghost use Rattle.std.specs.Borrow.{sem, RestsIfErr};
 ghost use Rattle.triple_arena_stack.specs.Push.{IsRefusal};
@@ -11,7 +11,7 @@ ghost use Rattle.triple_arena.specs.Content.{IsWellFormed};
 use crate::{Arena, ArenaSlots};
 use triple_arena_ptr::{NotWithinCapacityError, PtrCore, ReallocationError};
 
-/// What a place for one entry more does.
+/// What room for one entry more does.
 pub trait ArenaInsertEntryTrait<P: PtrCore, T> {
     // The index that the entry gets, and its generation.
     ghost index: { Self → ℕ };
@@ -34,7 +34,7 @@ pub trait ArenaInsertEntryTrait<P: PtrCore, T> {
         ensures generation { P.generation result ≡ generation self };
 }
 
-/// A place for one entry more in an `Arena`. Dropped unused, it leaves the arena as it is.
+/// Room for one entry more in an `Arena`. Dropped unused, it leaves the arena as it is.
 #[derive(Drop)]
 pub struct ArenaInsertEntry<'a, P: PtrCore, T: Drop, S: ArenaSlots<P, T>> {
     arena: &'a mut Arena<P, T, S>,
@@ -76,7 +76,7 @@ pub trait ArenaInsertEntries<P: PtrCore, T: Drop> {
     // The arena as its entries see it.
     ghost content: { Self → Content T };
 
-    /// A place for one entry more. If there is no room, it returns `NotWithinCapacityError`, and
+    /// Room for one entry more. If there is no room, it returns `NotWithinCapacityError`, and
     /// the arena stays as it is.
     fn entry_insert_within_capacity(
         &mut self,
@@ -88,7 +88,7 @@ pub trait ArenaInsertEntries<P: PtrCore, T: Drop> {
         ensures* err { sem 𝓛 (RestsIfErr Self.row self.entry entry_lender result
             (λ a. a ≡ self.old)) };
 
-    /// A place for one entry more. If there is no room, the arena grows, and returns the errors, as
+    /// Room for one entry more. If there is no room, the arena grows, and returns the errors, as
     /// `insert_reallocating` does. An error leaves the arena as it was.
     fn entry_insert_reallocating(
         &mut self,

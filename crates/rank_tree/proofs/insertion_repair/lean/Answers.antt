@@ -77,7 +77,8 @@ overflow_add-rank_at g c =
     let h = c.requires.leaning.1 in
     omega (arith, h, h.fits, read g (goal.at.overflow_add-rank_at g c).After-rank_at _ h)
 
-pub unreached-unreachable-requires-in_default-inner : goal.unreached-unreachable-requires-in_default-inner
+pub unreached-unreachable-requires-in_default-inner :
+    goal.unreached-unreachable-requires-in_default-inner
 unreached-unreachable-requires-in_default-inner g c =
     let h = c.requires.leaning.1 in
     let r = read g (goal.at.unreached-unreachable-requires-in_default-inner g c).After-rank_at _ h
@@ -100,7 +101,8 @@ overflow_sub-rank-else-rank_at-rank-2 g c =
     let h = c.requires.leaning.1 in
     omega (arith, h, read g (goal.at.overflow_sub-rank-else-rank_at-rank-2 g c).After-rank_at _ h)
 
-pub turn-requires-else-rank_at-rank-2-clause-spot : goal.turn-requires-else-rank_at-rank-2-clause-spot
+pub turn-requires-else-rank_at-rank-2-clause-spot :
+    goal.turn-requires-else-rank_at-rank-2-clause-spot
 turn-requires-else-rank_at-rank-2-clause-spot g c =
     let one = twice g (goal.at.turn-requires-else-rank_at-rank-2-clause-spot g c).In-Some-inner _
     c.requires.leaning.1 in
