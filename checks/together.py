@@ -176,9 +176,12 @@ def attempt(crate, batch):
     told = [it for it in told if "not proved" in it[2] or it[2].startswith("error")]
     is_read = any(it.startswith("logic=not-proved") for it in lines)
     if len(batch) == 1:
-        if is_read:
-            return [tell(batch[0], *(verdict(told) if told else ["refused with no goal told"]))]
-        why = next((it for it in lines if ": error" in it), lines[-1])
+        missed = next((it for it in lines if "does not cover this function" in it), None)
+        if is_read and told and not missed:
+            return [tell(batch[0], *verdict(told))]
+        if is_read and not missed:
+            return [tell(batch[0], "refused with no goal told")]
+        why = missed or next((it for it in lines if ": error" in it), lines[-1])
         return [tell(batch[0], "NO VERDICT", why)]
     ends = []
     for edit in batch:

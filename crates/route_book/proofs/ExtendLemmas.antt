@@ -105,7 +105,8 @@ module _ {I : Type 0} (number : I → ℕ) (rooms : Rooms) (last : ℕ) (s : Sta
       (placed : IfSome (after_link i (ends_found number stops i g))
       (λ gap. IsLinkInserted number gap n h w stops stops'))
       (same_room : stops'.room ≡ stops.room) where
-    put : IsLinkInserted number (Between (Some i) (next_at (ends_in number stops) i)) n h w stops stops'
+    put : IsLinkInserted number (Between (Some i) (next_at (ends_in number stops) i)) n h w
+        stops stops'
     put = subst (λ o. IfSome o (λ (gap : Gap ℕ). IsLinkInserted number gap n h w stops stops'))
         (behind_is number stops i g v own_at) placed
 

@@ -20,6 +20,9 @@
 //! lent arena that a caller kept finds another item after a pack, or none.
 #![tactic(auto)]
 
+// A private function's clause `no_more` asks nothing. It stands where a `requires` would be alone,
+// whose answers take far longer to state.
+
 mod answer;
 mod backing;
 mod book;

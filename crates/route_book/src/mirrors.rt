@@ -1,5 +1,5 @@
 //! Mirrors, which lead from old pointers to new ones: how a pack fills them by tickets.
-ghost use Rattle.std.specs.Prelude.{◌≡◌, ℕ, ◌+◌, ◌<◌, IsSome, Some};
+ghost use Rattle.std.specs.Prelude.{◌≡◌, ℕ, ◌+◌, ◌<◌, IsSome, Some, ⊤};
 ghost use Rattle.triple_arena.specs.Content.{entry_at as mark_at};
 ghost use Rattle.triple_arena.specs.DirectContent.{entry_at, arena_capacity, IsPlace};
 ghost use Rattle.triple_arena.specs.Entries.{generation_at, with_entry};
@@ -56,7 +56,8 @@ impl<P: PtrCore> Ticketed for Mark<P> {
 
 // One pointer more in a mirror, under a pointer whose index is free there.
 fn put<P: PtrCore, S: DirectSlots<P, P>>(mirror: &mut DirectArena<P, P, S>, from: P, to: P)
-    requires { IsPlace mirror.old (P.index from) }
+    requires vacant { IsPlace mirror.old (P.index from) }
+    requires no_more { ⊤ }
     ensures entries { (j : ℕ) → entry_at mirror.new j
         ≡ with_entry (entry_at mirror.old) (P.index from) (P.generation from, to) j }
     ensures room { mirror.new.room ≡ mirror.old.room }
@@ -124,8 +125,9 @@ pub(crate) fn mirror_places<
     B: OrdSlots<P, Entry<P>>,
     R: DirectSlots<P, P>,
 >(places: &SimpleOrdArena<P, Place, S>, book: &TicketBook<P, B>, mirror: &mut DirectArena<P, P, R>)
-    requires { IsBooked (λ (x : PlaceView). x.ticket) book.now.entries (entry_in places.now)
+    requires booked { IsBooked (λ (x : PlaceView). x.ticket) book.now.entries (entry_in places.now)
         (arena_capacity mirror.old) }
+    requires no_more { ⊤ }
     ensures mirrored { (low : ℕ) → ((k : ℕ) → IsSome (entry_in places.now k) → k < low)
         → IsMirrored (λ (x : PlaceView). x.ticket) book.now.entries (entry_in places.now) low
         (numbers P.index P.generation (entry_at mirror.new)) }
@@ -141,8 +143,9 @@ pub(crate) fn mirror_stops<
     B: OrdSlots<P, Entry<P>>,
     R: DirectSlots<P, P>,
 >(stops: &ChainArena<P, Stop<P>, S>, book: &TicketBook<P, B>, mirror: &mut DirectArena<P, P, R>)
-    requires { IsBooked (λ (x : StopView). x.ticket) book.now.entries (values_in stops.now)
+    requires booked { IsBooked (λ (x : StopView). x.ticket) book.now.entries (values_in stops.now)
         (arena_capacity mirror.old) }
+    requires no_more { ⊤ }
     ensures mirrored { (low : ℕ) → ((k : ℕ) → IsSome (values_in stops.now k) → k < low)
         → IsMirrored (λ (x : StopView). x.ticket) book.now.entries (values_in stops.now) low
         (numbers P.index P.generation (entry_at mirror.new)) }
@@ -158,8 +161,9 @@ pub(crate) fn mirror_marks<
     B: OrdSlots<P, Entry<P>>,
     R: DirectSlots<P, P>,
 >(marks: &Arena<P, Mark<P>, S>, book: &TicketBook<P, B>, mirror: &mut DirectArena<P, P, R>)
-    requires { IsBooked (λ (x : MarkView). x.ticket) book.now.entries (mark_at marks.now)
+    requires booked { IsBooked (λ (x : MarkView). x.ticket) book.now.entries (mark_at marks.now)
         (arena_capacity mirror.old) }
+    requires no_more { ⊤ }
     ensures mirrored { (low : ℕ) → ((k : ℕ) → IsSome (mark_at marks.now k) → k < low)
         → IsMirrored (λ (x : MarkView). x.ticket) book.now.entries (mark_at marks.now) low
         (numbers P.index P.generation (entry_at mirror.new)) }

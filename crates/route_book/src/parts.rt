@@ -1,5 +1,5 @@
 //! The parts of a new store. Each has a function of its own, which knows of no other part.
-ghost use Rattle.std.specs.Prelude.{◌≡◌, ◌+◌, ◌<◌, ◌≤◌, None, Some, [], IfOk, IfErr, IsTrue};
+ghost use Rattle.std.specs.Prelude.{◌≡◌, ◌+◌, ◌<◌, ◌≤◌, None, Some, [], IfOk, IfErr, IsTrue, ⊤};
 ghost use Rattle.triple_arena.specs.ArenaRoom.{room_of};
 ghost use Rattle.triple_arena.specs.Content.{arena_capacity, empty};
 ghost use Rattle.triple_arena.specs.DirectContent.{empty as no_pointers};
@@ -133,7 +133,8 @@ pub(crate) fn make_book<P: PtrCore, S: OrdSlots<P, Entry<P>>>(
     memory: S::Alloc,
     room: usize,
 ) -> Result<TicketBook<P, S>, RoomError>
-    requires { IsBeyond (room_of P.Inx.greatest (S.room_at room)).limit room → ⊥ }
+    requires fits { IsBeyond (room_of P.Inx.greatest (S.room_at room)).limit room → ⊥ }
+    requires no_more { ⊤ }
     ensures empty { IfOk result (λ b. b.entries ≡ []) }
     ensures fits { IfOk result (λ b. room ≤ b.capacity) }
     ensures refused { IfErr result (λ e. (e ≡ RoomError.Memory) × IsTrue S.takes_memory

@@ -44,9 +44,13 @@ fn compress_all<
     let _ = places.capacity();
     let _ = stops.capacity();
     let _ = marks.capacity();
+
+    // The work. That a counter starts again is no error here.
     let _ = places.compress_canonical(true);
     let _ = stops.compress_canonical(true);
     let _ = marks.compress(true);
+
+    // Each live index still is within the room.
     let _ = places.capacity();
     let _ = stops.capacity();
     let _ = marks.capacity();
@@ -85,6 +89,7 @@ pub(crate) fn pack_if<P: PtrCore, B: BookBacking<P>>(
     if !needed {
         return;
     }
+    // `held` stands for the contract alone.
     let _ = held;
     entries_stand_in_the_list::<P, Place>();
     compress_all(places, stops, marks);

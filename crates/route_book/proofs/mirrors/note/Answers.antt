@@ -4,7 +4,8 @@ use Rattle.ticket_book.specs.Tickets.{lookup}
 use Rattle.route_book.proofs.NoteLemmas.{note_known, note_fits, note_vacant, note_done}
 use Rattle.route_book.proofs.mirrors.note.Goals as goal
 
-pub unreached-unreachable-requires-in_default-find_counted : goal.unreached-unreachable-requires-in_default-find_counted
+pub unreached-unreachable-requires-in_default-find_counted :
+    goal.unreached-unreachable-requires-in_default-find_counted
 unreached-unreachable-requires-in_default-find_counted g c =
     note_known g.P.PtrCore.index g.P.PtrCore.generation g.T.Ticketed.ticket_of
     c.args.book.now.entries (g.A.ArenaTrait.entry_at c.args.arena.now) c.args.p
@@ -13,8 +14,8 @@ unreached-unreachable-requires-in_default-find_counted g c =
     c.requires.booked
     (sym c.in_default-find_counted.ensures.found)
 
-pub put-requires : goal.put-requires
-put-requires g c =
+pub put-requires-clause-vacant : goal.put-requires-clause-vacant
+put-requires-clause-vacant g c =
     let found : lookup c.args.book.now.entries c.own_ticket.result ≡ Some _ =
     sym c.in-Some-find_counted.ensures.found in
     let fits = note_fits g.P.PtrCore.index g.P.PtrCore.generation g.T.Ticketed.ticket_of

@@ -41,7 +41,8 @@ returns-in-Some-clause-changes g c =
     c.in-Some.ensures.relinked in
     record {
       gives =
-          told_parted _ _ _ _ _ _ _ _ c.self.invariant.book _ c.self.view_is c.len.ensures.formed.agreed
+          told_parted _ _ _ _ _ _ _ _ c.self.invariant.book _ c.self.view_is
+          c.len.ensures.formed.agreed
           c.args.stop _ _ c.in_ok-from.ensures.found (c.in-Some.ensures.variant.0 refl);
       leaves = search rules;
       kept =
@@ -59,6 +60,7 @@ returns-in-None-clause-changes g c =
       gives = told.0;
       leaves = told.1;
       kept =
-          refused_keeps _ _ _ _ _ _ _ _ c.self.invariant.book _ c.self.view_is _ c.in-None.ensures.none;
+          refused_keeps _ _ _ _ _ _ _ _ c.self.invariant.book _ c.self.view_is _
+          c.in-None.ensures.none;
       refused = search rules;
     }

@@ -37,7 +37,8 @@ pub returns-in-Some-clause-changes : goal.returns-in-Some-clause-changes
 returns-in-Some-clause-changes g c =
     record {
       gives =
-          told_joined _ _ _ _ _ _ _ _ c.self.invariant.book _ c.self.view_is c.len.ensures.formed.agreed
+          told_joined _ _ _ _ _ _ _ _ c.self.invariant.book _ c.self.view_is
+          c.len.ensures.formed.agreed
           c.args.stop _ _ c.in_ok-from.ensures.found c.args.next _ _ c.in_ok-to.ensures.found
           (λ x y. c.stops_follow_their_previous_ones.ensures c.self.inside.held.state x y
           c.self.invariant.sound) (c.in-Some.ensures.variant.0 refl);
@@ -59,6 +60,7 @@ returns-in-None-clause-changes g c =
       gives = told.0;
       leaves = told.1;
       kept =
-          refused_keeps _ _ _ _ _ _ _ _ c.self.invariant.book _ c.self.view_is _ c.in-None.ensures.none;
+          refused_keeps _ _ _ _ _ _ _ _ c.self.invariant.book _ c.self.view_is _
+          c.in-None.ensures.none;
       refused = search rules;
     }

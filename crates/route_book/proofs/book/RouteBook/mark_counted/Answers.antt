@@ -55,7 +55,8 @@ returns-clause-changes g c =
           mark_keeps _ _ _ _ _ _ _ _ c.self.invariant.book _ c.self.view_is c.args.place _ _
           c.in_ok-at.ensures.found c.args.stop _ _ c.in_ok-by.ensures.found
           c.if-is_full_of_marks.ensures
-          _ _ _ c.new-mark.ensures.ticket c.new-mark.ensures.place c.new-mark.ensures.stop _ put.vacant
+          _ _ _ c.new-mark.ensures.ticket c.new-mark.ensures.place
+          c.new-mark.ensures.stop _ put.vacant
           put.entries _
           (some_same put.generation) (some_same put.counter) c.in-Ok.ensures.room;
       refused = tt;

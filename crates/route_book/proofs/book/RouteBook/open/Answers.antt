@@ -29,8 +29,8 @@ make_arenas-requires-clause-marks g c =
     (g.B.Marks.NonZeroInxGenericStack.room_at c.args.marks) c.args.marks
     (g.met.B.BookBacking.marks_room c.args.marks) (omega (arith, sum))
 
-pub make_book-requires : goal.make_book-requires
-make_book-requires g c =
+pub make_book-requires-clause-fits : goal.make_book-requires-clause-fits
+make_book-requires-clause-fits g c =
     let sum = c.requires.sum in
     part_fits g.P.Gen.PtrGenCore.last g.P.Inx.PtrInxCore.greatest g.B.BookBacking.limit c.args.sum
     c.requires.accepted g.B.BookBacking.room g.met.B.BookBacking.beyond

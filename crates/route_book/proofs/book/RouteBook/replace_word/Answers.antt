@@ -71,8 +71,10 @@ returns-clause-changes g c =
             stops = c.self.inside.stops;
             marks = c.self.inside.marks;
           })) c.self.view_is
-          (kept_reworded c.self.inside.held.state c.changed-self-inside.result.state c.self.inside.places
-          c.reword.new.arena c.self.inside.stops c.self.inside.marks g.P.Inx.PtrInxCore.number found.0
+          (kept_reworded c.self.inside.held.state c.changed-self-inside.result.state
+          c.self.inside.places
+          c.reword.new.arena c.self.inside.stops c.self.inside.marks g.P.Inx.PtrInxCore.number
+          found.0
           c.in-Word.word _ _ replaced);
       refused = tt;
     }

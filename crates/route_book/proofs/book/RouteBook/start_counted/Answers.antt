@@ -21,7 +21,8 @@ invariant_of-self g c =
       book = start_leaves _ _ _ s _ _ _ _ c.self.invariant.book _ c.self.view_is pt _ _
           c.in_ok-at.ensures.found c.if-is_full_of_stops.ensures.is
           c.is_full_of_stops.ensures.chained
-          _ _ _ c.new-stop.ensures.ticket c.new-stop.ensures.place _ c.in-Ok.ensures.inserts.inserted
+          _ _ _ c.new-stop.ensures.ticket c.new-stop.ensures.place _
+          c.in-Ok.ensures.inserts.inserted
           c.in-Ok.ensures.inserts.room _ _ c.changed-self-inside.ensures c.add.ensures.entries
           (λ m ok. law.next s pt m sound ok) (λ m x ok apart. law.others s pt m x sound ok apart);
       sound = subst IsSound (sym c.changed-self-inside.ensures)
@@ -41,8 +42,10 @@ returns-clause-changes g c =
       leaves = search rules;
       kept =
           start_keeps _ _ _ _ _ _ _ _ c.self.invariant.book _ c.self.view_is c.args.place _ _
-          c.in_ok-at.ensures.found c.if-is_full_of_stops.ensures.is c.is_full_of_stops.ensures.chained
-          _ _ _ c.new-stop.ensures.ticket c.new-stop.ensures.place _ c.in-Ok.ensures.inserts.inserted
+          c.in_ok-at.ensures.found c.if-is_full_of_stops.ensures.is
+          c.is_full_of_stops.ensures.chained
+          _ _ _ c.new-stop.ensures.ticket c.new-stop.ensures.place _
+          c.in-Ok.ensures.inserts.inserted
           c.in-Ok.ensures.inserts.room _;
       refused = tt;
     }

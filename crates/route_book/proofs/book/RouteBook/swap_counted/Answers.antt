@@ -44,7 +44,8 @@ returns-in-Some-clause-changes g c =
     _ (c.in-Some.ensures.variant.0 refl) c.in-Some.ensures.relinked in
     record {
       gives =
-          told_swapped _ _ _ _ _ _ _ _ c.self.invariant.book _ c.self.view_is c.len.ensures.formed.agreed
+          told_swapped _ _ _ _ _ _ _ _ c.self.invariant.book _ c.self.view_is
+          c.len.ensures.formed.agreed
           c.args.stop _ _ c.in_ok-from.ensures.found c.args.other _ _ c.in_ok-by.ensures.found
           (c.in-Some.ensures.variant.0 refl);
       leaves = search rules;
@@ -64,6 +65,7 @@ returns-in-None-clause-changes g c =
       gives = told.0;
       leaves = told.1;
       kept =
-          refused_keeps _ _ _ _ _ _ _ _ c.self.invariant.book _ c.self.view_is _ c.in-None.ensures.none;
+          refused_keeps _ _ _ _ _ _ _ _ c.self.invariant.book _ c.self.view_is _
+          c.in-None.ensures.none;
       refused = search rules;
     }

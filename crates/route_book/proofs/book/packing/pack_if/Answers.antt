@@ -10,20 +10,20 @@ use Rattle.route_book.proofs.WholeLemmas.{looks_made, places_in_order, whole_kep
 use Rattle.route_book.proofs.WholeLemmas.{whole_stop_counter, whole_stops}
 use Rattle.route_book.proofs.book.packing.pack_if.Goals as goal
 
-pub mirror_places-requires : goal.mirror_places-requires
-mirror_places-requires g c =
+pub mirror_places-requires-clause-booked : goal.mirror_places-requires-clause-booked
+mirror_places-requires-clause-booked g c =
     ready_places g.P.Inx.PtrInxCore.number g.P.Gen.PtrGenCore.last _ _ _ _ _ _ _ _ _ _
     c.requires.book c.compress_all.ensures c.entries_stand_in_the_list.ensures _ refl _
     (let same = c.requires.place_mirror in omega (arith, same))
 
-pub mirror_stops-requires : goal.mirror_stops-requires
-mirror_stops-requires g c =
+pub mirror_stops-requires-clause-booked : goal.mirror_stops-requires-clause-booked
+mirror_stops-requires-clause-booked g c =
     ready_stops g.P.Inx.PtrInxCore.number g.P.Gen.PtrGenCore.last _ _ _ _ _ _ _ _ _ _
     c.requires.book c.compress_all.ensures c.entries_stand_in_the_list.ensures _ refl _
     (let same = c.requires.stop_mirror in omega (arith, same))
 
-pub mirror_marks-requires : goal.mirror_marks-requires
-mirror_marks-requires g c =
+pub mirror_marks-requires-clause-booked : goal.mirror_marks-requires-clause-booked
+mirror_marks-requires-clause-booked g c =
     ready_marks g.P.Inx.PtrInxCore.number g.P.Gen.PtrGenCore.last _ _ _ _ _ _ _ _ _ _
     c.requires.book c.compress_all.ensures c.entries_stand_in_the_list.ensures _ refl _
     (let same = c.requires.mark_mirror in omega (arith, same))
