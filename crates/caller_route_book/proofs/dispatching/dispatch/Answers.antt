@@ -12,7 +12,8 @@ returns-clause-place g c =
     ap (λ ps. place_of ps c.in_ok-place.place)
     (places-kept c.place.new.self.state c.start.new.self.state c.extend.new.self.state
     c.in_ok-place.place c.in_ok-first.first c.in_ok-second.second
-    c.places_arena-2.ensures.sound c.places_arena-3.ensures.sound (sym c.in_ok-first.ensures.changes.gives)
+    c.places_arena-2.ensures.sound c.places_arena-3.ensures.sound
+    (sym c.in_ok-first.ensures.changes.gives)
     (sym c.in_ok-second.ensures.changes.gives) c.in_ok-first.ensures.changes.leaves
     c.in_ok-second.ensures.changes.leaves)
     ∙ place_there c.args.book.now.state c.place.new.self.state c.args.key c.args.word
@@ -24,7 +25,8 @@ returns-clause-walk g c =
     walked-new c.place.new.self.state c.start.new.self.state c.extend.new.self.state
     c.in_ok-place.place c.in_ok-first.first c.in_ok-second.second c.places_arena-2.ensures.sound
     c.places_arena-3.ensures.sound (sym c.in_ok-first.ensures.changes.gives)
-    (sym c.in_ok-second.ensures.changes.gives) c.in_ok-first.ensures.changes.leaves c.in_ok-second.ensures.changes.leaves
+    (sym c.in_ok-second.ensures.changes.gives) c.in_ok-first.ensures.changes.leaves
+    c.in_ok-second.ensures.changes.leaves
     (c.new_tickets_come_next.ensures.start c.place.new.self.state c.in_ok-place.place
     c.in_ok-first.first (sym c.in_ok-first.ensures.changes.gives)).0
     (c.new_tickets_come_next.ensures.extend c.start.new.self.state c.in_ok-first.first
@@ -69,7 +71,8 @@ returns-in_err-second-clause-refused g c =
     let first = c.new_tickets_come_next.ensures.start c.place.new.self.state c.in_ok-place.place
     c.in_ok-first.first start in
     let u = holds_start c.place.new.self.state c.start.new.self.state c.in_ok-place.place
-    c.in_ok-first.first c.places_arena-2.ensures.sound start c.in_ok-first.ensures.changes.leaves first.0
+    c.in_ok-first.first c.places_arena-2.ensures.sound start c.in_ok-first.ensures.changes.leaves
+    first.0
     in
     let full = extend-refused c.start.new.self.state c.in_ok-first.first c.in_ok-place.place _ _
     c.in_err-second.field-0.0 u p (sym c.in_err-second.ensures.changes.gives) in
