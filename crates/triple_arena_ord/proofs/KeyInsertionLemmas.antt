@@ -1,5 +1,5 @@
 -- An insertion where the search for its key ended, told by keys.
-use Rattle.std.proofs.Common.{◌≡◌, ℕ, Option, Result, Bool, sym, subst}
+use Rattle.std.proofs.Common.{◌≡◌, ℕ, Option, Result, Bool, subst}
 use Rattle.std.specs.Cmp.{IsTotalOrder}
 use Rattle.std.specs.declared.cmp.Ordering.{Ordering}
 use Rattle.rank_tree.specs.Search.{IsAnswer}

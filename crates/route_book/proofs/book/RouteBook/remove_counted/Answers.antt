@@ -1,4 +1,4 @@
-use Rattle.std.proofs.Common.{◌≡◌, ◌∙◌, Some, ap, option_map, sym, subst}
+use Rattle.std.proofs.Common.{◌≡◌, ◌∙◌, Some, ap, sym, subst}
 use Rattle.ticket_book.specs.Tickets.{Entry, entry_at}
 use Rattle.route_book.specs.Book.{Book, as_book}
 use Rattle.route_book.specs.Removals.{Ends, IsReady, removal_wraps}
