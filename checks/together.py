@@ -22,7 +22,7 @@ from edits import paragraphs
 # How many wrong bodies one check has at most.
 MOST = 14
 
-TOLD = re.compile(r"(?:note: )?(?:\./)?(\S+?):(\d+):\d+: (.*)")
+TOLD = re.compile(r"(?:note: )?(?:what antt said of .*?: )?(?:\./)?(\S+?):(\d+):\d+: (.*)")
 FN = re.compile(r"(\s*)(?:pub(?:\(\w+\))? )?(?:final )?(?:const )?fn (\w+)")
 # A proof file that names what a wrong body took away, and what cites that proof.
 NAME = re.compile(r"has no (field|`)|is not in scope|was not admitted|is not a field of")
