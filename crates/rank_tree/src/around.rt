@@ -1,5 +1,5 @@
 //! What the repair after a removal reads round a node and its parent.
-ghost use Rattle.std.specs.Prelude.{◌≡◌, ℕ, ◌+◌, ◌<◌, ◌≤◌, Option, ⊤};
+ghost use Rattle.std.specs.Prelude.{ℕ, ◌<◌, Option, ⊤};
 ghost use Rattle.std.specs.Option.{option_map};
 ghost use Rattle.rank_tree.specs.Repair.{Spot, IsAround};
 

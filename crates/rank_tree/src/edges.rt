@@ -4,7 +4,7 @@ ghost use Rattle.std.specs.Prelude.{◌≡◌, ℕ, Some, None, IsSome};
 ghost use Rattle.std.specs.Option.{option_map};
 ghost use Rattle.rank_tree.specs.Tree.{node, walk};
 ghost use Rattle.rank_tree.specs.Shape.{plug, Stands};
-ghost use Rattle.rank_tree.specs.Repair.{Exchange, Gap, filled, new_below, Grown, Loose};
+ghost use Rattle.rank_tree.specs.Repair.{Replacement, Gap, filled, new_below, Grown, Loose};
 ghost use Rattle.rank_tree.specs.Repair.{Pending, KeptOff};
 
 use crate::knots::{relink, reparent};
@@ -61,20 +61,20 @@ pub(crate) fn detach<N, P: PtrCore, K: Knots<N, P>>(
 }
 
 /// `new`, which is not in the tree, takes the place and the rank of `old`.
-pub fn exchange<N, P: PtrCore, K: Knots<N, P>>(
+pub fn replace<N, P: PtrCore, K: Knots<N, P>>(
     knots: &mut K,
     root: &mut Option<P::Inx>,
     old: P::Inx,
     new: P::Inx,
 )
-    requires place { Exchange (K.knots knots.old) (option_map P.Inx.number root.old)
+    requires place { Replacement (K.knots knots.old) (option_map P.Inx.number root.old)
         (P.Inx.number old) (P.Inx.number new) }
     requires slot { IsSome (K.knots knots.old (P.Inx.number new)) }
-    ensures does { (place : Exchange (K.knots knots.old) (option_map P.Inx.number root.old)
+    ensures does { (place : Replacement (K.knots knots.old) (option_map P.Inx.number root.old)
         (P.Inx.number old) (P.Inx.number new))
         → Stands (K.knots knots.new) (option_map P.Inx.number root.new)
         (plug place.context (node place.left (P.Inx.number new) place.rank place.right)) }
-    ensures elsewhere { (place : Exchange (K.knots knots.old) (option_map P.Inx.number root.old)
+    ensures elsewhere { (place : Replacement (K.knots knots.old) (option_map P.Inx.number root.old)
         (P.Inx.number old) (P.Inx.number new))
         → KeptOff (walk (plug place.context
         (node place.left (P.Inx.number new) place.rank place.right))) (K.knots knots.old)

@@ -17,7 +17,7 @@ mod side;
 mod tree_links;
 mod turn;
 
-pub use edges::exchange;
+pub use edges::replace;
 pub use insertion_repair::bring_in;
 pub use knots::{Knots, reparent};
 pub use removal_repair::bring_out;

@@ -15,7 +15,7 @@ use Rattle.triple_arena_ord.specs.Node.{knots_in, rest}
 use Rattle.rank_tree.specs.Tree.{Tree, leaf, node, walk, IsRanked}
 use Rattle.rank_tree.specs.Shape.{knot, root_of, Context, top, under, plug, holder, Stands}
 use Rattle.rank_tree.specs.Shape.{IsDistinct, one, count}
-use Rattle.rank_tree.specs.Repair.{Loose, Restored, Exchange}
+use Rattle.rank_tree.specs.Repair.{Loose, Restored, Replacement}
 use Rattle.triple_arena_ord.specs.Ordered.{Ordered, IsOrdered, tree_in, order_in}
 use Rattle.triple_arena_ord.specs.Removal.{IsUprooted}
 use Rattle.rank_tree.specs.FrameLaws.{one-same, one-other, plug-opens, count_split}
@@ -152,8 +152,8 @@ module _ {I T : Type 0} (number : I → ℕ) where
     place = located top restored.tree h
         (let z = counts h in let y = one-other h n differs in let w = is.all h lives in omega arith)
 
-    pub exchange_place : Exchange (knots_in number c1) root1 h n
-    exchange_place = record {
+    pub replacement_place : Replacement (knots_in number c1) root1 h n
+    replacement_place = record {
       context = place.context;
       left = place.left;
       rank = place.rank;
@@ -172,10 +172,10 @@ module _ {I T : Type 0} (number : I → ℕ) where
     -- and takes the place of the other
     pub replaced : (c2 : Content (IndexLink I (IndexNode I T))) (root2 : Option ℕ)
         → Stands (knots_in number c2) root2
-        (plug exchange_place.context
-        (node exchange_place.left n exchange_place.rank exchange_place.right))
+        (plug replacement_place.context
+        (node replacement_place.left n replacement_place.rank replacement_place.right))
         → IsUprooted number o (record { chains = c2; root = root2 }) h
-    unfolding exchange_place
+    unfolding replacement_place
     replaced c2 root2 stands =
         let c = place.context in
         let l = place.left in

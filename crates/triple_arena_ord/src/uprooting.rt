@@ -13,7 +13,7 @@ ghost use Rattle.triple_arena_ord.specs.Ordered.{IsOrdered, order_in};
 ghost use Rattle.triple_arena_ord.specs.Removal.{Loses, IsUprooted};
 
 use crate::{OrdSlots, SimpleOrdArenaNode};
-use rank_tree::{Knots, bring_out, exchange};
+use rank_tree::{Knots, bring_out, replace};
 use triple_arena::{ArenaTrait, InvalidationResult, PtrCore};
 use triple_arena_chain::{ChainArena, ChainArenaTrait, LinkNoGen};
 use unreached::unreached;
@@ -44,7 +44,7 @@ fn uproot<P: PtrCore, T: Drop, S: OrdSlots<P, T>>(
         Some(_) => {
             let Some(successor) = next else { unreached!() };
             bring_out(chains, root, successor);
-            exchange(chains, root, gone, successor);
+            replace(chains, root, gone, successor);
         }
     }
 }

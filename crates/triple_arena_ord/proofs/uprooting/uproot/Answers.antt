@@ -2,7 +2,8 @@ use Rattle.std.proofs.Common.{◌≡◌, ℕ, ◌<◌, ◌^◌, Some, None, rule
 use Rattle.std.specs.Option.{option_map}
 use Rattle.triple_arena_ord.specs.Ordered.{Ordered}
 use Rattle.triple_arena_ord.proofs.UprootingLemmas.{out, uprooted}
-use Rattle.triple_arena_ord.proofs.SuccessorLemmas.{successor, over_at, over_lives, exchange_place}
+use Rattle.triple_arena_ord.proofs.SuccessorLemmas.{successor, over_at, over_lives}
+use Rattle.triple_arena_ord.proofs.SuccessorLemmas.{replacement_place}
 use Rattle.triple_arena_ord.proofs.SuccessorLemmas.{replaced}
 use Rattle.triple_arena_ord.proofs.uprooting.uproot.Goals as goal
 
@@ -41,8 +42,8 @@ bring_out-requires-in-Some-clause-loose g c =
     _ c.read-knot.ensures _ (ap (option_map number) c.in-Some.is) in
     (over_at number o _ _ s (c.requires.next ∙ ap (option_map number) c.in-Some-next.is)).loose
 
-pub exchange-requires : goal.exchange-requires
-exchange-requires g c =
+pub replace-requires : goal.replace-requires
+replace-requires g c =
     let number = g.P.Inx.PtrInxCore.number in
     let o : Ordered g.row.P-Inx.Denot g.row.T.Denot =
     record { chains = c.args.chains.now; root = option_map number c.args.root.now } in
@@ -53,9 +54,8 @@ exchange-requires g c =
     in
     let brought = c.bring_out-in-Some in
     record {
-      place = exchange_place number o c.requires.ordered _ _ c.requires.lives over brought.new.knots
-          (option_map number brought.new.root)
-          (brought.ensures.does over.loose);
+      place = replacement_place number o c.requires.ordered _ _ c.requires.lives over
+          brought.new.knots (option_map number brought.new.root) (brought.ensures.does over.loose);
       slot = over_lives number o _ _ brought.new.knots over brought.ensures.keeps;
     }
 
@@ -86,7 +86,7 @@ returns-in-Some-next-clause-uprooted g c =
     let root1 = option_map number brought.new.root in
     let restored = brought.ensures.does over.loose in
     replaced number o c.requires.ordered _ _ c.requires.lives over brought.new.knots root1 restored
-    c.exchange.new.knots (option_map number c.exchange.new.root)
-    (c.exchange.ensures.does
-    (exchange_place number o c.requires.ordered _ _ c.requires.lives over brought.new.knots
+    c.replace.new.knots (option_map number c.replace.new.root)
+    (c.replace.ensures.does
+    (replacement_place number o c.requires.ordered _ _ c.requires.lives over brought.new.knots
     root1 restored))

@@ -3,14 +3,14 @@ use Rattle.rank_tree.specs.Tree.{node, walk}
 use Rattle.rank_tree.specs.Shape.{plug, Stands}
 use Rattle.rank_tree.specs.SpotLaws.{write-lives, reparent-lives}
 use Rattle.rank_tree.proofs.NameLemmas.{if_live}
-use Rattle.rank_tree.specs.ChangeLaws.{exchange_lives, exchange_links, exchange_works}
-use Rattle.rank_tree.specs.Repair.{Exchange, KeptOff}
-use Rattle.rank_tree.proofs.edges.exchange.Goals.{After-relink}
-use Rattle.rank_tree.proofs.edges.exchange.Goals as goal
+use Rattle.rank_tree.specs.ChangeLaws.{replacement_lives, replacement_links, replacement_works}
+use Rattle.rank_tree.specs.Repair.{Replacement, KeptOff}
+use Rattle.rank_tree.proofs.edges.replace.Goals.{After-relink}
+use Rattle.rank_tree.proofs.edges.replace.Goals as goal
 
 -- the four changes, one after another
 works : (g : _) (c : After-relink g)
-    (h : Exchange (g.K.Knots.knots c.args.knots.now)
+    (h : Replacement (g.K.Knots.knots c.args.knots.now)
     (option_map g.P.Inx.PtrInxCore.number c.args.root.now)
     (g.P.Inx.PtrInxCore.number c.args.old)
     (g.P.Inx.PtrInxCore.number c.args.new))
@@ -22,21 +22,21 @@ works : (g : _) (c : After-relink g)
     (g.K.Knots.knots c.args.knots.now)
     (g.K.Knots.knots c.relink.new.knots)
 works g c h =
-    exchange_works _ _ _ _ _ _ _ _ _ _ c.read-knot.ensures c.write.ensures.written
+    replacement_works _ _ _ _ _ _ _ _ _ _ c.read-knot.ensures c.write.ensures.written
     c.reparent.ensures.does c.reparent-2.ensures.does c.relink.ensures.does h
 
 pub read-knot-requires-clause-live : goal.read-knot-requires-clause-live
-read-knot-requires-clause-live g c = exchange_lives _ _ _ _ c.requires.place
+read-knot-requires-clause-live g c = replacement_lives _ _ _ _ c.requires.place
 
 pub reparent-requires-clause-live : goal.reparent-requires-clause-live
 reparent-requires-clause-live g c =
-    let links = exchange_links _ _ _ _ c.requires.place _ c.read-knot.ensures in
+    let links = replacement_links _ _ _ _ c.requires.place _ c.read-knot.ensures in
     if_live g.P.Inx.PtrInxCore.number (g.K.Knots.knots c.write.new.self) c.read-knot.result.left
     (λ i e. write-lives _ _ _ _ c.write.ensures.written i (links.left i e))
 
 pub reparent-requires-2-clause-live : goal.reparent-requires-2-clause-live
 reparent-requires-2-clause-live g c =
-    let links = exchange_links _ _ _ _ c.requires.place _ c.read-knot.ensures in
+    let links = replacement_links _ _ _ _ c.requires.place _ c.read-knot.ensures in
     if_live g.P.Inx.PtrInxCore.number (g.K.Knots.knots c.reparent.new.knots)
     c.read-knot.result.right
     (λ i e. reparent-lives _ _ _ _ c.reparent.ensures.does i
@@ -44,7 +44,7 @@ reparent-requires-2-clause-live g c =
 
 pub relink-requires-clause-live : goal.relink-requires-clause-live
 relink-requires-clause-live g c =
-    let links = exchange_links _ _ _ _ c.requires.place _ c.read-knot.ensures in
+    let links = replacement_links _ _ _ _ c.requires.place _ c.read-knot.ensures in
     if_live g.P.Inx.PtrInxCore.number (g.K.Knots.knots c.reparent-2.new.knots)
     c.read-knot.result.parent
     (λ i e. reparent-lives _ _ _ _ c.reparent-2.ensures.does i
