@@ -1,3 +1,4 @@
+//! A count of comparisons or look-ups, which contracts see without a bound.
 ghost use Rattle.std.specs.Borrow.{ftrue};
 ghost use Rattle.std.specs.Prelude.{◌≡◌, ◌+◌, ◌-◌, ◌^◌, ℕ, min};
 

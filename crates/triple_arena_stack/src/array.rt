@@ -8,6 +8,7 @@ use crate::{
 use arrayvec::ArrayVec;
 use std::num::NonZeroUsize;
 use triple_arena_ptr::{NotWithinCapacityError, ReallocationError};
+use unreached::unreached;
 
 /// A stack of at most `LIMIT` items, which lie in the value itself. It takes no memory.
 #[derive(Drop)]
@@ -75,14 +76,14 @@ impl<T: Default + Drop, const LIMIT: usize> NonZeroInxGenericStack for NonZeroIn
         self.array.push(value);
         match NonZeroUsize::new(self.array.len()) {
             Some(i) => Ok(i),
-            None => unreachable!(),
+            None => unreached!(),
         }
     }
 
     fn item_mut(&mut self, i: NonZeroUsize) -> &mut T {
         match self.array.get_mut(i.get() - 1) {
             Some(item) => item,
-            None => unreachable!(),
+            None => unreached!(),
         }
     }
 

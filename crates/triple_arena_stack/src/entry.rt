@@ -11,10 +11,12 @@ use crate::stack::push_in_room;
 use std::marker::PhantomData;
 use std::num::NonZeroUsize;
 use triple_arena_ptr::{NotWithinCapacityError, ReallocationError};
+use unreached::unreached;
 
 /// The calls of a stack that answer an entry. Each stack has them.
 pub trait NonZeroInxGenericStackEntries: NonZeroInxGenericStack {
-    /// Room for one item more. If all slots are taken, the stack stays as it is.
+    /// Room for one item more. If all slots are taken, it returns `NotWithinCapacityError`, and the
+    /// stack stays as it is.
     fn entry_push_within_capacity(
         &mut self,
     ) -> Result<NonZeroInxGenericStackPushEntry<'_, Self::Item, Self>, NotWithinCapacityError>
@@ -51,7 +53,7 @@ pub trait NonZeroInxGenericStackEntries: NonZeroInxGenericStack {
             (λ s. s ≡ self.old)) };
 }
 
-/// What room for one item more does.
+/// The calls of room for one item more.
 pub trait NonZeroInxGenericStackPushEntryTrait<T> {
     // The index that the item gets.
     ghost index: { Self → ℕ };
@@ -102,7 +104,7 @@ impl<'a, T: Drop, S: NonZeroInxGenericStack<Item = T>> NonZeroInxGenericStackPus
         let _ = self.stack.capacity();
         match NonZeroUsize::new(self.stack.len() + 1) {
             Some(i) => i,
-            None => unreachable!(),
+            None => unreached!(),
         }
     }
 

@@ -12,6 +12,7 @@ use std::alloc::{Allocator, Global};
 use std::marker::Model;
 use std::num::NonZeroUsize;
 use triple_arena_ptr::ReallocationError;
+use unreached::unreached;
 
 /// Items on the heap, in exactly the slots that were reserved for them.
 #[derive(Drop)]
@@ -100,7 +101,7 @@ impl<T: Drop, A: Allocator> Heap<T, A> {
         self.vec.push_reserved(value);
         match NonZeroUsize::new(self.vec.len()) {
             Some(i) => i,
-            None => unreachable!(),
+            None => unreached!(),
         }
     }
 

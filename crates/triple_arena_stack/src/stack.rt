@@ -13,6 +13,7 @@ ghost use Rattle.triple_arena_stack.specs.Stack.{item_at, with_item, exchanged};
 
 use std::num::NonZeroUsize;
 use triple_arena_ptr::{GetDisjointMutError, NotWithinCapacityError, ReallocationError};
+use unreached::unreached;
 
 /// A stack whose items have the indexes from 1 on.
 pub trait NonZeroInxGenericStack {
@@ -266,6 +267,6 @@ pub(crate) fn push_in_room<T: Drop, S: NonZeroInxGenericStack<Item = T>>(
 {
     match stack.push_within_capacity(value) {
         Ok(i) => i,
-        Err(_) => unreachable!(),
+        Err(_) => unreached!(),
     }
 }
