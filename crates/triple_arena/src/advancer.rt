@@ -1,6 +1,6 @@
 //! Going over the pointers of an arena, by their indexes.
 ghost use Rattle.std.specs.Prelude.{◌≡◌, ℕ, ◌+◌, ◌-◌, ◌^◌, ◌<◌, min, if◌then◌else◌, true, false};
-ghost use Rattle.std.specs.Prelude.{length, Option, Some, None, IfSome, IfNone, refl, ⊤};
+ghost use Rattle.std.specs.Prelude.{length, Option, Some, None, IfSome, IfNone, ⊤};
 ghost use Rattle.std.specs.Int.NonZero.{non_zero_usize_get};
 ghost use Rattle.std.specs.Option.{option_map};
 ghost use Rattle.triple_arena.specs.Entries.{pointer_at, generation_at};
@@ -17,8 +17,9 @@ use unreached::unreached;
 /// Gives the pointers to the entries of an arena, one a call, by rising or by falling index. The
 /// arena is free between the calls.
 ///
-/// A call gives the pointer at the first index that is live then, of those that no call has passed.
-/// Once there is none, no call gives one.
+/// A call gives the pointer at the first index that is live then, of those up to its end that no
+/// call has passed. The end is set when it is made: an entry that is put in behind it later is not
+/// given. Once there is none, no call gives one.
 #[derive(Drop)]
 pub struct PtrAdvancer<P: PtrCore> {
     // The indexes that are left are those after `start`, up to `end`.

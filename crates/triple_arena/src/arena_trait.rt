@@ -1,9 +1,8 @@
 //! What every arena does.
-ghost use Rattle.std.specs.Prelude.{◌≡◌, ◌≢◌, ℕ, ◌+◌, ◌-◌, ◌*◌, ◌^◌, ◌<◌, ◌≤◌, ◌↔◌, Bool, Some};
+ghost use Rattle.std.specs.Prelude.{◌≡◌, ℕ, ◌+◌, ◌-◌, ◌*◌, ◌^◌, ◌<◌, ◌≤◌, ◌↔◌, Bool, Some};
 ghost use Rattle.std.specs.Prelude.{None, IsTrue, IsOk, IsSome, IfSome, IfNone, IfOk, OnSome, OnOk};
 ghost use Rattle.std.specs.Prelude.{OnErr, IsErrOf, Option, is_some, option_copied, unwrap_or};
 ghost use Rattle.std.specs.Prelude.{true, false, min, if◌then◌else◌, List, map as list_map, length};
-ghost use Rattle.std.specs.Prelude.{slice_get};
 ghost use Rattle.std.specs.Borrow.{sem, Lends, LendsIf};
 ghost use Rattle.std.specs.Option.{option_map, option_copied_mut};
 ghost use Rattle.triple_arena_ptr.specs.Generation.{IsGeneration, second_generation};
@@ -170,14 +169,16 @@ pub trait ArenaTrait<P: PtrCore, T: Drop> {
         ensures value { option_map (λ e. e.1) (entry_at self.old (P.Inx.number i))
             ≡ Some result.now };
 
-    /// The pointer to the entry with the least index, or `None` if no index is live.
+    /// The pointer to the entry with the least index, or `None` if no index is live. It looks at
+    /// each slot up to that one.
     fn find_first_inx_ptr(&self) -> Option<P>
         ensures live { IfSome result (λ p. generation_at (entry_at self.now) (P.index p)
             ≡ Some (P.generation p)) }
         ensures first { IfSome result (λ p. (j : ℕ) → j < P.index p → entry_at self.now j ≡ None) }
         ensures none { IfNone result ((j : ℕ) → entry_at self.now j ≡ None) };
 
-    /// The pointer to the entry with the greatest index, or `None` if no index is live.
+    /// The pointer to the entry with the greatest index, or `None` if no index is live. It looks at
+    /// each slot from the last one down to that one.
     fn find_last_inx_ptr(&self) -> Option<P>
         ensures live { IfSome result (λ p. generation_at (entry_at self.now) (P.index p)
             ≡ Some (P.generation p)) }

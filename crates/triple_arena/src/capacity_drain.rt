@@ -59,4 +59,10 @@ impl<P: PtrCore, T: Drop, A: ArenaTrait<P, T> + Drop> Iterator for CapacityDrain
     }
 }
 
+impl<P: PtrCore, T: Drop, A: ArenaTrait<P, T> + Drop> ExactSizeIterator for CapacityDrain<P, T, A> {
+    fn len(&self) -> usize {
+        self.arena.len()
+    }
+}
+
 impl<P: PtrCore, T: Drop, A: ArenaTrait<P, T> + Drop> FusedIterator for CapacityDrain<P, T, A> {}

@@ -15,6 +15,7 @@ use crate::slot::EntrySlot;
 use std::num::NonZeroUsize;
 use triple_arena_ptr::{AllocError, PtrCore, ReallocationError};
 use triple_arena_stack::NonZeroInxGenericStack;
+use unreached::unreached;
 
 /// The arenas that copies are made of: an `Arena` or a `DirectArena`, with any stack.
 pub trait ArenaCloneSource<P: PtrCore, U: Drop>: ArenaTrait<P, U> {
@@ -149,6 +150,6 @@ fn append<L: Drop, S: NonZeroInxGenericStack<Item = L>>(slots: &mut S, slot: L)
 {
     match slots.push_within_capacity(slot) {
         Ok(_) => {}
-        Err(_) => unreachable!(),
+        Err(_) => unreached!(),
     }
 }

@@ -9,12 +9,13 @@ ghost use Rattle.triple_arena.specs.DirectContent.{IsPlace};
 use crate::{ArenaDirectInsertEntry, ArenaTrait, DirectSlots};
 use triple_arena_ptr::{DirectInsertionError, PtrCore};
 
-/// What a place for an entry at a pointer of the caller's choice does.
+/// The calls of a place for an entry, at a pointer of the caller's choice.
 pub trait ArenaDirectInsertEntryTrait<P: PtrCore, T> {
     // The index is within the capacity, and no entry is there, as when the place was made.
     ghost has_place: { Self → Type 0 };
 
-    /// Stores `t` under the pointer. It takes no memory and cannot fail.
+    /// Stores `t` under the pointer. It takes no memory and cannot fail. If the index is past the
+    /// slots, free ones are appended up to it.
     fn insert(self, t: T)
         requires { has_place self };
 }

@@ -1,6 +1,5 @@
 //! A slot of a `DirectArena`.
 ghost use Rattle.std.specs.Prelude.{◌≡◌, ℕ, Option, Some, None, IsSome, IsTrue, ◌↔◌, ⊤};
-ghost use Rattle.std.specs.Borrow.{Lends, sem};
 ghost use Rattle.std.specs.Option.{option_map};
 ghost use Rattle.triple_arena.specs.DirectSlot.{value_of, with_slot_value, with_slot_generation};
 

@@ -1,5 +1,5 @@
 //! Going over the live entries of an arena that is lent for reading, in the order of the indexes.
-ghost use Rattle.std.specs.Prelude.{◌≡◌, ◌≤◌, ℕ, Option, length, map as list_map, ⊤};
+ghost use Rattle.std.specs.Prelude.{◌≡◌, ℕ, Option, length, map as list_map, ⊤};
 ghost use Rattle.std.specs.Iterator.{YieldsFirstBy, item_count};
 ghost use Rattle.std.specs.Option.{option_map};
 ghost use Rattle.triple_arena_ptr.specs.Index.{max_index_of};

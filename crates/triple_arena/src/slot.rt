@@ -1,6 +1,6 @@
 //! A slot of an arena.
 ghost use Rattle.std.specs.Prelude.{◌≡◌, ◌≢◌, ◌≤◌, ℕ, length, Option, Some, None, option_copied};
-ghost use Rattle.std.specs.Prelude.{IsTrue, ◌↔◌, IsSome, IsNone, ⊤};
+ghost use Rattle.std.specs.Prelude.{IsTrue, ◌↔◌, IsSome, ⊤};
 ghost use Rattle.std.specs.Borrow.{Lends, sem};
 ghost use Rattle.std.specs.Int.NonZero.{non_zero_usize_get};
 ghost use Rattle.std.specs.Option.{option_map};

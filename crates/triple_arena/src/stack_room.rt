@@ -1,6 +1,6 @@
 //! The room of an arena, in that of its stack.
 ghost use Rattle.std.specs.Prelude.{◌≡◌, ◌^◌, ◌<◌, ◌≤◌, ◌↔◌, None, IsOk, OnOk, OnErr, IsErrOf};
-ghost use Rattle.std.specs.Prelude.{IsTrue, length};
+ghost use Rattle.std.specs.Prelude.{IsTrue};
 ghost use Rattle.triple_arena_ptr.specs.Index.{max_index_of};
 ghost use Rattle.triple_arena_stack.specs.Room.{capacity, IsBeyond};
 ghost use Rattle.triple_arena.specs.ArenaRoom.{room_of, room_with};
@@ -55,8 +55,9 @@ pub(crate) fn reallocate_over<P: PtrCore, X: Drop, S: NonZeroInxGenericStack<Ite
     if min <= capacity_over::<P, X, S>(slots) {
         return Ok(());
     }
-    let limit = limit_over::<P, X, S>(slots);
-    if limit.is_some() && limit.unwrap_or(0) < min {
+    if let Some(limit) = limit_over::<P, X, S>(slots)
+        && limit < min
+    {
         return Err(ReallocationError::BeyondMaxCapacity);
     }
     slots.reallocate_min_capacity(min)

@@ -1,5 +1,5 @@
 //! The calls of an `Arena` that every arena has.
-ghost use Rattle.std.specs.Prelude.{◌≡◌, true, [], Some, None, IsSome, refl};
+ghost use Rattle.std.specs.Prelude.{◌≡◌, true, [], Some, None, refl};
 ghost use Rattle.triple_arena_ptr.specs.Generation.{second_generation};
 ghost use Rattle.triple_arena.specs.ArenaRoom.{room_of};
 ghost use Rattle.triple_arena.specs.Content.{some_counter, entry_at as entry_of_index};
@@ -99,6 +99,7 @@ impl<P: PtrCore, T: Drop, S: ArenaSlots<P, T>> ArenaTrait<P, T> for Arena<P, T, 
 
     fn with_min_capacity(alloc: S::Alloc, min: usize) -> Result<Self, ReallocationError> {
         if min > max_index::<P>() {
+            // `alloc` need not be `Drop`, but a stack over it is.
             drop(Self::new(alloc));
             return Err(ReallocationError::BeyondMaxCapacity);
         }

@@ -1,5 +1,5 @@
 //! Room for one entry more, which tells its pointer before the value is there.
-ghost use Rattle.std.specs.Prelude.{◌≡◌, ℕ, ◌<◌, ◌↔◌, Some, IsOk, IfOk, IsErrOf};
+ghost use Rattle.std.specs.Prelude.{◌≡◌, ℕ, ◌<◌, ◌↔◌, IsOk, IfOk};
 ghost use Rattle.std.specs.Borrow.{sem, RestsIfErr};
 ghost use Rattle.triple_arena_stack.specs.Push.{IsRefusal};
 ghost use Rattle.triple_arena.specs.Changes.{IsInserted};
@@ -11,7 +11,7 @@ ghost use Rattle.triple_arena.specs.Content.{IsWellFormed};
 use crate::{Arena, ArenaSlots};
 use triple_arena_ptr::{NotWithinCapacityError, PtrCore, ReallocationError};
 
-/// What room for one entry more does.
+/// The calls of room for one entry more.
 pub trait ArenaInsertEntryTrait<P: PtrCore, T> {
     // The index that the entry gets, and its generation.
     ghost index: { Self → ℕ };

@@ -1,5 +1,5 @@
 //! The free slots: the list of them, its order, and those at the end.
-ghost use Rattle.std.specs.Prelude.{◌≡◌, ◌≤◌, ℕ, Some, IsSome, IsTrue, IsFalse, length};
+ghost use Rattle.std.specs.Prelude.{◌≡◌, ℕ, Some, IsSome, IsTrue, IsFalse, length};
 ghost use Rattle.std.specs.Prelude.{map as list_map, slice_get, ⊤};
 ghost use Rattle.std.specs.Int.NonZero.{non_zero_usize_get};
 ghost use Rattle.std.specs.Option.{option_map};

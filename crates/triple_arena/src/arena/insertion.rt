@@ -44,8 +44,8 @@ impl<P: PtrCore, T: Drop, S: ArenaSlots<P, T>> ArenaInsertTrait<P, T> for Arena<
 }
 
 impl<P: PtrCore, T: Drop, S: ArenaSlots<P, T>> Arena<P, T, S> {
-    // The pointer of the next entry.
-    pub(crate) fn next_ptr(&self) -> P
+    /// The pointer that the next insertion gives, for which there must be room.
+    pub fn next_ptr(&self) -> P
         requires { live_count self.now < arena_capacity self.now }
         ensures has_index { P.index result ≡ next_of self.now }
         ensures has_generation { P.generation result ≡ self.now.counter }

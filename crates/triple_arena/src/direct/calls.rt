@@ -1,5 +1,5 @@
 //! The calls of a `DirectArena` that every arena has.
-ghost use Rattle.std.specs.Prelude.{◌≡◌, false, [], Some, None, IsSome, refl};
+ghost use Rattle.std.specs.Prelude.{◌≡◌, false, [], Some, None, refl};
 ghost use Rattle.triple_arena.specs.ArenaRoom.{room_of};
 ghost use Rattle.triple_arena.specs.DirectContent.{as_content, no_counter};
 ghost use Rattle.triple_arena.specs.DirectContent.{entry_at as entry_of_index};
@@ -98,6 +98,7 @@ impl<P: PtrCore, T: Drop, S: DirectSlots<P, T>> ArenaTrait<P, T> for DirectArena
 
     fn with_min_capacity(alloc: S::Alloc, min: usize) -> Result<Self, ReallocationError> {
         if min > max_index::<P>() {
+            // `alloc` need not be `Drop`, but a stack over it is.
             drop(Self::new(alloc));
             return Err(ReallocationError::BeyondMaxCapacity);
         }

@@ -4,7 +4,7 @@ ghost use Rattle.std.specs.Int.NonZero.{non_zero_usize_get};
 ghost use Rattle.triple_arena.specs.Changes.{IsRemoved};
 ghost use Rattle.triple_arena.specs.DirectContent.{entry_at, live_count, no_counter};
 ghost use Rattle.triple_arena.specs.DirectContent.{with_generation, removed, cleared};
-ghost use Rattle.triple_arena.specs.DirectContent.{without_free_end, IsWellFormed};
+ghost use Rattle.triple_arena.specs.DirectContent.{IsWellFormed};
 
 use crate::arena::pointer_at;
 use crate::direct::DirectArena;
