@@ -1,13 +1,13 @@
 //! What every chain arena does with its links.
 ghost use Rattle.std.specs.Prelude.{◌≡◌, ◌+◌, ◌<◌, ◌↔◌, ℕ, Bool, List, length, None, Some, Option};
-ghost use Rattle.std.specs.Prelude.{IsSome, IsTrue, IfOk, IfSome, IfNone, OnOk, OnErr, OnSome};
+ghost use Rattle.std.specs.Prelude.{IsSome, IsTrue, IfSome, IfNone, OnErr, OnSome};
 ghost use Rattle.std.specs.Prelude.{option_copied};
 ghost use Rattle.std.specs.Option.{option_map};
 ghost use Rattle.triple_arena_ptr.specs.Generation.{next_wraps, second_generation};
 ghost use Rattle.triple_arena_ptr.specs.InvalidationOption.{value_of, overflowed};
 ghost use Rattle.triple_arena_ptr.specs.InvalidationResult.{answer_of};
-ghost use Rattle.triple_arena_stack.specs.Room.{Room, room_after};
-ghost use Rattle.triple_arena.specs.Content.{Content, get, entry_at, live_count, arena_capacity};
+ghost use Rattle.triple_arena_stack.specs.Room.{Room};
+ghost use Rattle.triple_arena.specs.Content.{Content, get, entry_at, live_count};
 ghost use Rattle.triple_arena.specs.Content.{some_counter, removed, empty, reallocated};
 ghost use Rattle.triple_arena.specs.Content.{invalidated, cleared};
 ghost use Rattle.triple_arena.specs.Entries.{value_if};
@@ -18,7 +18,7 @@ ghost use Rattle.triple_arena_chain.specs.Chains.{unlinked, exchanged};
 ghost use Rattle.triple_arena_chain.specs.Insertion.{InsertsWithinCapacity, InsertsReallocating};
 ghost use Rattle.triple_arena_chain.specs.Links.{ends_in, ends_found, values_in, with_value_in};
 ghost use Rattle.triple_arena_chain.specs.Links.{link_removed, gap_among, bridged_over};
-ghost use Rattle.triple_arena_chain.specs.Links.{IsChained, IsLinkInserted, IsRelinked, IsTakenOut};
+ghost use Rattle.triple_arena_chain.specs.Links.{IsChained, IsRelinked, IsTakenOut};
 ghost use Rattle.triple_arena_chain.specs.Lists.{IsAppended, IsSplit, IsExchanged};
 ghost use Rattle.triple_arena_chain.specs.Renaming.{IsCompacted};
 ghost use Rattle.triple_arena_chain.specs.Values.{IsLivePtr};

@@ -1,11 +1,13 @@
 //! What follows from the calls of a chain arena.
 ghost use Rattle.std.specs.Prelude.{◌≡◌, ◌↔◌, ℕ, Bool, List, [], ◌∷◌, ◌++◌, Option, Some, IsSome};
 ghost use Rattle.std.specs.Prelude.{IfSome};
-ghost use Rattle.triple_arena.specs.Content.{Content};
+ghost use Rattle.triple_arena.specs.Content.{Content, invalidated, with_limit};
+ghost use Rattle.triple_arena.specs.Recasting.{content_recasted};
 ghost use Rattle.triple_arena_chain.specs.CanonicalLayout.{IsCanonical};
 ghost use Rattle.triple_arena_chain.specs.CanonicalTransfer.{AreInOrder};
 ghost use Rattle.triple_arena_chain.specs.declared.kind.InsertKind.TheVariants.{Bridge, NextTo};
 ghost use Rattle.triple_arena_chain.specs.declared.kind.InsertKind.TheVariants.{PrevTo};
+ghost use Rattle.triple_arena_chain.specs.LinkRecasting.{link_items, link_recasted};
 ghost use Rattle.triple_arena_chain.specs.LinkShape.{IndexLink};
 ghost use Rattle.triple_arena_chain.specs.Chains.{Ends, next_in, next_at, linked, unlinked};
 ghost use Rattle.triple_arena_chain.specs.Chains.{exchanged, IsLinear, IsRing, On, Apart};
@@ -13,10 +15,11 @@ ghost use Rattle.triple_arena_chain.specs.Lists.{Chain, members, IsChainOf, AreC
 ghost use Rattle.triple_arena_chain.specs.Runs.{IsRunFrom};
 ghost use Rattle.triple_arena_chain.specs.Walks.{IsWalkFrom};
 ghost use Rattle.triple_arena_chain.specs.Links.{ends_in, ends_found, values_in, gap_among};
+ghost use Rattle.triple_arena_chain.specs.Links.{with_value_in};
 ghost use Rattle.triple_arena_chain.specs.Links.{IsChained, IsLinkInserted, IsTakenOut, IsRelinked};
 ghost use Rattle.triple_arena_chain.specs.UniquenessLaws.{IsInOneChain};
 
-use triple_arena::PtrCore;
+use triple_arena::{PtrCore, Recast};
 
 /// Each live index stands in exactly one chain, once.
 pub fn links_stand_in_one_chain<P: PtrCore, T>()
@@ -146,6 +149,20 @@ pub fn removals_take_insertions_back<P: PtrCore, T>()
         → IsTakenOut P.Inx.number P.Gen.last i between after
         → (k : ℕ) → (ends_in P.Inx.number after k ≡ ends_in P.Inx.number before k)
         × (values_in after k ≡ values_in before k) }
+{}
+
+/// If a value is written or recast, a pointer is ended or a limit is set, all interlinks stay.
+pub fn values_keep_the_interlinks<N, P: PtrCore, T: Recast<N>>()
+    ensures written { (c : Content (IndexLink P.Inx T)) (i : ℕ) (t : T) (k : ℕ)
+        → ends_in P.Inx.number (with_value_in c i t) k ≡ ends_in P.Inx.number c k }
+    ensures recast { (f : N → Option N) (c : Content (IndexLink P.Inx T)) (k : ℕ)
+        → ends_in P.Inx.number
+        (content_recasted (link_items T.items) f (link_recasted (T.recasted f)) c) k
+        ≡ ends_in P.Inx.number c k }
+    ensures invalidated { (c : Content (IndexLink P.Inx T)) (i k : ℕ)
+        → ends_in P.Inx.number (invalidated P.Gen.last c i) k ≡ ends_in P.Inx.number c k }
+    ensures limited { (c : Content (IndexLink P.Inx T)) (max k : ℕ)
+        → ends_in P.Inx.number (with_limit P.Inx.greatest c max) k ≡ ends_in P.Inx.number c k }
 {}
 
 /// A second `compress_canonical` changes no index.

@@ -5,8 +5,8 @@ ghost use Rattle.std.specs.Option.{option_map};
 ghost use Rattle.triple_arena_ptr.specs.Index.{max_index_of};
 ghost use Rattle.triple_arena_ptr.specs.InvalidationOption.{overflowed};
 ghost use Rattle.triple_arena.specs.Compression.{renewal_wraps};
-ghost use Rattle.triple_arena.specs.Content.{entry_at, live_count, IsWellFormed};
-ghost use Rattle.triple_arena_chain.specs.Chains.{prev_at, next_at, On, IsAgreed};
+ghost use Rattle.triple_arena.specs.Content.{entry_at, IsWellFormed};
+ghost use Rattle.triple_arena_chain.specs.Chains.{next_at, On, IsAgreed};
 ghost use Rattle.triple_arena_chain.specs.Links.{ends_in, values_in, IsKept, IsChained};
 ghost use Rattle.triple_arena_chain.specs.Lists.{Chain, members, IsChainOf};
 ghost use Rattle.triple_arena_chain.specs.CanonicalLayout.{IsAlike, IsHead, IsAllGathered};
@@ -37,7 +37,7 @@ pub(crate) fn behind<I: PtrInxCore>(count: usize) -> I
 {
     match I::try_from_usize(NonZeroUsize::MIN.saturating_add(count)) {
         Some(i) => i,
-        None => unreachable!(),
+        None => unreached!(),
     }
 }
 

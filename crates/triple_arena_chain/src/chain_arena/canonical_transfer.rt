@@ -1,7 +1,7 @@
 //! The canonical transfer: the links of a chain arena moved to another, each chain to successive
 //! indexes.
 ghost use Rattle.std.specs.Prelude.{◌≡◌, ◌≢◌, ◌↔◌, IsTrue, ◌+◌, ◌<◌, ◌≤◌, ℕ, Some, None, IsSome};
-ghost use Rattle.std.specs.Prelude.{IfSome, IfNone, ◌⊎◌, IsOk, OnOk, OnErr, IsErrOf, [], length};
+ghost use Rattle.std.specs.Prelude.{IfSome, IfNone, ◌⊎◌, IsOk, OnOk, OnErr, IsErrOf, []};
 ghost use Rattle.std.specs.Fn.{iterate};
 ghost use Rattle.std.specs.Option.{option_map};
 ghost use Rattle.triple_arena_ptr.specs.Generation.{next_generation, next_wraps};
@@ -28,6 +28,7 @@ use triple_arena::{
     ReallocationError,
 };
 use triple_arena_ptr::OptionalInx;
+use unreached::unreached;
 
 // Takes the link at `i`, which is live, out of an arena, and leaves the interlinks of all others as
 // they are. It returns the pointer, the value with what its removal tells, and the next index.
@@ -61,7 +62,7 @@ where
                 (from, InvalidationOption::Success(link.t), next)
             }
         }
-        None => unreachable!(),
+        None => unreached!(),
     }
 }
 

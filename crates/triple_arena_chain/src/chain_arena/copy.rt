@@ -29,7 +29,7 @@ impl<P: PtrCore, T: Drop, S: ChainSlots<P, T>> ChainArena<P, T, S> {
     /// then as it was.
     ///
     /// It also returns `AllocError` if `map` refused. The arena then has room for the copy, no
-    /// link, and the counter that a removal of all at once leaves.
+    /// link, and the counter that `clear` leaves.
     ///
     /// That `map` is not called if the growth is refused, nor again after it refused, is tested
     /// only.

@@ -12,6 +12,7 @@ ghost use Rattle.triple_arena_chain.specs.Drains.{DrainLeaves, DrainSteps, Drain
 ghost use Rattle.triple_arena_chain.specs.Drains.{DrainGoesAlong};
 
 use crate::{ChainArena, ChainArenaTrait, ChainSlots, LinkNoGen};
+use std::iter::FusedIterator;
 use triple_arena::{InvalidationOption, PtrCore, PtrInxCore};
 
 /// Takes the links of one chain out of an arena: from a link on to the end and then backwards from
@@ -141,3 +142,5 @@ impl<'a, P: PtrCore, T: Drop, S: ChainSlots<P, T>> Iterator for ChainDrain<'a, P
         Some(item)
     }
 }
+
+impl<'a, P: PtrCore, T: Drop, S: ChainSlots<P, T>> FusedIterator for ChainDrain<'a, P, T, S> {}

@@ -2,8 +2,9 @@
 ghost use Rattle.std.specs.Prelude.{◌≡◌, ◌↔◌, ℕ, Some, IsTrue, IsOk, IsSome, IfOk, IfErr, IfNone};
 ghost use Rattle.std.specs.Prelude.{OnSome};
 ghost use Rattle.std.specs.Option.{option_map};
+ghost use Rattle.triple_arena.specs.Content.{IsWellFormed};
 ghost use Rattle.triple_arena_chain.specs.Chains.{IsAgreed, next_at, prev_at};
-ghost use Rattle.triple_arena_chain.specs.Links.{ends_in};
+ghost use Rattle.triple_arena_chain.specs.Links.{ends_in, IsChained};
 
 use crate::chain_arena::interlinks::recall_formed;
 use crate::{ChainArena, ChainSlots, LinkNoGen};
@@ -78,6 +79,7 @@ impl<P: PtrCore, T: Drop, S: ChainSlots<P, T>> ChainArena<P, T, S> {
     ) -> Result<Self, Arena<P, LinkNoGen<P, T>, S>>
         ensures variant { IsOk result ↔ IsAgreed (ends_in P.Inx.number arena) }
         ensures ok { IfOk result (λ chains. chains ≡ arena) }
+        ensures formed { IfOk result (λ chains. IsChained P.Inx.number chains) }
         ensures err { IfErr result (λ refused. refused ≡ arena) }
     {
         // The arena is well-formed.
@@ -95,8 +97,11 @@ impl<P: PtrCore, T: Drop, S: ChainSlots<P, T>> ChainArena<P, T, S> {
         ensures variant { IsSome result ↔ IsAgreed (ends_in P.Inx.number arena.old) }
         ensures some { OnSome result ((self.new ≡ arena.old) × (arena.new ≡ self.old)) }
         ensures none { IfNone result ((self.new ≡ self.old) × (arena.new ≡ arena.old)) }
+        ensures formed { IsChained P.Inx.number self.new }
+        ensures arena_formed { IsWellFormed arena.new }
     {
-        // The arena is well-formed.
+        // The interlinks agree, and the other arena is well-formed.
+        self.recall_chained();
         recall_formed(arena);
         if !Self::interlinks_agree(arena) {
             return None;

@@ -9,6 +9,7 @@ ghost use Rattle.triple_arena_chain.specs.Links.{ends_in};
 ghost use Rattle.triple_arena_chain.specs.Walks.{past_index, IsWalkFrom};
 
 use crate::{ChainArena, ChainArenaTrait, ChainSlots, LinkNoGen};
+use std::iter::FusedIterator;
 use std::marker::Model;
 use triple_arena::{ArenaTrait, PtrCore, PtrInxCore};
 use triple_arena_ptr::OptionalInx;
@@ -128,6 +129,12 @@ where
         }
     }
 }
+
+impl<'a, P: PtrCore, T: Drop, S: ChainSlots<P, T>> FusedIterator for IterChain<'a, P, T, S>
+where
+    P::Inx: 'a,
+    <P::Inx as PtrInxCore>::Word: 'a,
+{}
 
 impl<P: PtrCore, T: Drop, S: ChainSlots<P, T>> ChainArena<P, T, S> {
     /// The links of the chain of `p`, in the order of a walk from `p`, or `None` if `p` is invalid.

@@ -3,7 +3,7 @@ ghost use Rattle.std.specs.Prelude.{◌≡◌, ◌≤◌, ◌↔◌, ◌⊎◌, 
 ghost use Rattle.std.specs.Prelude.{IfErr, OnOk, IsErrOf, map as list_map, ⊤};
 ghost use Rattle.std.specs.Option.{option_map};
 ghost use Rattle.triple_arena_ptr.specs.Generation.{next_generation};
-ghost use Rattle.triple_arena_stack.specs.Room.{capacity as capacity_of, IsBeyond};
+ghost use Rattle.triple_arena_stack.specs.Room.{IsBeyond};
 ghost use Rattle.triple_arena.specs.ArenaRoom.{room_with};
 ghost use Rattle.triple_arena.specs.Changes.{IsNew};
 ghost use Rattle.triple_arena.specs.Content.{entry_at, live_count, some_counter, arena_capacity};

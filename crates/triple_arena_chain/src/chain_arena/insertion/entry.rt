@@ -9,7 +9,7 @@ ghost use Rattle.triple_arena_chain.specs.Links.{gap_among, IsChained, IsLinkIns
 
 use crate::gap::Gap;
 use crate::{ChainArena, ChainSlots, LinkInsertKind};
-use triple_arena::{ArenaInsertEntries, ArenaInsertEntryTrait, PtrCore};
+use triple_arena::{ArenaInsertEntryTrait, ArenaTrait, PtrCore};
 use triple_arena_ptr::ChainInsertionError;
 
 /// Room for one link more, in a gap. Dropped unused, it leaves the links as they are.
@@ -55,15 +55,15 @@ impl<P: PtrCore, T: Drop, S: ChainSlots<P, T>> ChainArena<P, T, S> {
     ghost use Rattle.triple_arena_chain.specs.contracts.chain_arena.ChainArena.{the_row};
 
     /// The pointer that the next insertion gives, if there is room for one link more.
-    pub fn next_ptr(&mut self) -> Option<P>
-        ensures variant { IsSome result ↔ (live_count self.old < arena_capacity self.old) }
-        ensures has_index { IfSome result (λ p. P.index p ≡ next_index self.old) }
-        ensures has_generation { IfSome result (λ p. P.generation p ≡ self.old.counter) }
-        ensures kept { self.new ≡ self.old }
+    pub fn next_ptr(&self) -> Option<P>
+        ensures variant { IsSome result ↔ (live_count self.now < arena_capacity self.now) }
+        ensures has_index { IfSome result (λ p. P.index p ≡ next_index self.now) }
+        ensures has_generation { IfSome result (λ p. P.generation p ≡ self.now.counter) }
     {
-        match self.arena.entry_insert_within_capacity() {
-            Ok(entry) => Some(entry.ptr()),
-            Err(_) => None,
+        if self.arena.len() < self.arena.capacity() {
+            Some(self.arena.next_ptr())
+        } else {
+            None
         }
     }
 

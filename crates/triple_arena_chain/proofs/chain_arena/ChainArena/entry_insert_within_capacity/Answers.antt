@@ -1,5 +1,4 @@
-use Rattle.std.proofs.Common.{rules, ◌≡◌, Some, refl, sym, ap, ◌∙◌}
-use Rattle.triple_arena.specs.Content.{next_index}
+use Rattle.std.proofs.Common.{rules, ◌≡◌, Some, refl}
 use Rattle.triple_arena_chain.specs.Chains.{IsGap}
 use Rattle.triple_arena_chain.specs.Kinds.{gap_by}
 use Rattle.triple_arena_chain.specs.Links.{ends_in, gap_among}
@@ -10,7 +9,6 @@ pub returns-in-Some-next_ptr : goal.returns-in-Some-next_ptr
 returns-in-Some-next_ptr g c =
     let number = g.P.Inx.PtrInxCore.number in
     let old = c.args.self.now in
-    let kept : c.next_ptr.new.self ≡ old = c.in-Some-next_ptr.ensures.kept in
     let gap = gap_by number c.in-Some.gap in
     let is : gap_among g.P.PtrCore.index g.P.PtrCore.generation number old c.args.kind
     ≡ Some gap = search rules in
@@ -23,13 +21,12 @@ returns-in-Some-next_ptr g c =
         answer = record { failed = search rules; succeeds = search rules; full = search rules };
         entry = record {
           same_reference = search rules;
-          chains = kept;
+          chains = refl;
           ready = record {
-            room = rw kept room;
-            gap = rw kept there;
-            has_index = c.in-Some-next_ptr.ensures.has_index ∙ ap next_index (sym kept);
-            has_generation = c.in-Some-next_ptr.ensures.has_generation
-                ∙ ap (λ d. d.counter) (sym kept);
+            room = room;
+            gap = there;
+            has_index = c.in-Some-next_ptr.ensures.has_index;
+            has_generation = c.in-Some-next_ptr.ensures.has_generation;
           };
           gap = is;
         };
