@@ -4,14 +4,12 @@ ghost use Rattle.std.specs.Prelude.{◌≡◌, ◌<◌, ℕ, Some, None, IsSome,
 ghost use Rattle.std.specs.Option.{option_map};
 ghost use Rattle.std.specs.Borrow.{sem, RestsIfErr};
 ghost use Rattle.triple_arena.specs.Content.{arena_capacity};
-ghost use Rattle.triple_arena_ord.specs.Inserted.{IsAdded, Replaces, StandsAt};
-ghost use Rattle.triple_arena_ord.specs.Inserted.{IsInsertedAt, InsertsByKey, within_room};
-ghost use Rattle.triple_arena_ord.specs.Inserted.{growing_room, room_made, under};
+ghost use Rattle.triple_arena_ord.specs.Inserted.{AddsAt, InsertsAt, InsertsByKey, Replaces};
+ghost use Rattle.triple_arena_ord.specs.Inserted.{under, within_room};
 ghost use Rattle.triple_arena_ord.specs.InsertEntry.{entry_arena, entry_lender, entry_place};
 ghost use Rattle.triple_arena_ord.specs.InsertEntry.{IsReady, IsOrdAnswer};
 ghost use Rattle.triple_arena_ord.specs.Placing.{Meets, IsPlaceFor};
-ghost use Rattle.triple_arena_ord.specs.Ordered.{IsOrdered};
-ghost use Rattle.triple_arena_ord.specs.Ordered.{entry_in, order_in, size_in};
+ghost use Rattle.triple_arena_ord.specs.Ordered.{entry_in, size_in};
 ghost use Rattle.triple_arena_ord.specs.contracts.ord_arena.SimpleOrdArena.{the_row};
 
 use std::cmp::Ordering;
@@ -42,15 +40,10 @@ pub fn insert_inx_manual<P: PtrCore, T: Drop, S: OrdSlots<P, T>>(
     t: T,
 ) -> Result<Option<T>, OrdInsertionError>
     requires { IsSome (entry_in arena.old (P.Inx.number p)) }
-    ensures inserted { (q : ℕ × ℕ)
-        × IsInsertedAt P.Inx.number (λ (q : ℕ × ℕ). q.0) (λ (q : ℕ × ℕ). q.1)
-        (growing_room S.takes_memory (size_in arena.old) arena.old.chains.room)
-        (Some (P.Inx.number p, direction)) t (under q result) arena.old arena.new }
-    ensures counter { arena.new.chains.counter ≡ arena.old.chains.counter }
-    ensures room { IfOk result
-        (λ replaced. arena.new.chains.room
-        ≡ room_made replaced (size_in arena.old) arena.old.chains.room) }
-    ensures ordered { IsOrdered P.Inx.number arena.new }
+    ensures { (q : ℕ × ℕ)
+        × InsertsAt P.Inx.number (λ (q : ℕ × ℕ). q.0) (λ (q : ℕ × ℕ). q.1)
+        (Some S.takes_memory) (Some (P.Inx.number p, direction)) t (under q result)
+        arena.old arena.new }
 {
     let inserted = arena.insert_inx_manual(p, direction, t);
     inserted
@@ -67,13 +60,8 @@ pub fn insert_inx_manual_within_capacity<P: PtrCore, T: Drop, S: OrdSlots<P, T>>
     requires empty { place ≡ None → size_in arena.old ≡ 0 }
     requires new { Replaces (option_map (λ a. (P.Inx.number a.0, a.1)) place) → ⊥ }
     requires room { size_in arena.old < arena_capacity arena.old.chains }
-    ensures stands { StandsAt (option_map (λ a. (P.Inx.number a.0, a.1)) place)
-        (order_in P.Inx.number arena.old) (order_in P.Inx.number arena.new) (P.index result) }
-    ensures added { IsAdded P.Inx.number (P.index result) (P.generation result) t
-        arena.old arena.new }
-    ensures counter { arena.new.chains.counter ≡ arena.old.chains.counter }
-    ensures room { arena.new.chains.room ≡ arena.old.chains.room }
-    ensures ordered { IsOrdered P.Inx.number arena.new }
+    ensures { AddsAt P.Inx.number (option_map (λ a. (P.Inx.number a.0, a.1)) place)
+        (P.index result) (P.generation result) t arena.old arena.new }
 {
     let p = arena.insert_inx_manual_within_capacity(place, t);
     p

@@ -7,7 +7,7 @@ use Rattle.triple_arena_ptr.specs.declared.errors.OrdInsertionError.{OrdInsertio
 use Rattle.triple_arena.specs.Entries.{generation_at}
 use Rattle.triple_arena_ord.specs.Ordered.{Ordered, order_in, entry_in}
 use Rattle.triple_arena_ord.specs.Inserted.{Replaces, StandsAt, IsReplaced, IsAdded, IsSamePlace}
-use Rattle.triple_arena_ord.specs.Inserted.{IsInsertedAt}
+use Rattle.triple_arena_ord.specs.Inserted.{IsInsertedAt, InsertsAt}
 use Rattle.triple_arena_ord.specs.InsertEntry.{IsReadyAt}
 use Rattle.triple_arena_ord.proofs.GrowthLemmas.{never}
 use Rattle.triple_arena_ord.proofs.SettleLemmas.{inserted_there}
@@ -21,7 +21,7 @@ module _ {I T : Type 0} (number : I → ℕ) where
   module _ {P : Type 0} (index generation : P → ℕ) (t : T) (o new : Ordered I T) (p q : P)
       (u : Option T) where
     -- the insertion answers the pointer that was told
-    pub inserted_told : (allows : Option OrdInsertionError → Type 0)
+    inserted_told : (allows : Option OrdInsertionError → Type 0)
         (place there : Option (ℕ × Ordering)) (result : Result (P × Option T) OrdInsertionError)
         → result ≡ Ok (q, u) → IsSamePlace (order_in number o) there place
         → IsReadyAt place (index p) (generation p) o
@@ -84,3 +84,16 @@ module _ {I T : Type 0} (number : I → ℕ) where
           refused = λ error e. absurd (cc);
           same = λ error e. absurd (cc);
         }
+
+    pub inserts_told : (place there : Option (ℕ × Ordering))
+        (result : Result (P × Option T) OrdInsertionError) → result ≡ Ok (q, u)
+        → IsSamePlace (order_in number o) there place
+        → IsReadyAt place (index p) (generation p) o
+        → InsertsAt number index generation None there t result o new
+        → InsertsAt number index generation None place t (Ok (p, u)) o new
+    inserts_told place there result is same ready put = record {
+      inserted = inserted_told _ place there result is same ready put.inserted;
+      counter = put.counter;
+      room = put.room;
+      ordered = put.ordered;
+    }

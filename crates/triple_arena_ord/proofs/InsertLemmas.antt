@@ -1,6 +1,6 @@
 -- An item is replaced, and one is put in where its key belongs.
 use Rattle.std.proofs.Common.{◌≡◌, ℕ, List, [], ◌∷◌, ◌++◌, append_assoc, Option}
-use Rattle.std.proofs.Common.{Some, None, Result, Ok, Err, IfOk, Bool, refl, sym, ap, ◌∙◌, subst}
+use Rattle.std.proofs.Common.{Some, None, Result, refl, sym, ap, ◌∙◌, subst}
 use Rattle.std.proofs.Common.{inl, inr}
 use Rattle.std.specs.Option.{option_map}
 use Rattle.std.proofs.lemmas.Bool.Decides.{eqb_tells}
@@ -21,24 +21,14 @@ use Rattle.rank_tree.specs.Knot.{Knot}
 use Rattle.triple_arena_ord.specs.Node.{knots_in, knot_of, itemed}
 use Rattle.rank_tree.specs.Search.{AllIn, Before, IsParted, IsAnswer}
 use Rattle.triple_arena_ord.specs.Ordered.{Ordered, IsOrdered, tree_in, order_in, asked_of}
-use Rattle.triple_arena_ord.specs.Ordered.{asked_at, size_in}
+use Rattle.triple_arena_ord.specs.Ordered.{asked_at}
 use Rattle.triple_arena_ord.specs.Placing.{IsPlaceByKey}
 use Rattle.triple_arena_ord.specs.Inserted.{Replaces, StandsAt, IsRenewed, IsReplaced, IsInsertedAt}
-use Rattle.triple_arena_ord.specs.Inserted.{IsPlacedByKey, IsKeyInserted, room_made, room_left}
+use Rattle.triple_arena_ord.specs.Inserted.{IsPlacedByKey, IsKeyInserted}
 use Rattle.rank_tree.specs.DescentLaws.{AllIn-append, AllIn-map, parted-after, parted-before}
 use Rattle.triple_arena_ord.proofs.PlacingLemmas.{placed_by_key}
 use Rattle.triple_arena_ord.proofs.SeekLemmas.{parts_at, absent}
 use Rattle.triple_arena_ord.proofs.SameListLemmas.{Reordered, same_list}
-
--- the room that a growing insertion leaves
-pub room_told : {I P T : Type 0} (old new : Ordered I T) (takes_memory : Bool)
-    (result : Result (P × Option T) OrdInsertionError)
-    → IfOk result (λ made. new.chains.room ≡ room_made made.1 (size_in old) old.chains.room)
-    → ((error : OrdInsertionError) → result ≡ Err error → new ≡ old)
-    → new.chains.room ≡ room_left (Some takes_memory) result (size_in old) old.chains.room
-room_told old new takes_memory (Ok made) room same = room
-room_told old new takes_memory (Err error) room same =
-    ap (λ o. o.chains.room) (same error refl)
 
 -- an index stands at one place of a list that has each index once
 pub split_same : (xs : List ℕ) (h : ℕ) (ys us vs : List ℕ) → Apart (xs ++ h ∷ ys)

@@ -1,7 +1,7 @@
 -- A place directly before or after an index, where that has a child on this side: the neighbor in
 -- the list has none on the other.
 use Rattle.std.proofs.Common.{◌≡◌, ℕ, List, [], ◌∷◌, ◌++◌, append_assoc, Option, Some, None, IsSome}
-use Rattle.std.proofs.Common.{is_some, true, Result, Ok, Err, refl, sym, ap, ◌∙◌, subst}
+use Rattle.std.proofs.Common.{is_some, true, Bool, Result, Ok, Err, refl, sym, ap, ◌∙◌, subst}
 use Rattle.std.specs.Option.{option_map}
 use Rattle.std.specs.declared.cmp.Ordering.{Ordering}
 use Rattle.std.specs.declared.cmp.Ordering.TheVariants.{Less, Equal, Greater}
@@ -20,8 +20,10 @@ use Rattle.rank_tree.specs.Tree.{Tree, leaf, node, walk}
 use Rattle.rank_tree.specs.Shape.{knot, root_of, Context, top, under, plug, holder, Stands}
 use Rattle.rank_tree.specs.Search.{IsFreeAt}
 use Rattle.triple_arena_ord.specs.Ordered.{Ordered, IsOrdered, StandsBeside, tree_in, order_in}
-use Rattle.triple_arena_ord.specs.Inserted.{StandsAt, IsSamePlace, IsReplaced, IsAdded}
-use Rattle.triple_arena_ord.specs.Inserted.{IsInsertedAt}
+use Rattle.triple_arena_ord.specs.Ordered.{size_in}
+use Rattle.triple_arena_ord.specs.Inserted.{StandsAt, Replaces, IsSamePlace, IsReplaced, IsAdded}
+use Rattle.triple_arena_ord.specs.Inserted.{AddsAt, IsInsertedAt, InsertsAt, room_left}
+use Rattle.triple_arena_ord.specs.Inserted.{under as under_pointer}
 use Rattle.rank_tree.specs.FrameLaws.{plug-opens}
 use Rattle.rank_tree.specs.DescentLaws.{before, after, plug-walk_is}
 use Rattle.triple_arena_ord.proofs.GapLemmas.{linear_ends, last_snoc}
@@ -58,6 +60,26 @@ final_at (node l x k (node a y j b)) i e = go (final_at (node a y j b) y refl)
           ∙ ap (λ t. walk t ++ h.index ∷ [])
           (sym (plug_in-plug (under top Right x k l) h.context h.left));
     }
+
+module _ {I T : Type 0} (number : I → ℕ) (t : T) (o p : Ordered I T) where
+  -- where an item is replaced, one is at the same place
+  pub replaces_there : (one other : Option (ℕ × Ordering))
+      → IsSamePlace (order_in number o) one other → Replaces one → Replaces other
+  replaces_there None other same replaces = absurd replaces
+  replaces_there (Some a) other same replaces =
+      subst Replaces (sym (same.replaced a.0 (ap (λ d. Some (a.0, d)) replaces))) refl
+
+  -- a new entry at a place is one at the same place
+  pub adds_there : (one other : Option (ℕ × Ordering)) (i g : ℕ)
+      → IsSamePlace (order_in number o) one other → AddsAt number one i g t o p
+      → AddsAt number other i g t o p
+  adds_there one other i g same put = record {
+    stands = same.stands (order_in number p) i put.stands;
+    added = put.added;
+    counter = put.counter;
+    room = put.room;
+    ordered = put.ordered;
+  }
 
 module _ {I T P : Type 0} (number : I → ℕ) (index generation : P → ℕ)
     (allows : Option OrdInsertionError → Type 0) (t : T) (o p : Ordered I T) where
@@ -123,24 +145,45 @@ module _ {I T P : Type 0} (number : I → ℕ) (index generation : P → ℕ)
           → ◌≡◌ {A = Result (P × Option T) OrdInsertionError} (Err error) (Err other)
       errs other e = let z : error ≡ other = cc in ap (λ x. Err x) z
 
+module _ {I T P : Type 0} (number : I → ℕ) (index generation : P → ℕ) (takes : Bool) (t : T)
+    (o p : Ordered I T) where
+  -- an insertion that answers no pointer
+  abbrev InsertsSome : Option (ℕ × Ordering) → Result (Option T) OrdInsertionError → Type 0
+  InsertsSome place result = (q : ℕ × ℕ)
+      × InsertsAt number (λ (q : ℕ × ℕ). q.0) (λ (q : ℕ × ℕ). q.1) (Some takes) place t
+      (under_pointer q result) o p
+
   pub numbered_ok : (one other : Option (ℕ × Ordering))
       (result : Result (P × Option T) OrdInsertionError) (a : P) (u : Option T) → result ≡ Ok (a, u)
       → IsSamePlace (order_in number o) one other
-      → IsInsertedAt number index generation allows one t result o p
-      → (q : ℕ × ℕ) × Numbered other (Ok (q, u))
+      → InsertsAt number index generation (Some takes) one t result o p → InsertsSome other (Ok u)
   numbered_ok one other result a u is same put = (
     (index a, generation a),
-    inserted_numbered other result a u is (inserted_there one other result same put),
+    record {
+      inserted = inserted_numbered number index generation _ t o p other result a u is
+          (inserted_there number index generation _ t o p one other result same put.inserted);
+      counter = put.counter;
+      room = put.room ∙ ap (λ r. room_left (Some takes) r (size_in o) o.chains.room) is;
+      ordered = put.ordered;
+    },
   )
 
   pub numbered_err : (one other : Option (ℕ × Ordering))
       (result : Result (P × Option T) OrdInsertionError) (error : OrdInsertionError)
       → result ≡ Err error
       → IsSamePlace (order_in number o) one other
-      → IsInsertedAt number index generation allows one t result o p
-      → (q : ℕ × ℕ) × Numbered other (Err error)
-  numbered_err one other result error is same put =
-      ((0, 0), inserted_nowhere other result error is (inserted_there one other result same put))
+      → InsertsAt number index generation (Some takes) one t result o p
+      → InsertsSome other (Err error)
+  numbered_err one other result error is same put = (
+    (0, 0),
+    record {
+      inserted = inserted_nowhere number index generation _ t o p other result error is
+          (inserted_there number index generation _ t o p one other result same put.inserted);
+      counter = put.counter;
+      room = put.room ∙ ap (λ r. room_left (Some takes) r (size_in o) o.chains.room) is;
+      ordered = put.ordered;
+    },
+  )
 
 module _ {I T : Type 0} (number : I → ℕ) where
   -- where a new leaf hangs that stands directly before or after an index

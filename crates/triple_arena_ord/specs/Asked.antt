@@ -46,7 +46,7 @@ module _ {P T F : Type 0} (index generation : P → ℕ) (step : F → P → Bor
   Reaches f g = (questions : List (Question P T))
       × FoldsTo (λ g q h. step g q.pointer q.lent q.answer h) f questions g
 
-  -- from the state f on, the answers hang on the pointer and the item alone
+  -- from the state f on, the answers depend on the pointer and the item alone
   abbrev pub AnswersBy : F → (ℕ → ℕ × T → Ordering) → Type 0
   AnswersBy f side = (g : F) → Reaches f g → (p : P) (t : Bor T) (d : Ordering) (h : F)
       → step g p t d h

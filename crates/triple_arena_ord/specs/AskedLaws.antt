@@ -103,7 +103,7 @@ module _ {P T F : Type 0} (index generation : P → ℕ) (step : F → P → Bor
       along (q ∷ questions) f g at made =
           along questions made.0 g (keeps f q.pointer q.lent q.answer made.0 at made.1) made.2
 
-  -- a closure that keeps what its answers hang on answers so from its first state on
+  -- a closure that keeps what its answers depend on answers so from its first state on
   pub answers_kept : (K : F → Type 0) (side : ℕ → ℕ × T → Ordering)
       → ((g : F) (p : P) (t : Bor T) (d : Ordering) (h : F) → K g → step g p t d h
       → K h × (d ≡ side (index p) (generation p, t.now)))

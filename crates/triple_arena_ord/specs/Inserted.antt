@@ -122,6 +122,15 @@ module _ {I T : Type 0} (number : I → ℕ) where
     pub free : new.chains.free ≡ drop 1 old.chains.free
     pub slots : length new.chains.slots ≡ max (length old.chains.slots) (next_index old.chains)
 
+  -- a new entry where a search ended. The counter and the room stay
+  pub record AddsAt (place : Option (ℕ × Ordering)) (i g : ℕ) (t : T) (old new : Ordered I T)
+      : Type 0 where
+    pub stands : StandsAt place (order_in number old) (order_in number new) i
+    pub added : IsAdded i g t old new
+    pub counter : new.chains.counter ≡ old.chains.counter
+    pub room : new.chains.room ≡ old.chains.room
+    pub ordered : IsOrdered number new
+
   -- `allows` is what the room says: None lets a new entry in, an error does not
   module _ {P : Type 0} (index generation : P → ℕ) (allows : Option OrdInsertionError
       → Type 0) where
@@ -137,6 +146,17 @@ module _ {I T : Type 0} (number : I → ℕ) where
       pub refused : (error : OrdInsertionError) → result ≡ Err error → (Replaces place → ⊥)
           × allows (Some error)
       pub same : (error : OrdInsertionError) → result ≡ Err error → new ≡ old
+
+  module _ {P : Type 0} (index generation : P → ℕ) where
+    -- an insertion where a search ended, by a call that does not grow, or by one that does, over a
+    -- stack that may take memory. The counter stays
+    pub record InsertsAt (growth : Option Bool) (place : Option (ℕ × Ordering)) (t : T)
+        (result : Result (P × Option T) OrdInsertionError) (old new : Ordered I T) : Type 0 where
+      pub inserted : IsInsertedAt index generation (either_room growth (size_in old)
+          old.chains.room) place t result old new
+      pub counter : new.chains.counter ≡ old.chains.counter
+      pub room : new.chains.room ≡ room_left growth result (size_in old) old.chains.room
+      pub ordered : IsOrdered number new
 
   module _ {K : Type 0} (cmp : K → K → Ordering) (key : T → K) where
     -- one more index in the list: where the keys ascend, all before it have lesser keys and all

@@ -34,6 +34,7 @@ abbrev pub replaced : Option ℕ → ℕ → ℕ → Option ℕ
 replaced None h n = None
 replaced (Some i) h n = if i == h then Some n else Some i
 
+-- the end of the list at the second side, after one more index stands at the first side of another
 abbrev pub moved : Side → Side → Option ℕ → ℕ → ℕ → Option ℕ
 moved Left Left o h n = replaced o h n
 moved Right Right o h n = replaced o h n

@@ -13,7 +13,7 @@ ghost use Rattle.triple_arena_ord.specs.Asked.{IsWay};
 ghost use Rattle.triple_arena_ord.specs.AskedLaws.{IsCutAt, last_greater, last_less};
 ghost use Rattle.triple_arena_ord.specs.CanonicalLayout.{IsLaidInOrder};
 ghost use Rattle.triple_arena_ord.specs.Indexed.{indexed};
-ghost use Rattle.triple_arena_ord.specs.Inserted.{IsInsertedAt, IsReplaced, either_room};
+ghost use Rattle.triple_arena_ord.specs.Inserted.{InsertsAt, IsReplaced};
 ghost use Rattle.triple_arena_ord.specs.ItemRecasting.{recasted_in};
 ghost use Rattle.triple_arena_ord.specs.Ordered.{Ordered, IsOrdered, IsAscending, tree_in};
 ghost use Rattle.triple_arena_ord.specs.Ordered.{order_in, ordered_entries, entry_in, size_in};
@@ -126,18 +126,16 @@ pub fn limits_keep_the_list<P: PtrCore, T>()
 pub fn insertions_keep_keys_ascending<P: PtrCore, T: SimpleOrdItem>()
     ensures by_key { (place : Option (ℕ × Way)) (t : T) (result : Result (P × Option T) Refused)
         (old new : Ordered P.Inx T)
-        → (growth : Option Bool) → IsOrdered P.Inx.number old → IsOrdered P.Inx.number new
+        → (growth : Option Bool) → IsOrdered P.Inx.number old
         → IsPlaceByKey P.Inx.number T.Key.cmp T.key_of (T.key_of t) old place
-        → IsInsertedAt P.Inx.number P.index P.generation
-        (either_room growth (size_in old) old.chains.room) place t result old new
+        → InsertsAt P.Inx.number P.index P.generation growth place t result old new
         → IsAscending P.Inx.number T.Key.cmp T.key_of old
         → IsAscending P.Inx.number T.Key.cmp T.key_of new }
     ensures before_equal { (place : Option (ℕ × Way)) (t : T)
         (result : Result (P × Option T) Refused) (old new : Ordered P.Inx T)
-        → (growth : Option Bool) → IsOrdered P.Inx.number old → IsOrdered P.Inx.number new
+        → (growth : Option Bool) → IsOrdered P.Inx.number old
         → IsPlaceBeforeEqual P.Inx.number T.Key.cmp T.key_of (T.key_of t) old place
-        → IsInsertedAt P.Inx.number P.index P.generation
-        (either_room growth (size_in old) old.chains.room) place t result old new
+        → InsertsAt P.Inx.number P.index P.generation growth place t result old new
         → IsAscending P.Inx.number T.Key.cmp T.key_of old
         → IsAscending P.Inx.number T.Key.cmp T.key_of new }
 {}

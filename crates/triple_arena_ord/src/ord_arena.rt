@@ -1,5 +1,5 @@
 //! The ordered arena.
-ghost use Rattle.std.specs.Prelude.{◌≡◌, [], ◌∷◌, ◌<◌, ◌↔◌, Some, None, IsSome, IsOk, IfOk, OnErr};
+ghost use Rattle.std.specs.Prelude.{◌≡◌, [], ◌∷◌, ◌<◌, Some, None, IsSome};
 ghost use Rattle.std.specs.Option.{option_map};
 ghost use Rattle.triple_arena.specs.Content.{live_count, arena_capacity};
 ghost use Rattle.triple_arena_ord.specs.Ordered.{IsOrdered, StandsBeside, order_in};
@@ -41,9 +41,10 @@ use rank_tree::Side;
 use std::marker::Model;
 use triple_arena::{
     ArenaSlot, ArenaTrait, NonZeroInxArray, NonZeroInxBoxedSlice, NonZeroInxLimitedVec,
-    NonZeroInxVec, NotWithinCapacityError, PtrCore,
+    NonZeroInxVec, PtrCore,
 };
 use triple_arena_chain::{ChainArena, LinkNoGen};
+use unreached::unreached;
 
 /// Items in one list, each with a pointer, and a search tree over them. An insertion that searches
 /// puts an item where its key belongs.
@@ -104,38 +105,8 @@ impl<P: PtrCore, T: Drop, S: OrdSlots<P, T>> Model for SimpleOrdArena<P, T, S> {
 }
 
 impl<P: PtrCore, T: Drop, S: OrdSlots<P, T>> SimpleOrdArena<P, T, S> {
-    // A new entry directly before or after that of `holder`, which has no child on this side. It is
-    // inlined, since the side is known at each call.
-    #[inline(always)]
-    pub(crate) fn insert_beside(
-        &mut self,
-        holder: P::Inx,
-        side: Side,
-        t: T,
-    ) -> Result<P, NotWithinCapacityError>
-        requires lives { IsSome (knots_in P.Inx.number self.old.chains (P.Inx.number holder)) }
-        requires free { option_map (λ v. child_of side v)
-            (knots_in P.Inx.number self.old.chains (P.Inx.number holder)) ≡ Some None }
-        ensures variant { IsOk result
-            ↔ (live_count self.old.chains < arena_capacity self.old.chains) }
-        ensures order { IfOk result
-            (λ p. StandsBeside side (order_in P.Inx.number self.old)
-            (order_in P.Inx.number self.new)
-            (P.Inx.number holder) (P.index p)) }
-        ensures added { IfOk result
-            (λ p. IsAdded P.Inx.number (P.index p) (P.generation p) t self.old self.new) }
-        ensures counter { self.new.chains.counter ≡ self.old.chains.counter }
-        ensures room { self.new.chains.room ≡ self.old.chains.room }
-        ensures ordered { IsOrdered P.Inx.number self.new }
-        ensures err { OnErr result (self.new ≡ self.old) }
-    {
-        if self.chains.len() >= self.chains.capacity() {
-            return Err(NotWithinCapacityError);
-        }
-        Ok(self.put_beside(holder, side, t))
-    }
-
-    // The same, if there is room.
+    // A new entry directly before or after that of `holder`, which has no child on this side. There
+    // is room for it. It is inlined, since the side is known at each call.
     #[inline(always)]
     pub(crate) fn put_beside(&mut self, holder: P::Inx, side: Side, t: T) -> P
         requires lives { IsSome (knots_in P.Inx.number self.old.chains (P.Inx.number holder)) }
@@ -157,25 +128,27 @@ impl<P: PtrCore, T: Drop, S: OrdSlots<P, T>> SimpleOrdArena<P, T, S> {
         p
     }
 
-    // The first entry, if there is none.
-    pub(crate) fn insert_first(&mut self, t: T) -> Result<P, NotWithinCapacityError>
-        requires { self.old.root ≡ None }
-        ensures variant { IsOk result
-            ↔ (live_count self.old.chains < arena_capacity self.old.chains) }
-        ensures order { IfOk result (λ p. order_in P.Inx.number self.new ≡ P.index p ∷ []) }
-        ensures added { IfOk result
-            (λ p. IsAdded P.Inx.number (P.index p) (P.generation p) t self.old self.new) }
+    // The first entry, for which there is room.
+    pub(crate) fn put_first(&mut self, t: T) -> P
+        requires first { self.old.root ≡ None }
+        requires room { live_count self.old.chains < arena_capacity self.old.chains }
+        ensures order { order_in P.Inx.number self.new ≡ P.index result ∷ [] }
+        ensures added { IsAdded P.Inx.number (P.index result) (P.generation result) t
+            self.old self.new }
         ensures counter { self.new.chains.counter ≡ self.old.chains.counter }
         ensures room { self.new.chains.room ≡ self.old.chains.room }
         ensures ordered { IsOrdered P.Inx.number self.new }
-        ensures err { OnErr result (self.new ≡ self.old) }
     {
         let node: SimpleOrdArenaNode<P, T> = IndexNode::under(None, t);
-        let p = self.chains.insert_in_gap_within_capacity(None, None, node)?;
-        let inx = p.inx();
-        self.root = Some(inx);
-        self.first = Some(inx);
-        self.last = Some(inx);
-        Ok(p)
+        match self.chains.insert_in_gap_within_capacity(None, None, node) {
+            Ok(p) => {
+                let inx = p.inx();
+                self.root = Some(inx);
+                self.first = Some(inx);
+                self.last = Some(inx);
+                p
+            }
+            Err(_) => unreached!(),
+        }
     }
 }

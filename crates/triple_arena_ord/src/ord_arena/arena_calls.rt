@@ -30,7 +30,7 @@ use triple_arena::{
     ArenaTrait, CompactArenaTrait, InvalidationOption, InvalidationResult, PtrCore,
     ReallocationError,
 };
-use triple_arena_chain::ChainArena;
+use triple_arena_chain::{ChainArena, ChainArenaTrait};
 
 impl<P: PtrCore, T: Drop, S: OrdSlots<P, T>> SimpleOrdArena<P, T, S> {
     // Tells the proof what holds of every ordered arena. It does nothing.
@@ -174,11 +174,12 @@ impl<P: PtrCore, T: Drop, S: OrdSlots<P, T>> ArenaTrait<P, T> for SimpleOrdArena
 
     #[inline(always)]
     fn remove_inx(&mut self, i: P::Inx) -> InvalidationResult<(P::Gen, T)> {
-        if self.chains.get_inx(i).is_none() {
+        let Some((_, link)) = self.chains.get_inx_link_no_gen(i) else {
             self.recall_formed();
             return InvalidationResult::InvalidPtr;
-        }
-        let taken = self.remove_live(i);
+        };
+        let (prev, next) = (link.prev(), link.next());
+        let taken = self.remove_live(i, prev, next);
         self.recall_formed();
         taken
     }

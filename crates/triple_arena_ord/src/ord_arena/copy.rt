@@ -1,14 +1,13 @@
 //! An ordered arena as a clone of another one, and an arena or a chain arena as a copy of an
 //! ordered one.
-ghost use Rattle.std.specs.Prelude.{◌≡◌, ℕ, ◌<◌, ◌≤◌, ◌↔◌, ◌⊎◌, IsTrue, IsOk, IfOk, OnOk, IsErrOf};
+ghost use Rattle.std.specs.Prelude.{◌≡◌, ◌<◌, ◌≤◌, ◌↔◌, ◌⊎◌, IsTrue, IsOk, IfOk, OnOk, IsErrOf};
 ghost use Rattle.triple_arena_ptr.specs.Generation.{second_generation};
 ghost use Rattle.triple_arena_stack.specs.Room.{capacity as capacity_of, IsBeyond};
 ghost use Rattle.triple_arena.specs.ArenaRoom.{room_of};
 ghost use Rattle.triple_arena.specs.Content.{entry_at, live_count, some_counter, empty, cleared};
 ghost use Rattle.triple_arena.specs.Content.{reallocated};
 ghost use Rattle.triple_arena.specs.Copy.{MayRefuse, NeverRefuses, IsMappedCopy, IsRefusedCopy};
-ghost use Rattle.triple_arena.specs.Copy.{IsCopy, IsUnmadeCopy};
-ghost use Rattle.triple_arena.specs.LiveEntries.{live_entries};
+ghost use Rattle.triple_arena.specs.Copy.{IsUnmadeCopy};
 ghost use Rattle.triple_arena_chain.specs.Chains.{IsLinear};
 ghost use Rattle.triple_arena_chain.specs.Links.{ends_in, values_in, IsChained};
 ghost use Rattle.triple_arena_chain.specs.Listed.{listed_values};

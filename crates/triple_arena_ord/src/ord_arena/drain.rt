@@ -7,6 +7,7 @@ ghost use Rattle.triple_arena_ord.specs.OrderedDrains.{drain_arena, drain_lender
 ghost use Rattle.triple_arena_ord.specs.OrderedDrains.{drain_leaves, TakesFirst, DrainSteps};
 ghost use Rattle.triple_arena_ord.specs.OrderedDrains.{DrainKeepsAlong};
 
+use crate::ord_arena::removal::neighbors;
 use crate::{OrdSlots, SimpleOrdArena};
 use std::iter::FusedIterator;
 use triple_arena::{ArenaTrait, InvalidationOption, PtrCore};
@@ -38,7 +39,8 @@ impl<P: PtrCore, T: Drop, S: OrdSlots<P, T>> SimpleOrdArena<P, T, S> {
         ensures { TakesFirst P.Inx.number P.Gen.last P.index P.generation result self.old self.new }
     {
         let i = self.first_index()?;
-        let ((generation, t), wrapped) = self.remove_live(i).overflowing()?;
+        let (prev, next) = neighbors(&self.chains, i);
+        let ((generation, t), wrapped) = self.remove_live(i, prev, next).overflowing()?;
         let item = (P::_from_raw(i, generation), t);
         if wrapped {
             Some(InvalidationOption::GenerationOverflow(item))
@@ -79,6 +81,12 @@ impl<'a, P: PtrCore, T: Drop, S: OrdSlots<P, T>> Iterator for OrderedDrain<'a, P
     {
         let len = self.arena.len();
         (len, Some(len))
+    }
+}
+
+impl<'a, P: PtrCore, T: Drop, S: OrdSlots<P, T>> ExactSizeIterator for OrderedDrain<'a, P, T, S> {
+    fn len(&self) -> usize {
+        self.arena.len()
     }
 }
 

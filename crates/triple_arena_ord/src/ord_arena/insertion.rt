@@ -1,12 +1,12 @@
 //! Insertions.
-ghost use Rattle.std.specs.Prelude.{◌≡◌, ◌↔◌, Some, None, Ok, Err, IsTrue, IsSome, IfSome, IfOk};
+ghost use Rattle.std.specs.Prelude.{◌≡◌, ◌↔◌, ◌<◌, Some, None, IsTrue, IsSome, IfSome};
 ghost use Rattle.std.specs.Option.{option_map};
+ghost use Rattle.triple_arena.specs.Content.{arena_capacity};
 ghost use Rattle.triple_arena_ord.specs.Node.{knots_in};
 ghost use Rattle.rank_tree.specs.Search.{IsFreeAt};
 ghost use Rattle.triple_arena_ord.specs.Ordered.{IsOrdered, size_in};
-ghost use Rattle.triple_arena_ord.specs.Inserted.{IsRenewed, IsReplaced, IsInsertedAt};
-ghost use Rattle.triple_arena_ord.specs.Inserted.{InsertsByKey, Replaces, within_room};
-ghost use Rattle.triple_arena_ord.specs.Inserted.{growing_room, room_made};
+ghost use Rattle.triple_arena_ord.specs.Inserted.{IsRenewed, IsReplaced, Replaces};
+ghost use Rattle.triple_arena_ord.specs.Inserted.{AddsAt, InsertsAt, InsertsByKey};
 
 pub(crate) mod entry;
 mod growth;
@@ -18,7 +18,7 @@ use crate::{OrdSlots, SimpleOrdArena, SimpleOrdArenaNode, SimpleOrdItem};
 use rank_tree::Side;
 use std::cmp::Ordering;
 use std::mem;
-use triple_arena::{ArenaTrait, NotWithinCapacityError, PtrCore, PtrInxCore, ReallocationError};
+use triple_arena::{ArenaTrait, PtrCore, PtrInxCore, ReallocationError};
 use triple_arena_chain::ChainArena;
 use triple_arena_ptr::{OrdInsertionError, Probes};
 use unreached::unreached;
@@ -42,20 +42,6 @@ fn renew<P: PtrCore, T: Drop, S: OrdSlots<P, T>>(
             (P::_from_raw(i, generation), old)
         }
         None => unreached!(),
-    }
-}
-
-// What an insertion of a new entry returns.
-fn answer<P: Drop, T: Drop>(
-    inserted: Result<P, NotWithinCapacityError>,
-) -> Result<(P, Option<T>), OrdInsertionError>
-    ensures ok { (p : P) → inserted ≡ Ok p → result ≡ Ok (p, None) }
-    ensures err { (e : NotWithinCapacityError) → inserted ≡ Err e
-        → result ≡ Err OrdInsertionError.NotWithinCapacity }
-{
-    match inserted {
-        Ok(p) => Ok((p, None)),
-        Err(_) => Err(OrdInsertionError::NotWithinCapacity),
     }
 }
 
@@ -93,6 +79,27 @@ impl<P: PtrCore, T: Drop, S: OrdSlots<P, T>> SimpleOrdArena<P, T, S> {
         renew(&mut self.chains, i, t)
     }
 
+    // A new entry where a search ended, for which there is room.
+    #[inline(always)]
+    pub(crate) fn put_at(&mut self, place: Option<(P::Inx, Ordering)>, t: T) -> P
+        requires free { IfSome place
+            (λ a. IsFreeAt a.1 (knots_in P.Inx.number self.old.chains (P.Inx.number a.0))) }
+        requires empty { place ≡ None → self.old.root ≡ None }
+        requires new { Replaces (option_map (λ a. (P.Inx.number a.0, a.1)) place) → ⊥ }
+        requires room { size_in self.old < arena_capacity self.old.chains }
+        ensures { AddsAt P.Inx.number (option_map (λ a. (P.Inx.number a.0, a.1)) place)
+            (P.index result) (P.generation result) t self.old self.new }
+    {
+        match place {
+            None => self.put_first(t),
+            Some((i, direction)) => match direction {
+                Ordering::Less => self.put_beside(i, Side::Left, t),
+                Ordering::Equal => unreached!(),
+                Ordering::Greater => self.put_beside(i, Side::Right, t),
+            },
+        }
+    }
+
     // An insertion where a search ended.
     #[inline(always)]
     pub(crate) fn insert_at_within_capacity(
@@ -103,24 +110,17 @@ impl<P: PtrCore, T: Drop, S: OrdSlots<P, T>> SimpleOrdArena<P, T, S> {
         requires free { IfSome place
             (λ a. IsFreeAt a.1 (knots_in P.Inx.number self.old.chains (P.Inx.number a.0))) }
         requires empty { place ≡ None → self.old.root ≡ None }
-        ensures inserted { IsInsertedAt P.Inx.number P.index P.generation
-            (within_room (size_in self.old) self.old.chains.room)
+        ensures { InsertsAt P.Inx.number P.index P.generation None
             (option_map (λ a. (P.Inx.number a.0, a.1)) place) t result self.old self.new }
-        ensures counter { self.new.chains.counter ≡ self.old.chains.counter }
-        ensures room { self.new.chains.room ≡ self.old.chains.room }
-        ensures ordered { IsOrdered P.Inx.number self.new }
     {
-        match place {
-            None => answer(self.insert_first(t)),
-            Some((i, direction)) => match direction {
-                Ordering::Less => answer(self.insert_beside(i, Side::Left, t)),
-                Ordering::Equal => {
-                    let (p, old) = self.replace_item(i, t);
-                    Ok((p, Some(old)))
-                }
-                Ordering::Greater => answer(self.insert_beside(i, Side::Right, t)),
-            },
+        if let Some((i, Ordering::Equal)) = place {
+            let (p, old) = self.replace_item(i, t);
+            return Ok((p, Some(old)));
         }
+        if self.chains.len() >= self.chains.capacity() {
+            return Err(OrdInsertionError::NotWithinCapacity);
+        }
+        Ok((self.put_at(place, t), None))
     }
 
     // The same, but the arena grows if a new entry is needed and there is no room.
@@ -132,30 +132,24 @@ impl<P: PtrCore, T: Drop, S: OrdSlots<P, T>> SimpleOrdArena<P, T, S> {
         requires free { IfSome place
             (λ a. IsFreeAt a.1 (knots_in P.Inx.number self.old.chains (P.Inx.number a.0))) }
         requires empty { place ≡ None → self.old.root ≡ None }
-        ensures inserted { IsInsertedAt P.Inx.number P.index P.generation
-            (growing_room S.takes_memory (size_in self.old) self.old.chains.room)
+        ensures { InsertsAt P.Inx.number P.index P.generation (Some S.takes_memory)
             (option_map (λ a. (P.Inx.number a.0, a.1)) place) t result self.old self.new }
-        ensures counter { self.new.chains.counter ≡ self.old.chains.counter }
-        ensures room { IfOk result
-            (λ made. self.new.chains.room
-            ≡ room_made made.1 (size_in self.old) self.old.chains.room) }
-        ensures ordered { IsOrdered P.Inx.number self.new }
     {
         if replaces(place) {
             return self.insert_at_within_capacity(place, t);
         }
         match self.make_room() {
-            Ok(_) => self.insert_at_within_capacity(place, t),
+            Ok(_) => Ok((self.put_at(place, t), None)),
             Err(error) => Err(grown_error(error)),
         }
     }
 }
 
 impl<P: PtrCore, T: SimpleOrdItem + Drop, S: OrdSlots<P, T>> SimpleOrdArena<P, T, S> {
-    /// Puts an item in where its key belongs. If an entry with an equal key is found, its item is
-    /// replaced, and returned, whether or not there is room. Else there is a new entry;
-    /// `NotWithinCapacity`, if there is no room for it, changes nothing. A list whose keys ascend
-    /// still does.
+    /// Puts an item in where its key belongs, and returns the pointer to it, and the item that it
+    /// replaced. If an entry with an equal key is found, its item is replaced, whether or not there
+    /// is room. Else there is a new entry; `NotWithinCapacity`, if there is no room for it, changes
+    /// nothing, and `t` is dropped. A list whose keys ascend still does.
     pub fn insert_within_capacity(&mut self, t: T) -> Result<(P, Option<T>), OrdInsertionError>
         ensures { InsertsByKey P.Inx.number T.Key.cmp T.key_of P.index P.generation None
             t result self.old self.new }
@@ -167,7 +161,7 @@ impl<P: PtrCore, T: SimpleOrdItem + Drop, S: OrdSlots<P, T>> SimpleOrdArena<P, T
     /// The same, but the arena grows if there is no room for a new entry: to room for 4 at first,
     /// then for the double, and never past its greatest capacity. `BeyondMaxCapacity`, if as many
     /// entries are live as the greatest capacity, and `AllocError`, if the memory was refused,
-    /// change nothing.
+    /// change nothing, and `t` is dropped.
     pub fn insert_reallocating(&mut self, t: T) -> Result<(P, Option<T>), OrdInsertionError>
         ensures { InsertsByKey P.Inx.number T.Key.cmp T.key_of P.index P.generation
             (Some S.takes_memory) t result self.old self.new }

@@ -48,6 +48,12 @@ impl<P: PtrCore, T: Drop, S: OrdSlots<P, T>> Iterator for CapacityDrain<P, T, S>
     }
 }
 
+impl<P: PtrCore, T: Drop, S: OrdSlots<P, T>> ExactSizeIterator for CapacityDrain<P, T, S> {
+    fn len(&self) -> usize {
+        self.arena.len()
+    }
+}
+
 impl<P: PtrCore, T: Drop, S: OrdSlots<P, T>> FusedIterator for CapacityDrain<P, T, S> {}
 
 impl<P: PtrCore, T: Drop, S: OrdSlots<P, T>> IntoIterator for SimpleOrdArena<P, T, S> {

@@ -1,5 +1,5 @@
 //! Removals.
-ghost use Rattle.std.specs.Prelude.{◌≡◌, ℕ, Some, IsSome, ⊤};
+ghost use Rattle.std.specs.Prelude.{◌≡◌, ℕ, Some, IsSome};
 ghost use Rattle.std.specs.Option.{option_map};
 ghost use Rattle.triple_arena_ptr.specs.Generation.{next_wraps};
 ghost use Rattle.triple_arena_ptr.specs.InvalidationOption.{value_of, overflowed};
@@ -69,11 +69,17 @@ fn item_of<P: PtrCore, T>(
 }
 
 impl<P: PtrCore, T: Drop, S: OrdSlots<P, T>> SimpleOrdArena<P, T, S> {
-    // The entry at an index that is live leaves.
+    // The entry at an index that is live leaves, which has these neighbors in the list.
     #[inline(always)]
-    pub(crate) fn remove_live(&mut self, gone: P::Inx) -> InvalidationResult<(P::Gen, T)>
+    pub(crate) fn remove_live(
+        &mut self,
+        gone: P::Inx,
+        prev: Option<P::Inx>,
+        next: Option<P::Inx>,
+    ) -> InvalidationResult<(P::Gen, T)>
         requires live { IsSome (knots_in P.Inx.number self.old.chains (P.Inx.number gone)) }
-        requires no_more { ⊤ }
+        requires ends { ends_in P.Inx.number self.old.chains (P.Inx.number gone)
+            ≡ Some (option_map P.Inx.number prev, option_map P.Inx.number next) }
         ensures removed { IsEntryRemoved P.Inx.number P.Gen.last
             (P.Inx.number gone) self.old self.new }
         ensures value { option_map (λ a. (P.Gen.number (value_of a).0, (value_of a).1))
@@ -82,7 +88,6 @@ impl<P: PtrCore, T: Drop, S: OrdSlots<P, T>> SimpleOrdArena<P, T, S> {
             ≡ Some (next_wraps P.Gen.last self.old.chains.counter) }
         ensures ordered { IsOrdered P.Inx.number self.new }
     {
-        let (prev, next) = neighbors(&self.chains, gone);
         let taken = take_entry(&mut self.chains, &mut self.root, gone, next);
         leave_end(&mut self.first, gone, next);
         leave_end(&mut self.last, gone, prev);

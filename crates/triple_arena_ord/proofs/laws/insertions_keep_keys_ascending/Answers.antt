@@ -1,16 +1,14 @@
-use Rattle.triple_arena_ord.specs.Inserted.{either_room}
-use Rattle.triple_arena_ord.specs.Ordered.{size_in}
 use Rattle.triple_arena_ord.proofs.PlacedLemmas.{placed_ascending, placed_before_ascending}
 use Rattle.triple_arena_ord.proofs.laws.insertions_keep_keys_ascending.Goals as goal
 
 pub returns-clause-by_key : goal.returns-clause-by_key
-returns-clause-by_key g c = λ place t result old new growth is new_is at put ascending.
+returns-clause-by_key g c = λ place t result old new growth is at put ascending.
     placed_ascending g.P.Inx.PtrInxCore.number g.T.Key.Ord.cmp g.T.SimpleOrdItem.key_of
-    g.met.T.Key.Ord.total old new g.P.PtrCore.index g.P.PtrCore.generation
-    (either_room growth (size_in old) old.chains.room) t place result is new_is at put ascending
+    g.met.T.Key.Ord.total old new g.P.PtrCore.index g.P.PtrCore.generation _ t place result is
+    put.ordered at put.inserted ascending
 
 pub returns-clause-before_equal : goal.returns-clause-before_equal
-returns-clause-before_equal g c = λ place t result old new growth is new_is at put ascending.
+returns-clause-before_equal g c = λ place t result old new growth is at put ascending.
     placed_before_ascending g.P.Inx.PtrInxCore.number g.T.Key.Ord.cmp g.T.SimpleOrdItem.key_of
-    g.met.T.Key.Ord.total old new g.P.PtrCore.index g.P.PtrCore.generation
-    (either_room growth (size_in old) old.chains.room) t place result is new_is at put ascending
+    g.met.T.Key.Ord.total old new g.P.PtrCore.index g.P.PtrCore.generation _ t place result is
+    put.ordered at put.inserted ascending

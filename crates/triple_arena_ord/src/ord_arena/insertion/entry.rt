@@ -6,12 +6,12 @@ ghost use Rattle.std.specs.Borrow.{sem, RestsIfErr};
 ghost use Rattle.triple_arena_ptr.specs.declared.errors.OrdInsertionError.{OrdInsertionError as Refused};
 ghost use Rattle.triple_arena_stack.specs.Room.{capacity};
 ghost use Rattle.triple_arena_ord.specs.Growth.{IsInRoom};
-ghost use Rattle.triple_arena_ord.specs.Inserted.{Replaces, IsInsertedAt, within_room};
+ghost use Rattle.triple_arena_ord.specs.Inserted.{Replaces, InsertsAt, within_room};
 ghost use Rattle.triple_arena_ord.specs.Inserted.{growing_room, room_for};
 ghost use Rattle.triple_arena_ord.specs.InsertEntry.{entry_arena, entry_lender, entry_place};
 ghost use Rattle.triple_arena_ord.specs.InsertEntry.{kind_at, IsReady, IsReadyAt, IsOrdAnswer};
 ghost use Rattle.triple_arena_ord.specs.Placing.{Meets, IsPlaceFor};
-ghost use Rattle.triple_arena_ord.specs.Ordered.{IsOrdered, entry_in, size_in};
+ghost use Rattle.triple_arena_ord.specs.Ordered.{entry_in, size_in};
 
 use crate::ord_arena::insertion::grown_error;
 use crate::ord_arena::search::found::found_at;
@@ -49,13 +49,9 @@ impl<'a, P: PtrCore, T: Drop, S: OrdSlots<P, T>> SimpleOrdArenaInsertEntry<'a, P
         requires { IsReady P.Inx.number P.index P.generation self }
 
         // `self.exit.0.now` is the arena as it is left.
-        ensures inserted { IsInsertedAt P.Inx.number P.index P.generation
-            (within_room (size_in (entry_arena self.entry)) (entry_arena self.entry).chains.room)
+        ensures { InsertsAt P.Inx.number P.index P.generation None
             (entry_place P.Inx.number self.entry) t (Ok (self.entry.ptr, result))
             (entry_arena self.entry) self.exit.0.now }
-        ensures counter { self.exit.0.now.chains.counter ≡ (entry_arena self.entry).chains.counter }
-        ensures room { self.exit.0.now.chains.room ≡ (entry_arena self.entry).chains.room }
-        ensures ordered { IsOrdered P.Inx.number self.exit.0.now }
     {
         let SimpleOrdArenaInsertEntry {
             arena,
@@ -75,16 +71,15 @@ impl<'a, P: PtrCore, T: Drop, S: OrdSlots<P, T>> SimpleOrdArenaInsertEntry<'a, P
 impl<P: PtrCore, T: Drop, S: OrdSlots<P, T>> SimpleOrdArena<P, T, S> {
     // The pointer that an item gets at a place: that of the entry there, or a new one, if there is
     // room for it.
-    fn ptr_within_capacity(&mut self, place: Option<(P::Inx, Ordering)>) -> Option<P>
-        requires live { IfSome place (λ a. IsSome (entry_in self.old (P.Inx.number a.0))) }
-        requires empty { place ≡ None → size_in self.old ≡ 0 }
+    fn ptr_within_capacity(&self, place: Option<(P::Inx, Ordering)>) -> Option<P>
+        requires live { IfSome place (λ a. IsSome (entry_in self.now (P.Inx.number a.0))) }
+        requires empty { place ≡ None → size_in self.now ≡ 0 }
         ensures ready { IfSome result
             (λ p. IsReadyAt (option_map (λ a. (P.Inx.number a.0, a.1)) place)
-            (P.index p) (P.generation p) self.old) }
-        ensures full { IfNone result (capacity self.old.chains.room ≤ size_in self.old) }
+            (P.index p) (P.generation p) self.now) }
+        ensures full { IfNone result (capacity self.now.chains.room ≤ size_in self.now) }
         ensures new { IfNone result
             (Replaces (option_map (λ a. (P.Inx.number a.0, a.1)) place) → ⊥) }
-        ensures kept { self.new ≡ self.old }
     {
         if let Some(p) = found_at(&self.chains, place) {
             return Some(p);

@@ -1,23 +1,20 @@
 //! Insertions that look at no key.
-ghost use Rattle.std.specs.Prelude.{◌≡◌, ◌<◌, ℕ, Some, None, IsSome, IfSome, IfOk};
+ghost use Rattle.std.specs.Prelude.{◌≡◌, ◌<◌, ℕ, Some, None, IsSome, IfSome};
 ghost use Rattle.std.specs.Option.{option_map};
 ghost use Rattle.triple_arena.specs.Content.{arena_capacity};
-ghost use Rattle.triple_arena_ord.specs.Inserted.{IsAdded, Replaces, StandsAt};
-ghost use Rattle.triple_arena_ord.specs.Inserted.{IsInsertedAt, growing_room, room_made, under};
-ghost use Rattle.triple_arena_ord.specs.Ordered.{IsOrdered, entry_in, order_in, size_in};
+ghost use Rattle.triple_arena_ord.specs.Inserted.{AddsAt, InsertsAt, Replaces, under};
+ghost use Rattle.triple_arena_ord.specs.Ordered.{entry_in, size_in};
 
 use crate::{OrdSlots, SimpleOrdArena};
-use rank_tree::Side;
 use std::cmp::Ordering;
 use triple_arena::{ArenaTrait, PtrCore};
 use triple_arena_ptr::OrdInsertionError;
-use unreached::unreached;
 
 impl<P: PtrCore, T: Drop, S: OrdSlots<P, T>> SimpleOrdArena<P, T, S> {
     /// Puts an item in at an entry that is live, whatever the keys are: `Equal` replaces the item
     /// there, and returns it, `Less` puts a new entry directly before it, `Greater` directly after
     /// it. If there is no room for a new entry, the arena grows, as in `insert_reallocating`;
-    /// `BeyondMaxCapacity` and `AllocError` change nothing.
+    /// `BeyondMaxCapacity` and `AllocError` change nothing, and `t` is dropped.
     pub fn insert_inx_manual(
         &mut self,
         p: P::Inx,
@@ -25,15 +22,10 @@ impl<P: PtrCore, T: Drop, S: OrdSlots<P, T>> SimpleOrdArena<P, T, S> {
         t: T,
     ) -> Result<Option<T>, OrdInsertionError>
         requires { IsSome (entry_in self.old (P.Inx.number p)) }
-        ensures inserted { (q : ℕ × ℕ)
-            × IsInsertedAt P.Inx.number (λ (q : ℕ × ℕ). q.0) (λ (q : ℕ × ℕ). q.1)
-            (growing_room S.takes_memory (size_in self.old) self.old.chains.room)
-            (Some (P.Inx.number p, direction)) t (under q result) self.old self.new }
-        ensures counter { self.new.chains.counter ≡ self.old.chains.counter }
-        ensures room { IfOk result
-            (λ replaced. self.new.chains.room
-            ≡ room_made replaced (size_in self.old) self.old.chains.room) }
-        ensures ordered { IsOrdered P.Inx.number self.new }
+        ensures { (q : ℕ × ℕ)
+            × InsertsAt P.Inx.number (λ (q : ℕ × ℕ). q.0) (λ (q : ℕ × ℕ). q.1)
+            (Some S.takes_memory) (Some (P.Inx.number p, direction)) t (under q result)
+            self.old self.new }
     {
         let place = self.settle(Some((p, direction)));
         match self.insert_at_reallocating(place, t) {
@@ -54,26 +46,12 @@ impl<P: PtrCore, T: Drop, S: OrdSlots<P, T>> SimpleOrdArena<P, T, S> {
         requires empty { place ≡ None → size_in self.old ≡ 0 }
         requires new { Replaces (option_map (λ a. (P.Inx.number a.0, a.1)) place) → ⊥ }
         requires room { size_in self.old < arena_capacity self.old.chains }
-        ensures stands { StandsAt (option_map (λ a. (P.Inx.number a.0, a.1)) place)
-            (order_in P.Inx.number self.old) (order_in P.Inx.number self.new) (P.index result) }
-        ensures added { IsAdded P.Inx.number (P.index result) (P.generation result) t
-            self.old self.new }
-        ensures counter { self.new.chains.counter ≡ self.old.chains.counter }
-        ensures room { self.new.chains.room ≡ self.old.chains.room }
-        ensures ordered { IsOrdered P.Inx.number self.new }
+        ensures { AddsAt P.Inx.number (option_map (λ a. (P.Inx.number a.0, a.1)) place)
+            (P.index result) (P.generation result) t self.old self.new }
     {
         // The list is as it must be.
         let _ = self.len();
-        match self.settle(place) {
-            None => match self.insert_first(t) {
-                Ok(p) => p,
-                Err(_) => unreached!(),
-            },
-            Some((i, direction)) => match direction {
-                Ordering::Less => self.put_beside(i, Side::Left, t),
-                Ordering::Equal => unreached!(),
-                Ordering::Greater => self.put_beside(i, Side::Right, t),
-            },
-        }
+        let place = self.settle(place);
+        self.put_at(place, t)
     }
 }

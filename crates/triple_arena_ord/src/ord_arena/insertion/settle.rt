@@ -1,5 +1,5 @@
 //! Where a new leaf hangs that stands beside an entry.
-ghost use Rattle.std.specs.Prelude.{◌≡◌, ◌≢◌, ℕ, List, Some, IsSome, IfSome, ⊤};
+ghost use Rattle.std.specs.Prelude.{◌≢◌, ℕ, List, Some, IsSome, IfSome, ⊤};
 ghost use Rattle.std.specs.Option.{option_map};
 ghost use Rattle.triple_arena_ord.specs.Node.{knots_in};
 ghost use Rattle.rank_tree.specs.Search.{IsFreeAt};

@@ -8,14 +8,12 @@ settle-place-requires-clause-live g c =
     item-some g.P.Inx.PtrInxCore.number
     (values_in c.args.self.now.chains (g.P.Inx.PtrInxCore.number c.args.p)) c.requires
 
-pub returns-in-Ok-clause-inserted : goal.returns-in-Ok-clause-inserted
-returns-in-Ok-clause-inserted g c =
+pub returns-in-Ok : goal.returns-in-Ok
+returns-in-Ok g c =
     numbered_ok g.P.Inx.PtrInxCore.number g.P.PtrCore.index g.P.PtrCore.generation _ _ _ _ _ _ _ _
-    c.in-Ok.replaced c.in-Ok.is c.settle-place.ensures.same
-    c.insert_at_reallocating.ensures.inserted
+    c.in-Ok.replaced c.in-Ok.is c.settle-place.ensures.same c.insert_at_reallocating.ensures
 
-pub returns-in-Err-clause-inserted : goal.returns-in-Err-clause-inserted
-returns-in-Err-clause-inserted g c =
+pub returns-in-Err : goal.returns-in-Err
+returns-in-Err g c =
     numbered_err g.P.Inx.PtrInxCore.number g.P.PtrCore.index g.P.PtrCore.generation _ _ _ _ _ _ _
-    c.in-Err.error c.in-Err.is c.settle-place.ensures.same
-    c.insert_at_reallocating.ensures.inserted
+    c.in-Err.error c.in-Err.is c.settle-place.ensures.same c.insert_at_reallocating.ensures

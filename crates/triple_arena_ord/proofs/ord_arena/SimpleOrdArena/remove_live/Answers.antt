@@ -1,9 +1,10 @@
-use Rattle.std.proofs.Common.{Some, ap, ◌∙◌, subst}
+use Rattle.std.proofs.Common.{◌≡◌, Some, ap, sym, ◌∙◌, subst}
 use Rattle.std.specs.Option.{option_map}
 use Rattle.triple_arena_ptr.specs.Generation.{next_wraps}
 use Rattle.triple_arena_ptr.specs.InvalidationOption.{overflowed}
 use Rattle.triple_arena_ptr.specs.InvalidationResult.{answer_of}
-use Rattle.triple_arena_chain.specs.Chains.{next_in}
+use Rattle.triple_arena_chain.specs.Chains.{next_in, next_at}
+use Rattle.triple_arena_chain.specs.Links.{ends_in}
 use Rattle.triple_arena_ord.specs.Ordered.{Ordered}
 use Rattle.triple_arena_ord.specs.Removal.{IsEntryRemoved}
 use Rattle.triple_arena_ord.proofs.LostEnds.{first_lost, last_lost}
@@ -11,7 +12,10 @@ use Rattle.triple_arena_ord.proofs.UprootingLemmas.{mapped_if, removed}
 use Rattle.triple_arena_ord.proofs.ord_arena.SimpleOrdArena.remove_live.Goals as goal
 
 pub take_entry-taken-requires-clause-next : goal.take_entry-taken-requires-clause-next
-take_entry-taken-requires-clause-next g c = ap next_in c.neighbors.ensures
+take_entry-taken-requires-clause-next g c =
+    let number = g.P.Inx.PtrInxCore.number in
+    subst (λ z. next_at (ends_in number z.chains) (number c.args.gone)
+    ≡ option_map number c.args.next) (sym c.self.view_is) (ap next_in c.requires.ends)
 
 pub invariant_of-self : goal.invariant_of-self
 invariant_of-self g c =
@@ -24,14 +28,16 @@ invariant_of-self g c =
       root = option_map number c.take_entry-taken.new.root;
     } in
     let h = number c.args.gone in
-    let prev = option_map number c.neighbors.result.0 in
-    let next = option_map number c.neighbors.result.1 in (
+    let prev = option_map number c.args.prev in
+    let next = option_map number c.args.next in
+    let ends = subst (λ z. ends_in number z.chains h ≡ Some (prev, next)) (sym c.self.view_is)
+    c.requires.ends in (
       c.take_entry-taken.ensures.ordered,
       c.leave_end.ensures
           ∙ first_lost number o p c.self.invariant.0 h c.take_entry-taken.ensures.order
-          prev next c.neighbors.ensures _ c.self.invariant.1,
+          prev next ends _ c.self.invariant.1,
       c.leave_end-2.ensures ∙ last_lost number o p c.self.invariant.0 h
-          c.take_entry-taken.ensures.order prev next c.neighbors.ensures _ c.self.invariant.2,
+          c.take_entry-taken.ensures.order prev next ends _ c.self.invariant.2,
     )
 
 pub returns-clause-removed : goal.returns-clause-removed

@@ -1,5 +1,6 @@
-use Rattle.std.proofs.Common.{rules, refl, sym}
+use Rattle.std.proofs.Common.{rules, refl, sym, subst, IsSome}
 use Rattle.triple_arena_ptr.specs.InvalidationResult.{answer_of}
+use Rattle.triple_arena_ord.specs.Node.{knots_in}
 use Rattle.triple_arena_ord.proofs.OrderedDrainLemmas.{none_first, taken_by}
 use Rattle.triple_arena_ord.proofs.OrderedWalkLemmas.{first_knot}
 use Rattle.triple_arena_ord.proofs.ord_arena.SimpleOrdArena.take_first.Goals as goal
@@ -9,11 +10,12 @@ returns-in_err-i g c =
     let number = g.P.Inx.PtrInxCore.number in
     rw c.from_residual.ensures (none_first number c.args.self.now (sym c.in_err-i.ensures.at), refl)
 
-pub remove_live-requires-clause-live : goal.remove_live-requires-clause-live
-remove_live-requires-clause-live g c =
+pub neighbors-prev-requires : goal.neighbors-prev-requires
+neighbors-prev-requires g c =
     let number = g.P.Inx.PtrInxCore.number in
-    first_knot number c.args.self.now c.first_index.ensures.ordered (number c.in_ok-i.i)
-    (sym c.in_ok-i.ensures.at)
+    subst (λ z. IsSome (knots_in number z.chains (number c.in_ok-i.i))) (sym c.self.view_is)
+    (first_knot number c.args.self.now c.first_index.ensures.ordered (number c.in_ok-i.i)
+    (sym c.in_ok-i.ensures.at))
 
 pub returns-then-wrapped : goal.returns-then-wrapped
 returns-then-wrapped g c =
