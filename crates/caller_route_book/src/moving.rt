@@ -1,5 +1,5 @@
 //! Callers who move a store to other pointers, stacks and rooms.
-ghost use Rattle.std.specs.Prelude.{◌≡◌, ◌≤◌, ℕ, Err, IfOk, IfErr, IfSome, IsOk, length};
+ghost use Rattle.std.specs.Prelude.{◌≡◌, ◌≤◌, Err, IfOk, IfErr, IfSome, IsOk, length};
 ghost use Rattle.triple_arena_ptr.specs.Generation.{second_generation};
 ghost use Rattle.route_lines.specs.Calls.{after_start, started};
 ghost use Rattle.route_lines.specs.State.{in_rooms, stop_list};

@@ -1,6 +1,6 @@
 -- What removals and packs leave of the items that live on, and how many references they look at.
-use Rattle.std.specs.Prelude.{◌≡◌, ◌≢◌, ◌↔◌, ℕ, ◌+◌, ◌≤◌, Bool, true, false}
-use Rattle.std.specs.Prelude.{Option, Some, IsSome, Result, Ok, Err, length}
+use Rattle.std.specs.Prelude.{◌≡◌, ◌≢◌, ◌↔◌, ℕ, ◌+◌, ◌≤◌, ⊤, Bool, true, false}
+use Rattle.std.specs.Prelude.{Option, None, Some, IsSome, Result, Ok, Err, IfErr, length}
 use Rattle.std.specs.List.{range_with_len}
 use Rattle.triple_arena_ptr.specs.Generation.{next_generation, next_wraps, second_generation}
 use Rattle.triple_arena.specs.Content.{entry_at, live_count, removed}
@@ -11,9 +11,12 @@ use Rattle.ticket_book.specs.declared.entry.Kind.{Kind}
 use Rattle.ticket_book.specs.declared.entry.Kind.TheVariants.{Place as OfPlace, Stop as OfStop}
 use Rattle.ticket_book.specs.declared.entry.Kind.TheVariants.{Mark as OfMark}
 use Rattle.route_lines.specs.Searches.{references_in}
-use Rattle.route_lines.specs.State.{Place, Item, place, stop, mark, holder}
-use Rattle.route_lines.specs.Calls.{after_removed}
+use Rattle.route_lines.specs.State.{State, Place, Item, place, stop, mark, holder}
+use Rattle.route_lines.specs.Calls.{placed, placed_near, worded, started, extended, joined}
+use Rattle.route_lines.specs.Calls.{parted, swapped, marked, after_removed}
 use Rattle.route_lines.specs.declared.command.Command.{Command}
+use Rattle.route_lines.specs.declared.command.Command.TheVariants.{Place as PlaceLine, Word, Start}
+use Rattle.route_lines.specs.declared.command.Command.TheVariants.{Extend, Join, Cut, Swap, Mark}
 use Rattle.route_lines.specs.declared.command.Command.TheVariants.{Remove, Pack}
 use Rattle.route_lines.specs.declared.refusal.Refusal.{Refusal}
 use Rattle.route_book.specs.Book.{Book, KeepsItems, KeepsRooms}
@@ -128,6 +131,23 @@ module _ {I : Type 0} where
   Ends last kind t old new =
       (item : Item) × ((holder old.state t ≡ Ok item) × ((kind_of item ≡ kind)
       × (IsEnded last kind t old new × (new.state ≡ after_removed old.state t))))
+
+  -- what a line leaves that asks, spells no command or is refused: the store as it was. Of a removal
+  -- that is refused `Removes` says so
+  abbrev pub Stays : State → Option Command → Book I → Book I → Type 0
+  Stays s (Some (PlaceLine key word None)) old new = IfErr (placed s) (λ _. new ≡ old)
+  Stays s (Some (PlaceLine key word (Some near))) old new =
+      IfErr (placed_near s near) (λ _. new ≡ old)
+  Stays s (Some (Word t word)) old new = IfErr (worded s t) (λ _. new ≡ old)
+  Stays s (Some (Start p)) old new = IfErr (started s p) (λ _. new ≡ old)
+  Stays s (Some (Extend t p)) old new = IfErr (extended s t p) (λ _. new ≡ old)
+  Stays s (Some (Join t u)) old new = IfErr (joined s t u) (λ _. new ≡ old)
+  Stays s (Some (Cut t)) old new = IfErr (parted s t) (λ _. new ≡ old)
+  Stays s (Some (Swap t u)) old new = IfErr (swapped s t u) (λ _. new ≡ old)
+  Stays s (Some (Mark p t)) old new = IfErr (marked s p t) (λ _. new ≡ old)
+  Stays s (Some (Remove t)) old new = ⊤
+  Stays s (Some Pack) old new = ⊤
+  Stays s command old new = new ≡ old
 
   -- what a line does to items, counters and looks, by its command
   abbrev pub Steps : (I → ℕ) → Option ℕ → Option Command → ℕ → ℕ → Book I → Book I → Type 0

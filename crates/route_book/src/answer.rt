@@ -9,7 +9,7 @@ ghost use Rattle.route_lines.specs.Searches.{CountsFor, CountsWithin, living_cou
 ghost use Rattle.route_lines.specs.Watched.{inner_of, failed_of};
 ghost use Rattle.route_lines.specs.Written.{AppendsBeginning};
 ghost use Rattle.route_lines.specs.declared.command.Command.{Command as Asked};
-ghost use Rattle.route_book.specs.Removals.{Steps};
+ghost use Rattle.route_book.specs.Removals.{Stays, Steps};
 
 use crate::backing::BookBacking;
 use crate::book::{RouteBook, Walk};
@@ -25,6 +25,8 @@ use triple_arena_ptr::PtrCore;
 impl<P: PtrCore, B: BookBacking<P>> RouteBook<P, B> {
     /// Carries out one line, given without its LF, and writes its reply.
     ///
+    /// A line that asks, spells no command or is refused leaves the store as it was.
+    ///
     /// An `Err` is that of the write that failed, or `WriteZero` if one took nothing. The line is
     /// carried out all the same, and a beginning of its reply is written, at least a byte short.
     pub fn answer<W: Write>(
@@ -36,6 +38,7 @@ impl<P: PtrCore, B: BookBacking<P>> RouteBook<P, B> {
         ensures state { self.new.state ≡ next self.old.state (command_of line.now) }
         ensures steps { Steps P.Inx.number P.Gen.last
             (command_of line.now) counts.old.looks counts.new.looks self.old self.new }
+        ensures stays { Stays self.old.state (command_of line.now) self.old self.new }
         ensures ok { OnOk result (Appends (W.contents (inner_of writer.old))
             (W.contents (inner_of writer.new)) (reply self.old.state (command_of line.now))) }
         ensures ok_failed { OnOk result (failed_of writer.new ≡ failed_of writer.old) }
@@ -59,6 +62,7 @@ impl<P: PtrCore, B: BookBacking<P>> RouteBook<P, B> {
         ensures state { self.new.state ≡ next self.old.state command }
         ensures steps { Steps P.Inx.number P.Gen.last command counts.old.looks counts.new.looks
             self.old self.new }
+        ensures stays { Stays self.old.state command self.old self.new }
         ensures ok { OnOk result (Appends (W.contents (inner_of writer.old))
             (W.contents (inner_of writer.new)) (reply self.old.state command)) }
         ensures ok_failed { OnOk result (failed_of writer.new ≡ failed_of writer.old) }
@@ -89,6 +93,7 @@ impl<P: PtrCore, B: BookBacking<P>> RouteBook<P, B> {
         ensures state { self.new.state ≡ next self.old.state (Some command) }
         ensures steps { Steps P.Inx.number P.Gen.last
             (Some command) counts.old.looks counts.new.looks self.old self.new }
+        ensures stays { Stays self.old.state (Some command) self.old self.new }
         ensures text { command ≢ Asked.All → ((stop : ℕ) → command ≢ Asked.Walk stop)
             → text.new ≡ reply self.old.state (Some command) }
         ensures counts { CountsFor self.old.state (Some command) counts.old counts.new }

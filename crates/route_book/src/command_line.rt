@@ -1,10 +1,9 @@
 //! The program over a store: its arguments, its exit status, and what it tells.
-ghost use Rattle.std.specs.Prelude.{◌≡◌, ◌<◌, ◌≤◌, ◌+◌, ◌-◌, ◌^◌, ◌↔◌, ◌⊎◌, ℕ, Some, None, Err};
+ghost use Rattle.std.specs.Prelude.{◌≡◌, ◌<◌, ◌≤◌, ◌+◌, ◌-◌, ◌^◌, ◌↔◌, ◌⊎◌, Some, None, Err};
 ghost use Rattle.std.specs.Prelude.{IfSome, IfOk, IfErr, IsErr, IsNone, codes, map, string_bytes};
 ghost use Rattle.route_lines.specs.CommandLine.{Answers, AnswersWholeLines, BeginsToAnswer, Tells};
 ghost use Rattle.route_lines.specs.CommandLine.{refusal_of, refused_line, room_sum, rooms_of};
 ghost use Rattle.route_book.specs.Rooms.{refusal_of as refusal_over};
-ghost use Rattle.route_lines.specs.State.{Rooms, empty};
 ghost use Rattle.route_lines.specs.declared.refusal.RoomError.{RoomError as Refused};
 ghost use Rattle.route_lines.specs.Watched.{inner_of, failed_of, calls_of};
 

@@ -2,12 +2,17 @@
 //! and marks of a place and a stop; each has a ticket that is given once.
 //!
 //! ```text
-//! place 50 oak        1                       start 1         4
-//! place 30 elm        2                       extend 4 2      5
-//! place 40 ash near 2 3                       walk 4          4 1, 5 2, end
-//! all                 2 30 elm, 3 40 ash,     mark 3 5        6
-//!                     1 50 oak, end           show 6          3 5
-//! remove 1            ok                      show 4          at gone
+//! place 50 oak           1
+//! place 30 elm           2
+//! place 40 ash near 2    3
+//! all                    2 30 elm, 3 40 ash, 1 50 oak, end
+//! start 1                4
+//! extend 4 2             5
+//! walk 4                 4 1, 5 2, end
+//! mark 3 5               6
+//! show 6                 3 5
+//! remove 1               ok
+//! show 4                 at gone
 //! ```
 //!
 //! [`run`] answers an input on an output, line by line, and [`program`] makes a store of the rooms
@@ -17,9 +22,11 @@
 //!
 //! A removal leaves the references to its item as they are; they find nothing. A pack moves all
 //! items to the first indexes, and makes each reference that finds nothing `Gone`. A pointer into a
-//! lent arena that a caller kept finds another item after a pack, or none.
+//! lent arena that a caller kept may find another item after a pack, or none.
 #![tactic(auto)]
 
+// A call of `len` or `capacity` whose result is dropped tells the proof an invariant.
+//
 // A private function's clause `no_more` asks nothing. It stands where a `requires` would be alone,
 // whose answers take far longer to state.
 

@@ -1,5 +1,4 @@
 //! The places of a store, one after another.
-ghost use Rattle.std.specs.Prelude.{◌≡◌};
 ghost use Rattle.std.specs.Iterator.{YieldsFirstBy, item_count};
 
 use crate::items::Place;

@@ -1,5 +1,5 @@
 //! What calls on a store took.
-ghost use Rattle.std.specs.Prelude.{◌≡◌, ℕ};
+ghost use Rattle.std.specs.Prelude.{◌≡◌};
 
 use triple_arena_ptr::Probes;
 

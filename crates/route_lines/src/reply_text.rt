@@ -1,5 +1,5 @@
 //! The text of a reply, gathered before it is written.
-ghost use Rattle.std.specs.Prelude.{◌≡◌, ℕ, ◌+◌, ◌≤◌, ◌++◌, ◌↔◌, [], ◌∷◌, IsTrue, length, codes};
+ghost use Rattle.std.specs.Prelude.{◌≡◌, ℕ, ◌+◌, ◌≤◌, ◌++◌, ◌↔◌, [], IsTrue, length};
 ghost use Rattle.std.specs.Prelude.{decimal};
 ghost use Rattle.route_lines.specs.Reply.{ended, refusal_line, reference_text, old_line};
 ghost use Rattle.route_lines.specs.Reply.{shown_line, found_line, ticket_line, done_line};

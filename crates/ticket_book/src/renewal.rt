@@ -2,7 +2,7 @@
 ghost use Rattle.std.specs.Prelude.{◌≡◌, ℕ};
 ghost use Rattle.std.specs.Option.{option_map};
 ghost use Rattle.ticket_book.specs.Mirrors.{numbers, renewed_entry, renewed_pointer};
-ghost use Rattle.triple_arena_ord.specs.Ordered.{IsOrdered, entry_in, order_in};
+ghost use Rattle.triple_arena_ord.specs.Ordered.{entry_in, order_in};
 
 use crate::entry::{Entry, Kind};
 use triple_arena::{Advancer, ArenaTrait};

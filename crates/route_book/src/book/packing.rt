@@ -106,8 +106,8 @@ impl<P: PtrCore, B: BookBacking<P>> RouteBook<P, B> {
     /// route one after another.
     ///
     /// Each stored reference is looked at once; one to an item that has ended is `Gone` from then
-    /// on. All items have the second generation then, and pointers into the arenas find other
-    /// items, or none. No memory is taken, and the state and the rooms stay.
+    /// on. All items have the second generation then, and pointers into the arenas may find
+    /// other items, or none. No memory is taken, and the state and the rooms stay.
     pub fn pack(&mut self)
         ensures state { self.new.state ≡ self.old.state }
         ensures packed { (looks : ℕ) × IsPacked P.Inx.number P.Gen.last 0 looks self.old self.new }

@@ -30,6 +30,7 @@ impl<P: PtrCore, B: BookBacking<P>> RouteBook<P, B> {
     pub fn extend(&mut self, stop: u64, place: u64) -> Result<u64, Refusal>
         ensures changes { Changes (extended self.old.state stop place)
             (after_extend self.old.state stop place) result self.old self.new }
+        ensures others { (self.new.places ≡ self.old.places) × (self.new.marks ≡ self.old.marks) }
     {
         self.extend_counted(stop, place, &mut Counts::new())
     }
@@ -43,6 +44,7 @@ impl<P: PtrCore, B: BookBacking<P>> RouteBook<P, B> {
     ) -> Result<u64, Refusal>
         ensures changes { Changes (extended self.old.state stop place)
             (after_extend self.old.state stop place) result self.old self.new }
+        ensures others { (self.new.places ≡ self.old.places) × (self.new.marks ≡ self.old.marks) }
         ensures counts { CountsWithin counts.old counts.new
             0 (most_comparisons (living_count self.old.state))
             (most_comparisons (living_count self.old.state)) }
@@ -80,6 +82,7 @@ impl<P: PtrCore, B: BookBacking<P>> RouteBook<P, B> {
     pub fn join(&mut self, stop: u64, next: u64) -> Result<(), Refusal>
         ensures changes { Changes (joined self.old.state stop next)
             (after_join self.old.state stop next) result self.old self.new }
+        ensures others { (self.new.places ≡ self.old.places) × (self.new.marks ≡ self.old.marks) }
     {
         self.join_counted(stop, next, &mut Counts::new())
     }
@@ -88,6 +91,7 @@ impl<P: PtrCore, B: BookBacking<P>> RouteBook<P, B> {
     pub fn join_counted(&mut self, stop: u64, next: u64, counts: &mut Counts) -> Result<(), Refusal>
         ensures changes { Changes (joined self.old.state stop next)
             (after_join self.old.state stop next) result self.old self.new }
+        ensures others { (self.new.places ≡ self.old.places) × (self.new.marks ≡ self.old.marks) }
         ensures counts { CountsWithin counts.old counts.new
             0 (most_comparisons (living_count self.old.state))
             (most_comparisons (living_count self.old.state)) }
@@ -117,6 +121,7 @@ impl<P: PtrCore, B: BookBacking<P>> RouteBook<P, B> {
     pub fn cut(&mut self, stop: u64) -> Result<(), Refusal>
         ensures changes { Changes (parted self.old.state stop)
             (after_cut self.old.state stop) result self.old self.new }
+        ensures others { (self.new.places ≡ self.old.places) × (self.new.marks ≡ self.old.marks) }
     {
         self.cut_counted(stop, &mut Counts::new())
     }
@@ -125,6 +130,7 @@ impl<P: PtrCore, B: BookBacking<P>> RouteBook<P, B> {
     pub fn cut_counted(&mut self, stop: u64, counts: &mut Counts) -> Result<(), Refusal>
         ensures changes { Changes (parted self.old.state stop)
             (after_cut self.old.state stop) result self.old self.new }
+        ensures others { (self.new.places ≡ self.old.places) × (self.new.marks ≡ self.old.marks) }
         ensures counts { CountsWithin counts.old counts.new
             0 (most_comparisons (living_count self.old.state)) 0 }
     {
@@ -152,6 +158,7 @@ impl<P: PtrCore, B: BookBacking<P>> RouteBook<P, B> {
     pub fn swap(&mut self, stop: u64, other: u64) -> Result<(), Refusal>
         ensures changes { Changes (swapped self.old.state stop other)
             (after_swap self.old.state stop other) result self.old self.new }
+        ensures others { (self.new.places ≡ self.old.places) × (self.new.marks ≡ self.old.marks) }
     {
         self.swap_counted(stop, other, &mut Counts::new())
     }
@@ -165,6 +172,7 @@ impl<P: PtrCore, B: BookBacking<P>> RouteBook<P, B> {
     ) -> Result<(), Refusal>
         ensures changes { Changes (swapped self.old.state stop other)
             (after_swap self.old.state stop other) result self.old self.new }
+        ensures others { (self.new.places ≡ self.old.places) × (self.new.marks ≡ self.old.marks) }
         ensures counts { CountsWithin counts.old counts.new
             0 (most_comparisons (living_count self.old.state))
             (most_comparisons (living_count self.old.state)) }

@@ -35,6 +35,7 @@ impl<P: PtrCore, B: BookBacking<P>> RouteBook<P, B> {
     pub fn start(&mut self, place: u64) -> Result<u64, Refusal>
         ensures changes { Changes (started self.old.state place)
             (after_start self.old.state place) result self.old self.new }
+        ensures others { (self.new.places ≡ self.old.places) × (self.new.marks ≡ self.old.marks) }
     {
         self.start_counted(place, &mut Counts::new())
     }
@@ -43,6 +44,7 @@ impl<P: PtrCore, B: BookBacking<P>> RouteBook<P, B> {
     pub fn start_counted(&mut self, place: u64, counts: &mut Counts) -> Result<u64, Refusal>
         ensures changes { Changes (started self.old.state place)
             (after_start self.old.state place) result self.old self.new }
+        ensures others { (self.new.places ≡ self.old.places) × (self.new.marks ≡ self.old.marks) }
         ensures counts { CountsWithin counts.old counts.new
             0 (most_comparisons (living_count self.old.state)) 0 }
     {
