@@ -1,5 +1,32 @@
 //! A table beside an arena: values under the pointers of the arena's entries, which follow them
 //! through a compression.
+//!
+//! ```rust
+//! use side_table::{compress_beside, put_beside};
+//! use std::alloc::Global;
+//! use triple_arena::{
+//!     ArenaInsertTrait, ArenaTrait, DirectSlot, HeapArena, HeapDirectArena, NonZeroInxVec, P0,
+//! };
+//!
+//! fn main(rt: HostRuntime) -> anyhow::Result<()> {
+//!     let mut trees: HeapArena<P0, &str, Global> = HeapArena::new(rt.alloc());
+//!     let mut heights: HeapDirectArena<P0, u64, Global> = HeapDirectArena::new(rt.alloc());
+//!     let oak = trees.insert("oak")?;
+//!     let elm = trees.insert("elm")?;
+//!     let _ = put_beside(&mut heights, elm, trees.capacity(), 30)?;
+//!     drop(trees.remove(oak));
+//!     compress_beside::<_, _, _, _, _, NonZeroInxVec<DirectSlot<P0, P0>, Global>>(
+//!         &mut trees,
+//!         &mut heights,
+//!         false,
+//!         rt.alloc(),
+//!     )?;
+//!     if let Some(elm) = trees.find_first_inx_ptr() {
+//!         println!(rt; "{elm} {:?}", heights.get(elm))?; // P0[1](4) Some(30)
+//!     }
+//!     Ok(())
+//! }
+//! ```
 #![tactic(auto)]
 
 // A private function's clause `no_more` asks nothing. It stands where a `requires` would be alone,

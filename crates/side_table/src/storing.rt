@@ -77,7 +77,8 @@ pub(crate) fn put<P: PtrCore, T: Drop, S: DirectSlots<P, T>>(
 }
 
 /// Stores `value` beside `p`, a pointer of another arena, and returns the value that it replaces:
-/// the one at that index, whatever its generation.
+/// the one at that index, whatever its generation. So test that `p` is valid, if it may have ended:
+/// else the entry that has its slot now loses what stands beside it.
 ///
 /// The table grows to the room `room` if it has less, or to the index of `p` if that is more. Give
 /// it the capacity of the other arena: the table then grows no more often than that one.
