@@ -113,8 +113,9 @@ def sizes():
     The store takes no memory after it is made, so that neither costs any.
     """
     rooms = (1000, 1000, 1000)
-    _, lines = random_lines(1, 1000)
-    short = answers('a thousand lines', rooms, lines.encode())
+    # By then the pages of its room are touched.
+    _, lines = random_lines(1, 100000)
+    short = answers('a hundred thousand lines', rooms, lines.encode())
     _, lines = random_lines(2, 1000000)
     long = answers('a million lines', rooms, lines.encode())
     data = b'place 1 a\n' + b'x' * 10_000_000 + b'\nshow 1\n'

@@ -30,7 +30,8 @@ for name in "$@"; do
         echo "checks/run: $name is no crate with wrong bodies, and no wrong body of one" >&2
         exit 2
     fi
-    echo "$crate $only"
+    # No blank at the end: `xargs` would join the line to the next.
+    echo "$crate${only:+ $only}"
 done >"$work/wanted"
 
 # Some edits in a copy of their own, with what the tree keeps of earlier checks.

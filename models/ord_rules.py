@@ -2,7 +2,7 @@
 
 The model knows nothing of the library. What the rules leave open (which of two neighbors a search
 answers, which of several equal keys, the tree's shape) the scripts tell in a form that does not
-hang on it, and where they cannot, the model refuses the line.
+depend on it, and where they cannot, the model refuses the line.
 """
 
 LAST = {'P0': 2**64 - 1, 'P1': 255, 'P3': 2**32 - 1, 'P5': None, 'N3': 3}

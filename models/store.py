@@ -13,7 +13,7 @@ usage: store.py SEED LINES >stdin 2>stdout     random sections with so many line
        store.py lines SEED LINES >stdin 2>stdout     these lines, and what must be answered to them
 
 `crates/script_route_book/src/main.rt` says how a section is written. How many comparisons a search
-makes hangs on the tree, so what a section of `inputs` or `answer` wants stands in the section.
+makes depends on the tree, so what a section of `inputs` or `answer` wants stands in the section.
 """
 import random
 import sys
