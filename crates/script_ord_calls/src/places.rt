@@ -61,7 +61,7 @@ impl<P: PtrCore + PartialEq> Found<P> {
 }
 
 // How many comparisons a search may make. One for a key that is not there goes on from the root,
-// and else their number hangs on the list alone if one along it came to its end there.
+// and else their number depends on the list alone if one along it came to its end there.
 fn limit_of_search<P: PtrCore + PartialEq, A: ShowsKnots<P>>(
     arena: &A,
     verb: &str,
