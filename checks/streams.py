@@ -113,7 +113,7 @@ def sizes():
     The store takes no memory after it is made, so that neither costs any.
     """
     rooms = (1000, 1000, 1000)
-    # By then the pages of its room are touched.
+    # After so many lines all pages of its room have been touched.
     _, lines = random_lines(1, 100000)
     short = answers('a hundred thousand lines', rooms, lines.encode())
     _, lines = random_lines(2, 1000000)

@@ -1,4 +1,5 @@
--- What removals and packs leave of the items that live on, and how many references they look at.
+-- What removals, packs and lines leave of the items that live on, and how many references they
+-- look at.
 use Rattle.std.specs.Prelude.{◌≡◌, ◌≢◌, ◌↔◌, ℕ, ◌+◌, ◌≤◌, ⊤, Bool, true, false}
 use Rattle.std.specs.Prelude.{Option, None, Some, IsSome, Result, Ok, Err, IfErr, length}
 use Rattle.std.specs.List.{range_with_len}
@@ -132,8 +133,8 @@ module _ {I : Type 0} where
       (item : Item) × ((holder old.state t ≡ Ok item) × ((kind_of item ≡ kind)
       × (IsEnded last kind t old new × (new.state ≡ after_removed old.state t))))
 
-  -- what a line leaves that asks, spells no command or is refused: the store as it was. Of a removal
-  -- that is refused `Removes` says so
+  -- a line that asks, spells no command or is refused leaves the store as it was. `Removes` says so
+  -- of a removal that is refused
   abbrev pub Stays : State → Option Command → Book I → Book I → Type 0
   Stays s (Some (PlaceLine key word None)) old new = IfErr (placed s) (λ _. new ≡ old)
   Stays s (Some (PlaceLine key word (Some near))) old new =

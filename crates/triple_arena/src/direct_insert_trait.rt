@@ -9,7 +9,7 @@ ghost use Rattle.triple_arena.specs.DirectContent.{IsPlace};
 use crate::{ArenaDirectInsertEntry, ArenaTrait, DirectSlots};
 use triple_arena_ptr::{DirectInsertionError, PtrCore};
 
-/// The calls of a place for an entry, at a pointer of the caller's choice.
+/// The calls of an insert entry, which is a place at a pointer of the caller's choice.
 pub trait ArenaDirectInsertEntryTrait<P: PtrCore, T> {
     // The index is within the capacity, and no entry is there, as when the place was made.
     ghost has_place: { Self → Type 0 };

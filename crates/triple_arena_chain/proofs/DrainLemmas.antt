@@ -92,7 +92,7 @@ module _ {T : Type 0} where
             ∙ elim (eqb_tells k i) [ inl too ↦ rw too.0 refl | inr other ↦ rw other.0 refl ])
       ]
 
-  -- the free indexes and the number of slots after removals hang on those before alone
+  -- the free indexes and the number of slots after removals depend on those before alone
   removed_all-same : (last : Option ℕ) (xs : List ℕ) (c d : Content T) → d.free ≡ c.free
       → length d.slots ≡ length c.slots
       → ((removed_all last d xs).free ≡ (removed_all last c xs).free)

@@ -56,7 +56,7 @@ pub same-with_prev_if : (f : ℕ → Option Ends) (o n : Option ℕ) (i : ℕ) �
 same-with_prev_if f None n i other = refl
 same-with_prev_if f (Some j) n i other = rw (ne_eqb i j (λ same. other (ap Some (sym same)))) refl
 
--- the first of a list that ends hangs on nothing behind it
+-- the first of a list that ends depends on nothing behind it
 pub nonempty : (xs : List ℕ) (y : ℕ) (a : Option ℕ)
     → first_or (xs ++ y ∷ []) a ≡ first_or (xs ++ y ∷ []) None
 nonempty [] y a = refl

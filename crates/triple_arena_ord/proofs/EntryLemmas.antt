@@ -85,6 +85,7 @@ module _ {I T : Type 0} (number : I → ℕ) where
           same = λ error e. absurd (cc);
         }
 
+    -- the same of the whole insertion
     pub inserts_told : (place there : Option (ℕ × Ordering))
         (result : Result (P × Option T) OrdInsertionError) → result ≡ Ok (q, u)
         → IsSamePlace (order_in number o) there place

@@ -61,14 +61,14 @@ final_at (node l x k (node a y j b)) i e = go (final_at (node a y j b) y refl)
           (sym (plug_in-plug (under top Right x k l) h.context h.left));
     }
 
-module _ {I T : Type 0} (number : I → ℕ) (t : T) (o p : Ordered I T) where
-  -- where an item is replaced, one is at the same place
-  pub replaces_there : (one other : Option (ℕ × Ordering))
-      → IsSamePlace (order_in number o) one other → Replaces one → Replaces other
-  replaces_there None other same replaces = absurd replaces
-  replaces_there (Some a) other same replaces =
-      subst Replaces (sym (same.replaced a.0 (ap (λ d. Some (a.0, d)) replaces))) refl
+-- where an item is replaced, one is at the same place
+pub replaces_there : (w : List ℕ) (one other : Option (ℕ × Ordering)) → IsSamePlace w one other
+    → Replaces one → Replaces other
+replaces_there w None other same replaces = absurd replaces
+replaces_there w (Some a) other same replaces =
+    subst Replaces (sym (same.replaced a.0 (ap (λ d. Some (a.0, d)) replaces))) refl
 
+module _ {I T : Type 0} (number : I → ℕ) (t : T) (o p : Ordered I T) where
   -- a new entry at a place is one at the same place
   pub adds_there : (one other : Option (ℕ × Ordering)) (i g : ℕ)
       → IsSamePlace (order_in number o) one other → AddsAt number one i g t o p

@@ -1,9 +1,9 @@
 //! The ordered arena.
-ghost use Rattle.std.specs.Prelude.{◌≡◌, [], ◌∷◌, ◌<◌, Some, None, IsSome};
+ghost use Rattle.std.specs.Prelude.{◌≡◌, ◌<◌, Some, None, IsSome};
 ghost use Rattle.std.specs.Option.{option_map};
 ghost use Rattle.triple_arena.specs.Content.{live_count, arena_capacity};
 ghost use Rattle.triple_arena_ord.specs.Ordered.{IsOrdered, StandsBeside, order_in};
-ghost use Rattle.triple_arena_ord.specs.Inserted.{IsAdded};
+ghost use Rattle.triple_arena_ord.specs.Inserted.{AddsAt, IsAdded};
 ghost use Rattle.rank_tree.specs.Store.{child_of};
 ghost use Rattle.triple_arena_ord.specs.Node.{knots_in};
 
@@ -106,7 +106,7 @@ impl<P: PtrCore, T: Drop, S: OrdSlots<P, T>> Model for SimpleOrdArena<P, T, S> {
 
 impl<P: PtrCore, T: Drop, S: OrdSlots<P, T>> SimpleOrdArena<P, T, S> {
     // A new entry directly before or after that of `holder`, which has no child on this side. There
-    // is room for it. It is inlined, since the side is known at each call.
+    // is room for it. The call is inlined, since the side is known at each.
     #[inline(always)]
     pub(crate) fn put_beside(&mut self, holder: P::Inx, side: Side, t: T) -> P
         requires lives { IsSome (knots_in P.Inx.number self.old.chains (P.Inx.number holder)) }
@@ -132,12 +132,8 @@ impl<P: PtrCore, T: Drop, S: OrdSlots<P, T>> SimpleOrdArena<P, T, S> {
     pub(crate) fn put_first(&mut self, t: T) -> P
         requires first { self.old.root ≡ None }
         requires room { live_count self.old.chains < arena_capacity self.old.chains }
-        ensures order { order_in P.Inx.number self.new ≡ P.index result ∷ [] }
-        ensures added { IsAdded P.Inx.number (P.index result) (P.generation result) t
+        ensures { AddsAt P.Inx.number None (P.index result) (P.generation result) t
             self.old self.new }
-        ensures counter { self.new.chains.counter ≡ self.old.chains.counter }
-        ensures room { self.new.chains.room ≡ self.old.chains.room }
-        ensures ordered { IsOrdered P.Inx.number self.new }
     {
         let node: SimpleOrdArenaNode<P, T> = IndexNode::under(None, t);
         match self.chains.insert_in_gap_within_capacity(None, None, node) {

@@ -3,8 +3,8 @@
 //! A pointer is an index, which says where in an arena an element is kept, and a generation, which
 //! says when it was put there. An arena gives each element the generation of its counter and steps
 //! the counter at each removal. So, if generations are counted, a pointer finds its own element or
-//! nothing, until the counter wraps, or is reset, set or copied. [`P5`] has no generation: it finds
-//! whatever is put at its index next.
+//! nothing, until the counter wraps, is reset or set, or the arena takes a copy or a transfer.
+//! [`P5`] has no generation: it finds whatever is put at its index next.
 //!
 //! - [`Ptr`], [`PtrInx`] and [`PtrGen`] say what a pointer, an index and a generation are. The
 //!   order of pointers goes by index and then by generation, with `==` and `Hash` in agreement.

@@ -53,7 +53,7 @@ pub trait NonZeroInxGenericStackEntries: NonZeroInxGenericStack {
             (λ s. s ≡ self.old)) };
 }
 
-/// The calls of room for one item more.
+/// The calls of an entry, which is room for one item more.
 pub trait NonZeroInxGenericStackPushEntryTrait<T> {
     // The index that the item gets.
     ghost index: { Self → ℕ };

@@ -11,7 +11,7 @@ ghost use Rattle.triple_arena.specs.Content.{IsWellFormed};
 use crate::{Arena, ArenaSlots};
 use triple_arena_ptr::{NotWithinCapacityError, PtrCore, ReallocationError};
 
-/// The calls of room for one entry more.
+/// The calls of an insert entry, which is room for one entry more.
 pub trait ArenaInsertEntryTrait<P: PtrCore, T> {
     // The index that the entry gets, and its generation.
     ghost index: { Self → ℕ };

@@ -44,7 +44,7 @@ impl<P: PtrCore, T: Drop, S: ArenaSlots<P, T>> ArenaInsertTrait<P, T> for Arena<
 }
 
 impl<P: PtrCore, T: Drop, S: ArenaSlots<P, T>> Arena<P, T, S> {
-    /// The pointer that the next insertion gives, for which there must be room.
+    /// The pointer that the next insertion gives. There must be room: the call makes no test.
     pub fn next_ptr(&self) -> P
         requires { live_count self.now < arena_capacity self.now }
         ensures has_index { P.index result ≡ next_of self.now }

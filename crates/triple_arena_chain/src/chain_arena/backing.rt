@@ -10,7 +10,9 @@ use crate::{ChainArena, ChainSlots};
 use triple_arena::PtrCore;
 
 impl<P: PtrCore, T: Drop, S: ChainSlots<P, T>> ChainArena<P, T, S> {
-    /// The stack that the slots are kept in.
+    /// The stack that the slots are kept in. `free_links` of a slot returns the neighbors of its
+    /// index on the list of the free indexes, which stand in the order in which insertions take
+    /// them.
     pub fn backing(&self) -> &S
         ensures entries { map entry_of (S.items result.now) ≡ self.now.slots }
         ensures links { (i : ℕ) (slot : Slot (IndexLink P.Inx T)) → 0 < i

@@ -69,7 +69,7 @@ fn item_of<P: PtrCore, T>(
 }
 
 impl<P: PtrCore, T: Drop, S: OrdSlots<P, T>> SimpleOrdArena<P, T, S> {
-    // The entry at an index that is live leaves, which has these neighbors in the list.
+    // The entry at a live index leaves. `prev` and `next` are its neighbors in the list.
     #[inline(always)]
     pub(crate) fn remove_live(
         &mut self,

@@ -3,8 +3,7 @@ use Rattle.std.specs.Option.{option_map}
 use Rattle.triple_arena_ord.specs.Ordered.{Ordered}
 use Rattle.triple_arena_ord.proofs.UprootingLemmas.{out, uprooted}
 use Rattle.triple_arena_ord.proofs.SuccessorLemmas.{successor, over_at, over_lives}
-use Rattle.triple_arena_ord.proofs.SuccessorLemmas.{replacement_place}
-use Rattle.triple_arena_ord.proofs.SuccessorLemmas.{replaced}
+use Rattle.triple_arena_ord.proofs.SuccessorLemmas.{replaced, replacement_place}
 use Rattle.triple_arena_ord.proofs.uprooting.uproot.Goals as goal
 
 small : (count live : ℕ) → count ≡ live → count < 2 ^ 64 → live < 2 ^ 64

@@ -21,9 +21,9 @@ impl<P: PtrCore, T: Drop, S: OrdSlots<P, T>> SimpleOrdArena<P, T, S> {
     /// entry. Each question is a tick, and there are no more than the rank of the root, and so no
     /// more than `find_key_counted` says.
     ///
-    /// If the answers depend on the pointer and the item alone, in each state that `f` comes to from
-    /// this one, and go from `Greater` over `Equal` to `Less` along the list, the entry is one at
-    /// which `f` answers `Equal`, or else one beside the gap. So `f` may capture what it keeps, as
+    /// If the answers depend on pointer and item alone, in each state that `f` comes to from this
+    /// one, and go from `Greater` over `Equal` to `Less` along the list, the entry is one at which
+    /// `f` answers `Equal`, or else one beside the gap. So `f` may capture what it keeps, as
     /// a key.
     pub fn find_similar_with_counted<F>(
         &self,

@@ -3,9 +3,7 @@ use Rattle.triple_arena_ord.proofs.ord_arena.SimpleOrdArena.insert_inx_manual_wi
 
 pub put_at-requires-clause-new : goal.put_at-requires-clause-new
 put_at-requires-clause-new g c = λ h.
-    c.requires.new
-    (replaces_there g.P.Inx.PtrInxCore.number c.args.t c.args.self.now c.args.self.now _ _
-    c.settle-place.ensures.same h)
+    c.requires.new (replaces_there _ _ _ c.settle-place.ensures.same h)
 
 pub returns : goal.returns
 returns g c =
