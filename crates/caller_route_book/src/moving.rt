@@ -59,6 +59,7 @@ pub fn move_from_heap<P: PtrCore, A: Allocator + Copy, Q: PtrCore, C: BookBackin
         ≡ in_rooms (record { places = 1; stops = 3; marks = 0 }) book.state) }
     ensures err { IfErr result (λ refused. refused.1 ≡ book) }
 {
+    // The cases apart, since the clauses are found of each alone.
     match book.into_room(backing, 1, 3, 0) {
         Ok(moved) => Ok(moved),
         Err(refused) => Err(refused),

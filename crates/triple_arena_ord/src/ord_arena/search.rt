@@ -61,9 +61,9 @@ impl<P: PtrCore, T: SimpleOrdItem + Drop, S: OrdSlots<P, T>> SimpleOrdArena<P, T
     }
 
     /// If true, each search here takes at least one comparison less than `most_comparisons` allows,
-    /// so a caller who keeps that bound may compare with one entry first. The call compares nothing,
-    /// and reads the rank r of the root. It is true exactly if `2^h` is at most the number of
-    /// entries, where h is `(r + 3) / 2` rounded down.
+    /// so a caller who keeps that bound may compare with one entry first. The call makes no
+    /// comparison, and reads the rank r of the root. It is true exactly if `2^h` is at most the
+    /// number of entries, where h is `(r + 3) / 2` rounded down.
     pub fn spares_a_comparison(&self) -> bool
         ensures told { result
             ≡ spares (rank_of (tree_in P.Inx.number self.now)) (size_in self.now) }
