@@ -4,7 +4,7 @@ ghost use Rattle.std.specs.Prelude.{if◌then◌else◌};
 ghost use Rattle.triple_arena_ptr.specs.InvalidationResult.{answer_of};
 ghost use Rattle.triple_arena.specs.DirectContent.{entry_at as direct_entry_at};
 ghost use Rattle.triple_arena.specs.DirectContent.{live_count as direct_live_count};
-ghost use Rattle.triple_arena.specs.Content.{entry_at, live_count, next_index};
+ghost use Rattle.triple_arena.specs.Content.{entry_at, live_count, next_index, IsWellFormed};
 
 use triple_arena::{
     Arena, ArenaInsertTrait, ArenaSlots, ArenaTrait, DirectArena, DirectSlots,

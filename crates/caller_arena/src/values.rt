@@ -1,5 +1,5 @@
 //! Values that change by a compression, in code that is generic in the arena.
-ghost use Rattle.std.specs.Prelude.{◌≡◌, ◌+◌, ◌%◌, ◌^◌, false, map as list_map};
+ghost use Rattle.std.specs.Prelude.{◌≡◌, ℕ, ◌+◌, ◌%◌, ◌^◌, false, map as list_map};
 ghost use Rattle.std.specs.List.{AllZip};
 ghost use Rattle.triple_arena_ptr.specs.InvalidationOption.{overflowed};
 ghost use Rattle.triple_arena.specs.Changes.{IsCompressed};
