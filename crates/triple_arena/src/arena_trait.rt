@@ -49,6 +49,9 @@ pub trait ArenaTrait<P: PtrCore, T: Drop> {
     // Whether the arena has a counter.
     ghost has_counter: { Bool };
 
+    // How many slots there are, of live and of free indexes.
+    ghost slot_count: { Self → ℕ };
+
     // The reserved slots and the greatest capacity.
     ghost room: { Self → Room };
 
@@ -185,12 +188,13 @@ pub trait ArenaTrait<P: PtrCore, T: Drop> {
         ensures last { IfSome result (λ p. (j : ℕ) → P.index p < j → entry_at self.now j ≡ None) }
         ensures none { IfNone result ((j : ℕ) → entry_at self.now j ≡ None) };
 
-    /// What gives the pointers to the entries by rising index. It goes to an index that is not
-    /// below the last one that is live now.
+    /// What gives the pointers to the entries by rising index. It goes to the last slot that there
+    /// is now, so each index that is live now is on its way.
     fn advancer(&self) -> Self::PtrAdvancer
         ensures rises { (walk result).falls ≡ false }
         ensures low { (walk result).low ≡ 1 }
-        ensures high { (j : ℕ) → IsSome (entry_at self.now j) → j ≤ (walk result).high };
+        ensures high { (j : ℕ) → IsSome (entry_at self.now j) → j ≤ (walk result).high }
+        ensures end { (walk result).high ≡ slot_count self.now };
 
     /// The same from `i` on, or with `rev` by falling index from `i` to 1.
     fn advancer_inx(&self, i: P::Inx, rev: bool) -> Self::PtrAdvancer
@@ -198,6 +202,7 @@ pub trait ArenaTrait<P: PtrCore, T: Drop> {
         ensures low { (walk result).low ≡ (if rev then 1 else min (P.Inx.number i) (2 ^ 64)) }
         ensures rising_to { rev ≡ false → (j : ℕ) → IsSome (entry_at self.now j)
             → j ≤ (walk result).high }
+        ensures rising_end { rev ≡ false → (walk result).high ≡ slot_count self.now }
         ensures falling_from { rev ≡ true
             → (walk result).high ≡ min (P.Inx.number i) (2 ^ 64 - 1) };
 

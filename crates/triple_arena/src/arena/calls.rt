@@ -1,5 +1,5 @@
 //! The calls of an `Arena` that every arena has.
-ghost use Rattle.std.specs.Prelude.{◌≡◌, true, [], Some, None, refl};
+ghost use Rattle.std.specs.Prelude.{◌≡◌, true, [], length, Some, None, refl};
 ghost use Rattle.triple_arena_ptr.specs.Generation.{second_generation};
 ghost use Rattle.triple_arena.specs.ArenaRoom.{room_of};
 ghost use Rattle.triple_arena.specs.Content.{some_counter, entry_at as entry_of_index};
@@ -41,6 +41,8 @@ impl<P: PtrCore, T: Drop, S: ArenaSlots<P, T>> ArenaTrait<P, T> for Arena<P, T, 
     ghost counter = { some_counter };
 
     ghost has_counter = { true };
+
+    ghost slot_count = { λ c. length c.slots };
 
     ghost room = { λ c. c.room };
 

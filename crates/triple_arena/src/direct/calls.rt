@@ -1,5 +1,5 @@
 //! The calls of a `DirectArena` that every arena has.
-ghost use Rattle.std.specs.Prelude.{◌≡◌, false, [], Some, None, refl};
+ghost use Rattle.std.specs.Prelude.{◌≡◌, false, [], length, Some, None, refl};
 ghost use Rattle.triple_arena.specs.ArenaRoom.{room_of};
 ghost use Rattle.triple_arena.specs.DirectContent.{as_content, no_counter};
 ghost use Rattle.triple_arena.specs.DirectContent.{entry_at as entry_of_index};
@@ -41,6 +41,8 @@ impl<P: PtrCore, T: Drop, S: DirectSlots<P, T>> ArenaTrait<P, T> for DirectArena
     ghost counter = { no_counter };
 
     ghost has_counter = { false };
+
+    ghost slot_count = { λ d. length d.slots };
 
     ghost room = { λ d. d.room };
 

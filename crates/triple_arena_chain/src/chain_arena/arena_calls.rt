@@ -1,5 +1,5 @@
 //! The calls of a `ChainArena` that every arena has, over the values of the links.
-ghost use Rattle.std.specs.Prelude.{◌≡◌, true, refl};
+ghost use Rattle.std.specs.Prelude.{◌≡◌, true, length, refl};
 ghost use Rattle.triple_arena_ptr.specs.Generation.{second_generation};
 ghost use Rattle.triple_arena.specs.ArenaRoom.{room_of};
 ghost use Rattle.triple_arena.specs.Content.{some_counter, live_count as live_count_of};
@@ -36,6 +36,8 @@ impl<P: PtrCore, T: Drop, S: ChainSlots<P, T>> ArenaTrait<P, T> for ChainArena<P
     ghost counter = { some_counter };
 
     ghost has_counter = { true };
+
+    ghost slot_count = { λ c. length c.slots };
 
     ghost room = { room_in };
 

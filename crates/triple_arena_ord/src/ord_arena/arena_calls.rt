@@ -5,7 +5,7 @@
 //! is written (`laws::invalidations_keep_the_list`, `laws::writes_keep_the_list`). A compression
 //! moves the entries by index and the list follows, also if the new keys do not ascend along it.
 //! The tree is then written anew.
-ghost use Rattle.std.specs.Prelude.{true, refl};
+ghost use Rattle.std.specs.Prelude.{true, length, refl};
 ghost use Rattle.triple_arena_ptr.specs.Generation.{second_generation};
 ghost use Rattle.triple_arena.specs.ArenaRoom.{room_of};
 ghost use Rattle.triple_arena_ord.specs.Compressed.{IsCompressedInOrder};
@@ -54,6 +54,8 @@ impl<P: PtrCore, T: Drop, S: OrdSlots<P, T>> ArenaTrait<P, T> for SimpleOrdArena
     ghost counter = { counter_in };
 
     ghost has_counter = { true };
+
+    ghost slot_count = { λ o. length o.chains.slots };
 
     ghost room = { room_in };
 
