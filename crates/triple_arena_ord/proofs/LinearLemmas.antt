@@ -1,6 +1,6 @@
 -- A search along the list of an ordered arena.
 use Rattle.std.proofs.Common.{◌≡◌, ◌≢◌, ℕ, ◌+◌, ◌≤◌, List, [], ◌∷◌, filter_map, Option, Some, None}
-use Rattle.std.proofs.Common.{IsSome, IfSome, if◌then◌else◌, is_some, true, inl, inr, refl, sym, ap}
+use Rattle.std.proofs.Common.{IsSome, IfSome, if◌then◌else◌, is_some, true, false, inl, inr, refl, sym, ap}
 use Rattle.std.proofs.Common.{◌∙◌, subst, arith}
 use Rattle.std.specs.Option.{option_map}
 use Rattle.std.proofs.lemmas.Bool.Decides.{eqb_tells}
@@ -16,7 +16,7 @@ use Rattle.triple_arena_ord.specs.Node.{items_in, itemed}
 use Rattle.rank_tree.specs.Tree.{rank_of}
 use Rattle.rank_tree.specs.Search.{IsParted, IsAnswer}
 use Rattle.triple_arena_ord.specs.Near.{IsEndNear, IsAtHand, IsStop, IsWalked, IsPlaceCounted}
-use Rattle.triple_arena_ord.specs.Near.{IsKeyCounted, path_from, asked_in, beyond}
+use Rattle.triple_arena_ord.specs.Near.{IsKeyCounted, EndsWithin, path_from, asked_in, beyond}
 use Rattle.triple_arena_ord.specs.Ordered.{Ordered, IsOrdered, IsAscending, tree_in, order_in}
 use Rattle.triple_arena_ord.specs.Ordered.{entry_in, size_in, asked_at}
 use Rattle.triple_arena_ord.proofs.LiveLemmas.{counted_entry, entry_counted}
@@ -36,6 +36,11 @@ module _ {I T : Type 0} (number : I → ℕ) where
     counted-walk (tree_in number o) i (entry_counted number o is i lives),
   )
 
+  -- what stands in the list is live
+  pub on_lives : (o : Ordered I T) → IsOrdered number o → (i : ℕ) → On (order_in number o) i
+      → IsSome (entry_in o i)
+  on_lives o is i on = counted_entry number o is i (walk-counted (tree_in number o) i on)
+
   -- what was looked up is there
   pub looked_up : {G B : Type 0} (stamp : G → ℕ) (now : B → IndexNode I T) (o : Ordered I T) (i : ℕ)
       (r : Option (G × B))
@@ -43,6 +48,17 @@ module _ {I T : Type 0} (number : I → ℕ) where
       → IsSome (entry_in o i)
   looked_up stamp now o i None at some = absurd (cc)
   looked_up stamp now o i (Some x) at some = subst (λ e. IsSome (option_map itemed e)) at refl
+
+  -- what was looked for and is not there is not in the list
+  pub not_listed : {G B : Type 0} (stamp : G → ℕ) (now : B → IndexNode I T) (o inside : Ordered I T)
+      → inside ≡ o → IsOrdered number o → (i : ℕ) (r : Option (G × B))
+      → option_map (λ e. (stamp e.0, now e.1)) r ≡ values_in inside.chains i → is_some r ≡ false
+      → On (order_in number o) i → ⊥
+  not_listed stamp now o inside same is i None at none on =
+      let gone : entry_in inside i ≡ None = ap (option_map itemed) (sym at) in
+      let z : IsSome {T = ℕ × T} None =
+      subst IsSome (ap (λ p. entry_in p i) (sym same) ∙ gone) (on_lives o is i on) in cc
+  not_listed stamp now o inside same is i (Some x) at none on = absurd (cc)
 
   pub pointed_lives : (o : Ordered I T) (g i j : ℕ) → IsSome (value_if g (values_in o.chains i))
       → j ≡ i → IsSome (entry_in o j)
@@ -191,6 +207,38 @@ module _ {I T : Type 0} (number : I → ℕ) where
           → IsWalked num (path_from (asked_at cmp key k z) on) (option_map (λ a. number a.0) r)
           old new)
           same (λ on. walks (order_in number inside) is.linear on)
+
+      -- where the way ends within `num`, the walk ends there
+      pub linear_ends : (num old new : ℕ) → Stops → Walks num old new → (i : ℕ) (d : Ordering)
+          → EndsWithin num (asked_at cmp key k o) (order_in number o) start i d
+          → option_map {U = ℕ × Ordering} (λ a. (number a.0, a.1)) r ≡ Some (i, d)
+      linear_ends num old new stops walks i d ends = by r refl (walked num old new walks ends.on)
+        where
+          by : (s : Option (I × Ordering)) → r ≡ s
+              → IsWalked num (path_from (asked_at cmp key k o) ends.on)
+              (option_map (λ a. number a.0) r) old new
+              → option_map {U = ℕ × Ordering} (λ a. (number a.0, a.1)) r ≡ Some (i, d)
+          by None e told =
+              let path = path_from (asked_at cmp key k o) ends.on in
+              let gone = subst (λ t. IsWalked num path (option_map (λ a. number a.0) t) old new) e
+              told in
+              let few = ends.within in
+              let more = gone.0 in
+              absurd (omega (arith, few, more))
+          by (Some x) e told =
+              let path = path_from (asked_at cmp key k o) ends.on in
+              let gone = subst (λ t. IsWalked num path (option_map (λ a. number a.0) t) old new) e
+              told in
+              let at : option_map {U = ℕ × Ordering} (λ a. (number a.0, a.1)) r
+              ≡ Some (number x.0, x.1) =
+              ap (option_map {U = ℕ × Ordering} (λ a. (number a.0, a.1))) e in
+              let way : asked_at cmp key k o (number x.0) ≡ x.1 =
+              (linear_answer stops (number x.0) x.1 at).asked (number x.0) x.1 refl in
+              let last = gone.0 in
+              let ended = ends.last in
+              let same : number x.0 ≡ i = cc in
+              let to : x.1 ≡ d = sym way ∙ ap (asked_at cmp key k o) same ∙ ends.answer in
+              at ∙ ap (λ j. Some (j, x.1)) same ∙ ap (λ e. Some (i, e)) to
 
       pub linear_place_ended : (num down old new : ℕ) → Walks num old new → (x : I × Ordering)
           → r ≡ Some x → (on : On (order_in number o) start)

@@ -83,6 +83,14 @@ beyond Greater front back = back
 abbrev pub path_from : (ℕ → Ordering) → {w : List ℕ} {i : ℕ} → On w i → List ℕ
 path_from f {w} {i} on = up_to f (f i) (i ∷ beyond (f i) on.front on.back)
 
+-- the way along a list from an index ends within so many comparisons, at an index with this answer
+pub record EndsWithin (num : ℕ) (f : ℕ → Ordering) (w : List ℕ) (start at : ℕ) (d : Ordering)
+    : Type 0 where
+  pub on : On w start
+  pub within : length (path_from f on) ≤ num
+  pub last : last_or None (path_from f on) ≡ Some at
+  pub answer : f at ≡ d
+
 -- a walk along these indexes compares once at each, at most `num` times. It ends at the last, or
 -- nowhere where there are more
 abbrev pub IsWalked : (num : ℕ) → (path : List ℕ) → Option ℕ → (old new : ℕ) → Type 0

@@ -9,6 +9,7 @@ use Rattle.triple_arena_ord.specs.declared.kind.InsertKind.TheVariants.{Empty, N
 use Rattle.triple_arena_ord.specs.declared.kind.InsertKind.TheVariants.{Nonhereditary, Linear}
 use Rattle.triple_arena_ord.specs.declared.kind.InsertKind.TheVariants.{NonhereditaryLinear, Manual}
 use Rattle.rank_tree.specs.Search.{Places}
+use Rattle.triple_arena_ord.specs.Near.{EndsWithin}
 use Rattle.triple_arena_ord.specs.Ordered.{Ordered, IsAscending, order_in, entry_in, size_in}
 use Rattle.triple_arena_ord.specs.Ordered.{asked_at}
 
@@ -49,11 +50,19 @@ module _ {I T : Type 0} (number : I → ℕ) where
       pub by_key : IsPlaceByKey k o found
       pub is : place ≡ before_equal found
 
-    -- the place that a kind asks for
+    -- where the way along the list from an index ends within so many comparisons
+    abbrev pub IsEndOfWay : (start num : ℕ) (k : K) → Ordered I T → ℕ × Ordering → Type 0
+    IsEndOfWay start num k o place
+        = EndsWithin num (asked_at cmp key k o) (order_in number o) start place.0 place.1
+
+    -- the place that a kind asks for: one with a way along the list, where that ends, if it does
     abbrev pub IsPlaceFor : InsertKind I (Bor K) → Ordered I T → Option (ℕ × Ordering) → Type 0
     IsPlaceFor Empty o place = place ≡ None
     IsPlaceFor (Normal k) o place = IsPlaceByKey k.now o place
     IsPlaceFor (Nonhereditary k) o place = IsPlaceBeforeEqual k.now o place
     IsPlaceFor (Linear i n k) o place = IsPlaceByKey k.now o place
+        × ((end : ℕ × Ordering) → IsEndOfWay (number i) n k.now o end → place ≡ Some end)
     IsPlaceFor (NonhereditaryLinear i n k) o place = IsPlaceBeforeEqual k.now o place
+        × ((end : ℕ × Ordering) → IsEndOfWay (number i) n k.now o end
+        → place ≡ before_equal (Some end))
     IsPlaceFor (Manual i direction) o place = place ≡ Some (number i, direction)

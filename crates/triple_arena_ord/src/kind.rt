@@ -16,10 +16,10 @@ pub enum InsertKind<I, K> {
     /// Directly before the entry with an equal key that is found; else where the key belongs.
     Nonhereditary(K),
     /// As `Normal`, with a search that goes along the list from `p_init` for at most `num`
-    /// comparisons first.
+    /// comparisons first. If it ends within them, the item goes where it ends.
     Linear { p_init: I, num: usize, k: K },
     /// As `Nonhereditary`, with a search that goes along the list from `p_init` for at most `num`
-    /// comparisons first.
+    /// comparisons first. If it ends within them, the item goes where it ends.
     NonhereditaryLinear { p_init: I, num: usize, k: K },
     /// At an entry, whatever the keys are: `Equal` replaces it, `Less` puts the item directly
     /// before it, `Greater` directly after it.

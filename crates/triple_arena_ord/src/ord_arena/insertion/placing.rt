@@ -1,8 +1,9 @@
 //! Where a kind of insertion puts its item.
-ghost use Rattle.std.specs.Prelude.{◌≡◌, ◌↔◌, None, IsSome, IfSome};
+ghost use Rattle.std.specs.Prelude.{◌≡◌, ◌↔◌, ℕ, Some, None, IsSome, IfSome};
 ghost use Rattle.std.specs.Option.{option_map};
+ghost use Rattle.std.specs.declared.cmp.Ordering.{Ordering as Way};
 ghost use Rattle.triple_arena_ord.specs.Placing.{Meets, IsPlaceByKey, IsPlaceBeforeEqual};
-ghost use Rattle.triple_arena_ord.specs.Placing.{IsPlaceFor, before_equal};
+ghost use Rattle.triple_arena_ord.specs.Placing.{IsPlaceFor, IsEndOfWay, before_equal};
 ghost use Rattle.triple_arena_ord.specs.Ordered.{IsOrdered, entry_in, size_in};
 
 use crate::kind::InsertKind;
@@ -41,28 +42,42 @@ impl<P: PtrCore, T: SimpleOrdItem + Drop, S: OrdSlots<P, T>> SimpleOrdArena<P, T
     fn place_near(&self, p_init: P::Inx, num: usize, k: &T::Key) -> Option<(P::Inx, Ordering)>
         ensures by_key { IsPlaceByKey P.Inx.number T.Key.cmp T.key_of k.now self.now
             (option_map (λ a. (P.Inx.number a.0, a.1)) result) }
+        ensures ends { (end : ℕ × Way) → IsEndOfWay P.Inx.number T.Key.cmp T.key_of
+            (P.Inx.number p_init) num k.now self.now end
+            → option_map {U = ℕ × Way} (λ a. (P.Inx.number a.0, a.1)) result ≡ Some end }
         ensures live { IfSome result (λ a. IsSome (entry_in self.now (P.Inx.number a.0))) }
         ensures empty { result ≡ None → size_in self.now ≡ 0 }
     {
         self.seek_linear(p_init, num, k, &mut Probes::new())
     }
 
-    // The same as either, but directly before an entry with an equal key.
-    fn place_before_equal(
-        &self,
-        k: &T::Key,
-        near: Option<(P::Inx, usize)>,
-    ) -> Option<(P::Inx, Ordering)>
+    // The place for a key, but directly before an entry with an equal key.
+    fn place_before_equal(&self, k: &T::Key) -> Option<(P::Inx, Ordering)>
         ensures before { IsPlaceBeforeEqual P.Inx.number T.Key.cmp T.key_of k.now self.now
             (option_map (λ a. (P.Inx.number a.0, a.1)) result) }
         ensures live { IfSome result (λ a. IsSome (entry_in self.now (P.Inx.number a.0))) }
         ensures empty { result ≡ None → size_in self.now ≡ 0 }
     {
-        let found = match near {
-            Some((p_init, num)) => self.place_near(p_init, num, k),
-            None => self.place_by_key(k),
-        };
-        before_equal(found)
+        before_equal(self.place_by_key(k))
+    }
+
+    // The same, after a search along the list.
+    fn place_near_before_equal(
+        &self,
+        p_init: P::Inx,
+        num: usize,
+        k: &T::Key,
+    ) -> Option<(P::Inx, Ordering)>
+        ensures before { IsPlaceBeforeEqual P.Inx.number T.Key.cmp T.key_of k.now self.now
+            (option_map (λ a. (P.Inx.number a.0, a.1)) result) }
+        ensures ends { (end : ℕ × Way) → IsEndOfWay P.Inx.number T.Key.cmp T.key_of
+            (P.Inx.number p_init) num k.now self.now end
+            → option_map {U = ℕ × Way} (λ a. (P.Inx.number a.0, a.1)) result
+            ≡ before_equal (Some end) }
+        ensures live { IfSome result (λ a. IsSome (entry_in self.now (P.Inx.number a.0))) }
+        ensures empty { result ≡ None → size_in self.now ≡ 0 }
+    {
+        before_equal(self.place_near(p_init, num, k))
     }
 
     // The place that a kind asks for, if the entries are as it requires.
@@ -84,10 +99,10 @@ impl<P: PtrCore, T: SimpleOrdItem + Drop, S: OrdSlots<P, T>> SimpleOrdArena<P, T
         match kind {
             InsertKind::Empty => if len == 0 { Some(None) } else { None },
             InsertKind::Normal(k) => Some(self.place_by_key(k)),
-            InsertKind::Nonhereditary(k) => Some(self.place_before_equal(k, None)),
+            InsertKind::Nonhereditary(k) => Some(self.place_before_equal(k)),
             InsertKind::Linear { p_init, num, k } => Some(self.place_near(p_init, num, k)),
             InsertKind::NonhereditaryLinear { p_init, num, k } => {
-                Some(self.place_before_equal(k, Some((p_init, num))))
+                Some(self.place_near_before_equal(p_init, num, k))
             }
             InsertKind::Manual {
                 p_target,

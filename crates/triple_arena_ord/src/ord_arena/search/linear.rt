@@ -1,13 +1,14 @@
 //! Searches by key that go along the list first.
-ghost use Rattle.std.specs.Prelude.{◌≡◌, ◌+◌, ◌≤◌, None, IsSome};
+ghost use Rattle.std.specs.Prelude.{◌≡◌, ◌+◌, ◌≤◌, ℕ, Some, None, IsSome};
 ghost use Rattle.std.specs.Option.{option_map};
+ghost use Rattle.std.specs.declared.cmp.Ordering.{Ordering as Way};
 ghost use Rattle.rank_tree.specs.Comparisons.{most_comparisons};
 ghost use Rattle.triple_arena.specs.Entries.{value_if};
 ghost use Rattle.rank_tree.specs.Tree.{rank_of};
 ghost use Rattle.rank_tree.specs.Search.{IsParted, IsAnswer, asked_down};
 ghost use Rattle.triple_arena_chain.specs.Chains.{On};
 ghost use Rattle.triple_arena_ord.specs.Near.{IsEndNear, IsAtHand, IsPlaceCounted, IsKeyCounted};
-ghost use Rattle.triple_arena_ord.specs.Near.{path_from};
+ghost use Rattle.triple_arena_ord.specs.Near.{EndsWithin, path_from};
 ghost use Rattle.triple_arena_ord.specs.Found.{IsFound, IsSimilar};
 ghost use Rattle.triple_arena_ord.specs.Ordered.{IsOrdered, IsAscending, tree_in, order_in};
 ghost use Rattle.triple_arena_ord.specs.Ordered.{entry_in, size_in, asked_at};
@@ -48,6 +49,10 @@ impl<P: PtrCore, T: SimpleOrdItem + Drop, S: OrdSlots<P, T>> SimpleOrdArena<P, T
             → IsAtHand num (asked_at T.Key.cmp T.key_of k.now self.now)
             (order_in P.Inx.number self.now) (P.Inx.number p_init)
             → probes.new ≤ probes.old + num }
+        ensures ends { (i : ℕ) (d : Way)
+            → EndsWithin num (asked_at T.Key.cmp T.key_of k.now self.now)
+            (order_in P.Inx.number self.now) (P.Inx.number p_init) i d
+            → option_map {U = ℕ × Way} (λ a. (P.Inx.number a.0, a.1)) result ≡ Some (i, d) }
         ensures ordered { IsOrdered P.Inx.number self.now }
     {
         if self.chains.get_inx(p_init).is_none() {
@@ -95,6 +100,11 @@ impl<P: PtrCore, T: SimpleOrdItem + Drop, S: OrdSlots<P, T>> SimpleOrdArena<P, T
             → IsEndNear num (asked_at T.Key.cmp T.key_of k.now self.now)
             (order_in P.Inx.number self.now) (P.index p_init)
             → probes.new ≤ probes.old + num }
+        ensures ends { IsSome
+            (value_if (P.generation p_init) (entry_in self.now (P.index p_init)))
+            → (i : ℕ) → EndsWithin num (asked_at T.Key.cmp T.key_of k.now self.now)
+            (order_in P.Inx.number self.now) (P.index p_init) i Way.Equal
+            → option_map P.index result ≡ Some i }
     {
         if !self.chains.contains(p_init) {
             return self.find_key_counted(k, probes);
@@ -114,8 +124,13 @@ impl<P: PtrCore, T: SimpleOrdItem + Drop, S: OrdSlots<P, T>> SimpleOrdArena<P, T
 
     /// The same, with no count.
     pub fn find_key_linear(&self, p_init: P, num: usize, k: &T::Key) -> Option<P>
-        ensures { IsFound P.index P.generation (asked_at T.Key.cmp T.key_of k.now self.now)
+        ensures found { IsFound P.index P.generation (asked_at T.Key.cmp T.key_of k.now self.now)
             (IsAscending P.Inx.number T.Key.cmp T.key_of self.now) result self.now }
+        ensures ends { IsSome
+            (value_if (P.generation p_init) (entry_in self.now (P.index p_init)))
+            → (i : ℕ) → EndsWithin num (asked_at T.Key.cmp T.key_of k.now self.now)
+            (order_in P.Inx.number self.now) (P.index p_init) i Way.Equal
+            → option_map P.index result ≡ Some i }
     {
         self.find_key_linear_counted(p_init, num, k, &mut Probes::new())
     }
@@ -152,6 +167,10 @@ impl<P: PtrCore, T: SimpleOrdItem + Drop, S: OrdSlots<P, T>> SimpleOrdArena<P, T
             → IsAtHand num (asked_at T.Key.cmp T.key_of k.now self.now)
             (order_in P.Inx.number self.now) (P.Inx.number p_init)
             → probes.new ≤ probes.old + num }
+        ensures ends { (i : ℕ) (d : Way)
+            → EndsWithin num (asked_at T.Key.cmp T.key_of k.now self.now)
+            (order_in P.Inx.number self.now) (P.Inx.number p_init) i d
+            → option_map {U = ℕ × Way} (λ a. (P.index a.0, a.1)) result ≡ Some (i, d) }
     {
         let place = self.seek_linear(p_init, num, k, probes);
         similar_at(&self.chains, place)
@@ -164,9 +183,13 @@ impl<P: PtrCore, T: SimpleOrdItem + Drop, S: OrdSlots<P, T>> SimpleOrdArena<P, T
         num: usize,
         k: &T::Key,
     ) -> Option<(P, Ordering)>
-        ensures { IsSimilar P.index P.generation P.Inx.number
+        ensures similar { IsSimilar P.index P.generation P.Inx.number
             (asked_at T.Key.cmp T.key_of k.now self.now)
             (IsAscending P.Inx.number T.Key.cmp T.key_of self.now) result self.now }
+        ensures ends { (i : ℕ) (d : Way)
+            → EndsWithin num (asked_at T.Key.cmp T.key_of k.now self.now)
+            (order_in P.Inx.number self.now) (P.Inx.number p_init) i d
+            → option_map {U = ℕ × Way} (λ a. (P.index a.0, a.1)) result ≡ Some (i, d) }
     {
         self.find_similar_key_linear_counted(p_init, num, k, &mut Probes::new())
     }

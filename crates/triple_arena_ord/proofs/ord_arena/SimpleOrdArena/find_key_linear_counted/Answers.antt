@@ -1,14 +1,15 @@
-use Rattle.std.proofs.Common.{◌≡◌, Some, None, IfSome, IsSome, ap, sym, subst, option_map}
+use Rattle.std.proofs.Common.{◌≡◌, ℕ, Some, None, IfSome, IsSome, ap, sym, subst, ◌∙◌, option_map}
 use Rattle.triple_arena.specs.Entries.{generation_at, value_if}
+use Rattle.std.specs.declared.cmp.Ordering.{Ordering}
 use Rattle.std.specs.declared.cmp.Ordering.TheVariants.{Equal}
-use Rattle.triple_arena_ord.specs.Near.{IsEndNear}
+use Rattle.triple_arena_ord.specs.Near.{IsEndNear, EndsWithin}
 use Rattle.triple_arena_ord.specs.Ordered.{Ordered, IsOrdered, IsAscending, order_in, entry_in}
 use Rattle.triple_arena_ord.specs.Ordered.{asked_at}
 use Rattle.triple_arena_ord.proofs.SeekLemmas.{parts_at}
 use Rattle.triple_arena_ord.proofs.FoundLemmas.{found_from}
 use Rattle.triple_arena_ord.proofs.LinearLemmas.{pointed_lives, not_missed, on_chain, stops_live}
 use Rattle.triple_arena_ord.proofs.LinearLemmas.{linear_answer, linear_missed, linear_key_ended}
-use Rattle.triple_arena_ord.proofs.LinearLemmas.{linear_key_passed}
+use Rattle.triple_arena_ord.proofs.LinearLemmas.{linear_key_passed, linear_ends}
 use Rattle.triple_arena_ord.proofs.ord_arena.SimpleOrdArena.find_key_linear_counted.Given.{Over}
 use Rattle.triple_arena_ord.proofs.ord_arena.SimpleOrdArena.find_key_linear_counted.Goals.{After-inx}
 use Rattle.triple_arena_ord.proofs.ord_arena.SimpleOrdArena.find_key_linear_counted.Goals as goal
@@ -119,3 +120,34 @@ returns-in-None-clause-counted g c = λ there on.
     c.args.num _ _ _ _ c.walk_from-place.ensures.stops c.walk_from-place.ensures.walked
     (c.found_at.ensures.none c.in-None.is) c.find_key_counted-in-None.ensures.ticks
     (g.P.PtrCore.index c.args.p_init) c.inx.ensures on
+
+pub returns-in-Some-clause-ends : goal.returns-in-Some-clause-ends
+returns-in-Some-clause-ends g c = λ there i ends.
+    let number = g.P.Inx.PtrInxCore.number in
+    let cmp = g.T.Key.Ord.cmp in
+    let key = g.T.SimpleOrdItem.key_of in
+    let k = c.args.k.now in
+    let o = c.args.self.now in
+    let start = (goal.at.returns-in-Some-clause-ends g c).After-inx in
+    let ended = linear_ends number cmp key k o _ c.self.view_is c.self.invariant.0 _ (lives g start)
+    c.walk_from-place.result c.args.num _ _ c.walk_from-place.ensures.stops
+    c.walk_from-place.ensures.walked i Equal
+    (subst (λ s. EndsWithin c.args.num (asked_at cmp key k o) (order_in number o) s i Equal)
+    (sym c.inx.ensures) ends) in
+    ap (option_map {U = ℕ} (λ (p : ℕ × Ordering). p.0))
+    (sym (c.found_at.ensures.some c.in-Some.p c.in-Some.is) ∙ ended)
+
+pub returns-in-None-clause-ends : goal.returns-in-None-clause-ends
+returns-in-None-clause-ends g c = λ there i ends.
+    let number = g.P.Inx.PtrInxCore.number in
+    let cmp = g.T.Key.Ord.cmp in
+    let key = g.T.SimpleOrdItem.key_of in
+    let k = c.args.k.now in
+    let o = c.args.self.now in
+    let start = (goal.at.returns-in-None-clause-ends g c).After-inx in
+    let ended = linear_ends number cmp key k o _ c.self.view_is c.self.invariant.0 _ (lives g start)
+    c.walk_from-place.result c.args.num _ _ c.walk_from-place.ensures.stops
+    c.walk_from-place.ensures.walked i Equal
+    (subst (λ s. EndsWithin c.args.num (asked_at cmp key k o) (order_in number o) s i Equal)
+    (sym c.inx.ensures) ends) in
+    absurd (c.found_at.ensures.none c.in-None.is i ended)

@@ -1,4 +1,4 @@
-use Rattle.std.proofs.Common.{◌≡◌, Some, IfSome, subst}
+use Rattle.std.proofs.Common.{◌≡◌, Some, IfSome, subst, ◌∙◌}
 use Rattle.triple_arena.specs.Entries.{generation_at}
 use Rattle.triple_arena_ord.specs.Ordered.{IsAscending, entry_in, asked_at}
 use Rattle.triple_arena_ord.proofs.SeekLemmas.{parts_at}
@@ -41,3 +41,7 @@ returns-clause-near g c = λ ascending lives hand.
     c.seek_linear-place.ensures.near
     (parts_at number cmp key k g.met.T.Key.Ord.total o c.seek_linear-place.ensures.ordered
     ascending) lives hand
+
+pub returns-clause-ends : goal.returns-clause-ends
+returns-clause-ends g c = λ i d ends.
+    c.similar_at.ensures.same ∙ c.seek_linear-place.ensures.ends i d ends

@@ -22,3 +22,6 @@ returns-clause-empty g c =
     (placed_by_key g.P.Inx.PtrInxCore.number g.T.Key.Ord.cmp g.T.SimpleOrdItem.key_of c.args.k.now
     c.args.self.now g.met.T.Key.Ord.total c.seek_linear.ensures.ordered _
     c.seek_linear.ensures.answer)
+
+pub returns-clause-ends : goal.returns-clause-ends
+returns-clause-ends g c = λ end ends. c.seek_linear.ensures.ends end.0 end.1 ends

@@ -1,8 +1,8 @@
-use Rattle.std.proofs.Common.{ℕ, not, ap, ◌∙◌, option_map}
+use Rattle.std.proofs.Common.{◌≡◌, ℕ, Option, Some, None, not, sym, ap, ◌∙◌, option_map}
 use Rattle.std.specs.declared.cmp.Ordering.{Ordering}
 use Rattle.triple_arena_ord.specs.Ordered.{Ordered}
 use Rattle.triple_arena_ord.proofs.LinearLemmas.{looked_up, on_chain, not_free, linear_answer}
-use Rattle.triple_arena_ord.proofs.LinearLemmas.{linear_near, linear_place_ended}
+use Rattle.triple_arena_ord.proofs.LinearLemmas.{linear_near, linear_ends, not_listed, linear_place_ended}
 use Rattle.triple_arena_ord.proofs.LinearLemmas.{linear_place_passed}
 use Rattle.triple_arena_ord.proofs.ord_arena.SimpleOrdArena.seek_linear.Goals as goal
 
@@ -84,3 +84,42 @@ returns-in-None-clause-counted g c = λ there on.
     linear_place_passed number g.T.Key.Ord.cmp g.T.SimpleOrdItem.key_of c.args.k.now c.args.self.now
     inside c.self.view_is c.self.invariant.0 (number c.args.p_init) lives c.walk_from.result
     c.args.num _ _ _ _ c.walk_from.ensures.walked c.in-None.is c.seek-in-None.ensures.ticks on
+
+pub returns-then-is_none-clause-ends : goal.returns-then-is_none-clause-ends
+returns-then-is_none-clause-ends g c = λ i d ends.
+    let number = g.P.Inx.PtrInxCore.number in
+    let inside : Ordered g.row.P-Inx.Denot g.row.T.Denot =
+    record { chains = c.self.inside.chains; root = option_map number c.self.inside.root } in
+    absurd (not_listed number g.P.Gen.PtrGenCore.number (λ b. b.now) c.args.self.now inside
+    c.self.view_is c.seek.ensures.ordered (number c.args.p_init) c.get_inx.result c.get_inx.ensures
+    (c.is_none.ensures ∙ ap not c.if-is_none.true) ends.on)
+
+pub returns-in-Some-clause-ends : goal.returns-in-Some-clause-ends
+returns-in-Some-clause-ends g c = λ i d ends.
+    let number = g.P.Inx.PtrInxCore.number in
+    let inside : Ordered g.row.P-Inx.Denot g.row.T.Denot =
+    record { chains = c.self.inside.chains; root = option_map number c.self.inside.root } in
+    let lives = looked_up number g.P.Gen.PtrGenCore.number (λ b. b.now) inside
+    (number c.args.p_init) c.get_inx.result c.get_inx.ensures
+    (c.is_none.ensures ∙ ap not c.if-is_none.false) in
+    let ended = linear_ends number g.T.Key.Ord.cmp g.T.SimpleOrdItem.key_of c.args.k.now
+    c.args.self.now inside c.self.view_is c.self.invariant.0 (number c.args.p_init) lives
+    c.walk_from.result c.args.num _ _ c.walk_from.ensures.stops c.walk_from.ensures.walked i d ends
+    in
+    sym (ap (option_map {U = ℕ × Ordering} (λ a. (number a.0, a.1))) c.in-Some.is) ∙ ended
+
+pub returns-in-None-clause-ends : goal.returns-in-None-clause-ends
+returns-in-None-clause-ends g c = λ i d ends.
+    let number = g.P.Inx.PtrInxCore.number in
+    let inside : Ordered g.row.P-Inx.Denot g.row.T.Denot =
+    record { chains = c.self.inside.chains; root = option_map number c.self.inside.root } in
+    let lives = looked_up number g.P.Gen.PtrGenCore.number (λ b. b.now) inside
+    (number c.args.p_init) c.get_inx.result c.get_inx.ensures
+    (c.is_none.ensures ∙ ap not c.if-is_none.false) in
+    let ended = linear_ends number g.T.Key.Ord.cmp g.T.SimpleOrdItem.key_of c.args.k.now
+    c.args.self.now inside c.self.view_is c.self.invariant.0 (number c.args.p_init) lives
+    c.walk_from.result c.args.num _ _ c.walk_from.ensures.stops c.walk_from.ensures.walked i d ends
+    in
+    let never : ◌≡◌ {A = Option (ℕ × Ordering)} None (Some (i, d)) =
+    sym (ap (option_map {U = ℕ × Ordering} (λ a. (number a.0, a.1))) c.in-None.is) ∙ ended in
+    absurd (cc)
