@@ -84,7 +84,7 @@ fn is_within<I: PtrInxCore>(i: I, count: usize) -> bool
 }
 
 // Whether there is an index, and it is this one.
-fn is_same<I: PtrInxCore>(i: Option<I>, j: I) -> bool
+pub(crate) fn is_same<I: PtrInxCore>(i: Option<I>, j: I) -> bool
     ensures { IsTrue result ↔ (option_map I.number i ≡ Some (I.number j)) }
 {
     match i {

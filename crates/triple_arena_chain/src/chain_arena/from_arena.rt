@@ -6,6 +6,7 @@ ghost use Rattle.triple_arena.specs.Content.{IsWellFormed};
 ghost use Rattle.triple_arena_chain.specs.Chains.{IsAgreed, next_at, prev_at};
 ghost use Rattle.triple_arena_chain.specs.Links.{ends_in, IsChained};
 
+use crate::chain_arena::canonical_layout::is_same;
 use crate::chain_arena::interlinks::recall_formed;
 use crate::{ChainArena, ChainSlots, LinkNoGen};
 use std::mem;
@@ -20,15 +21,12 @@ fn goes_back<P: PtrCore, T: Drop, S: ChainSlots<P, T>>(
     ensures { IsTrue result ↔ ((q : ℕ) → option_map P.Inx.number at ≡ Some q
         → prev_at (ends_in P.Inx.number arena.now) q ≡ Some (P.Inx.number i)) }
 {
-    let Some(at) = at else {
-        return true;
-    };
-    match arena.get_inx(at) {
-        Some((_, link)) => match link.prev() {
-            Some(prev) => prev == i,
+    match at {
+        Some(at) => match arena.get_inx(at) {
+            Some((_, link)) => is_same(link.prev(), i),
             None => false,
         },
-        None => false,
+        None => true,
     }
 }
 
@@ -41,15 +39,12 @@ fn goes_on<P: PtrCore, T: Drop, S: ChainSlots<P, T>>(
     ensures { IsTrue result ↔ ((p : ℕ) → option_map P.Inx.number at ≡ Some p
         → next_at (ends_in P.Inx.number arena.now) p ≡ Some (P.Inx.number i)) }
 {
-    let Some(at) = at else {
-        return true;
-    };
-    match arena.get_inx(at) {
-        Some((_, link)) => match link.next() {
-            Some(next) => next == i,
+    match at {
+        Some(at) => match arena.get_inx(at) {
+            Some((_, link)) => is_same(link.next(), i),
             None => false,
         },
-        None => false,
+        None => true,
     }
 }
 
