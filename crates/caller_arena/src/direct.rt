@@ -6,11 +6,9 @@ ghost use Rattle.triple_arena_ptr.specs.InvalidationResult.{answer_of};
 ghost use Rattle.triple_arena.specs.DirectContent.{entry_at, get, live_count, inserted, removed};
 ghost use Rattle.triple_arena.specs.DirectContent.{IsPlace};
 
-use std::alloc::Global;
 use triple_arena::{
-    ArenaDirectInsertEntryTrait, ArenaDirectInsertTrait, ArenaTrait, ArrayDirectArena, DirectArena,
-    DirectInsertionError, DirectSlots, HeapDirectArena, InvalidationOption, InvalidationResult, P0,
-    PtrCore,
+    ArenaDirectInsertEntryTrait, ArenaDirectInsertTrait, ArenaTrait, DirectArena,
+    DirectInsertionError, DirectSlots, InvalidationOption, InvalidationResult, PtrCore,
 };
 
 /// An entry under a pointer of the caller's choice.
@@ -38,18 +36,21 @@ pub fn put<P: PtrCore, S: DirectSlots<P, u64>>(
 }
 
 /// A removal never wraps, and leaves the slot.
-pub fn take(arena: &mut HeapDirectArena<P0, u64, Global>, p: P0) -> InvalidationResult<u64>
+pub fn take<P: PtrCore, S: DirectSlots<P, u64>>(
+    arena: &mut DirectArena<P, u64, S>,
+    p: P,
+) -> InvalidationResult<u64>
     ensures never { IfSome (answer_of result) (λ a. overflowed a ≡ false) }
-    ensures exact { OnSome (answer_of result) (arena.new
-        ≡ removed arena.old (⟦<P0 as PtrCore>⟧.index p)) }
-    ensures gone { OnSome (answer_of result)
-        (entry_at arena.new (⟦<P0 as PtrCore>⟧.index p) ≡ None) }
+    ensures exact { OnSome (answer_of result) (arena.new ≡ removed arena.old (P.index p)) }
+    ensures gone { OnSome (answer_of result) (entry_at arena.new (P.index p) ≡ None) }
 {
     arena.remove(p)
 }
 
-/// Any arena by its bound alone, here over an array.
-pub fn clear_array(arena: &mut ArrayDirectArena<P0, u64, 3>) -> InvalidationOption<()>
+/// Nor does `clear`.
+pub fn clear<P: PtrCore, S: DirectSlots<P, u64>>(
+    arena: &mut DirectArena<P, u64, S>,
+) -> InvalidationOption<()>
     ensures none { live_count arena.new ≡ 0 }
     ensures never { overflowed result ≡ false }
 {
