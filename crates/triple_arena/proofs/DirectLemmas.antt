@@ -64,6 +64,14 @@ module _ {T : Type 0} where
     pub sound : IsSound xs len room
     pub content : direct_of xs room ≡ d
 
+  -- a live index is within the slots
+  pub live_within : {xs : List (Option (ℕ × T))} {room : Room} {d : DirectContent T} (i : ℕ)
+      → direct_of xs room ≡ d → IsSome (entry_at d i) → i ≤ length xs
+  live_within {xs} {room} i seen some =
+      let there = rw (← seen) at some in
+      let live = live_entry (as_content (direct_of xs room)) i there in
+      omega (arith, live.positive, live.within)
+
   -- a live slot becomes free
   pub freed : {xs xs' : List (Option (ℕ × T))} {len : ℕ} (i : ℕ) {room room' : Room}
       {d : DirectContent T} {new : Option (ℕ × T)}

@@ -437,6 +437,10 @@ module _ {T : Type 0} where
         within = omega (arith, slice_get_within es (suc k - 1) _ found);
       }
 
+  pub live_within : (es : List (Slot T)) {room : Room} {g : ℕ} (head : Option ℕ) {c : Content T}
+      {i : ℕ} → content_of es room g head ≡ c → IsSome (entry_at c i) → i ≤ length es
+  live_within es head seen some = (finds head seen (the_some _ some).1).within
+
   get_at_end : (es : List (Slot T)) (x : Slot T) → slice_get (es ++ x ∷ []) (length es) ≡ Some x
   get_at_end [] x = refl
   get_at_end (e ∷ es) x = get_at_end es x

@@ -3,8 +3,11 @@ use Rattle.std.specs.Int.NonZero.{non_zero_usize_get}
 use Rattle.triple_arena_stack.specs.Stack.{with_item}
 use Rattle.triple_arena.specs.ArenaRoom.{room_of}
 use Rattle.triple_arena.specs.Content.{with_generation}
-use Rattle.triple_arena.proofs.FreeListLemmas.{renewed, the_some}
+use Rattle.triple_arena.proofs.FreeListLemmas.{renewed, the_some, live_within}
 use Rattle.triple_arena.proofs.arena.Arena.renew_at.Goals as goal
+
+pub item_mut-requires : goal.item_mut-requires
+item_mut-requires g c = live_within _ _ c.self.view_is c.requires
 
 pub invariant_of-self : goal.invariant_of-self
 invariant_of-self g c =

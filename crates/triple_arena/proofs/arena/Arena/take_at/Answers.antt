@@ -1,10 +1,14 @@
-use Rattle.std.proofs.Common.{Some, sym, ap, ◌∙◌}
+use Rattle.std.proofs.Common.{Some, refl, sym, ap, ◌∙◌}
 use Rattle.std.specs.Int.NonZero.{non_zero_usize_get}
 use Rattle.triple_arena_stack.specs.Stack.{with_item}
 use Rattle.triple_arena.specs.ArenaRoom.{room_of}
 use Rattle.triple_arena.specs.Slot.{free}
 use Rattle.triple_arena.proofs.FreeListLemmas.{popped, freed, head_free, the_some, entry_of_slot}
+use Rattle.triple_arena.proofs.FreeListLemmas.{live_within}
 use Rattle.triple_arena.proofs.arena.Arena.take_at.Goals as goal
+
+pub item_mut-requires : goal.item_mut-requires
+item_mut-requires g c = live_within _ _ c.self.view_is c.requires
 
 pub invariant_of-self : goal.invariant_of-self
 invariant_of-self g c =
@@ -12,6 +16,14 @@ invariant_of-self g c =
     (popped c.self.invariant (sym c.get.ensures.value ∙ c.if-get-len.true ∙ c.len.ensures.value)
     c.self.view_is live.1
     c.in-Some.ensures.items (ap (room_of g.P.Inx.PtrInxCore.greatest) c.pop.ensures.room)).sound
+
+pub into_entry-requires-clause-used : goal.into_entry-requires-clause-used
+into_entry-requires-clause-used g c =
+    let live = the_some _ c.requires in
+    rw ((popped c.self.invariant (sym c.get.ensures.value ∙ c.if-get-len.true ∙ c.len.ensures.value)
+    c.self.view_is live.1
+    c.in-Some.ensures.items (ap (room_of g.P.Inx.PtrInxCore.greatest) c.pop.ensures.room)).entry_is)
+    refl
 
 pub set_prev_at-requires-clause-free : goal.set_prev_at-requires-clause-free
 set_prev_at-requires-clause-free g c =

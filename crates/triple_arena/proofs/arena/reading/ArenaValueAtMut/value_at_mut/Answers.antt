@@ -5,8 +5,12 @@ use Rattle.triple_arena_stack.specs.Stack.{with_item}
 use Rattle.triple_arena.specs.ArenaRoom.{room_of}
 use Rattle.triple_arena.specs.Slot.{with_slot_value}
 use Rattle.triple_arena.proofs.FreeListLemmas.{rewritten, the_some, entry_of_slot, value_some}
+use Rattle.triple_arena.proofs.FreeListLemmas.{live_within}
 use Rattle.triple_arena.proofs.FreeListLemmas.{value_of_entry}
 use Rattle.triple_arena.proofs.arena.reading.ArenaValueAtMut.value_at_mut.Goals as goal
+
+pub item_mut-requires : goal.item_mut-requires
+item_mut-requires g c = live_within _ _ c.self.view_is c.requires.used
 
 pub value_mut-requires-clause-used : goal.value_mut-requires-clause-used
 value_mut-requires-clause-used g c =

@@ -4,8 +4,11 @@ use Rattle.std.specs.Option.{option_map}
 use Rattle.triple_arena_stack.specs.Stack.{with_item}
 use Rattle.triple_arena.specs.ArenaRoom.{room_of}
 use Rattle.triple_arena.specs.DirectSlot.{with_slot_value}
-use Rattle.triple_arena.proofs.DirectLemmas.{written, held_at, value_some}
+use Rattle.triple_arena.proofs.DirectLemmas.{written, held_at, value_some, live_within}
 use Rattle.triple_arena.proofs.direct.reading.DirectArenaValueAtMut.value_at_mut.Goals as goal
+
+pub item_mut-requires : goal.item_mut-requires
+item_mut-requires g c = live_within _ c.self.view_is c.requires.used
 
 pub value_mut-requires-clause-used : goal.value_mut-requires-clause-used
 value_mut-requires-clause-used g c =
