@@ -207,7 +207,7 @@ module _ {I T : Type 0} (number : I → ℕ) where
       (linear_gap (ends_in number o.chains) cut.front cut.back
       (subst (IsLinear (ends_in number o.chains)) cut.is is.linear))
 
-  item-if : (b : Bool) (g : ℕ) (v : IndexNode I T) (o : Option (ℕ × IndexNode I T))
+  pub item-if : (b : Bool) (g : ℕ) (v : IndexNode I T) (o : Option (ℕ × IndexNode I T))
       → option_map itemed (if b then Some (g, v) else o)
       ≡ (if b then Some (g, v.t) else option_map itemed o)
   item-if true g v o = refl

@@ -14,6 +14,7 @@ pub mod WayLemmas
 pub mod FoundLemmas
 pub mod LinearLemmas
 pub mod LeafLemmas
+pub mod FirstLemmas
 pub mod EndLemmas
 pub mod SameListLemmas
 pub mod PlacingLemmas
