@@ -93,24 +93,3 @@ impl PtrGenCore for Gen3 {
 impl PtrGen for Gen3 {
     ghost ordered = { λ a b. Prim.search (comparing, rules) };
 }
-
-#[cfg(test)]
-mod tests {
-    use crate::{Gen3, N3};
-    use std::num::NonZeroU8;
-    use std::test::Fail;
-    use triple_arena_ptr::{PtrCore, PtrGenCore};
-
-    #[test]
-    fn generations_start_again_at_two(rt: HostRuntime) -> Result<(), Fail> {
-        let mut generation = Gen3::one();
-        for want in [(2, false), (3, false), (2, true), (3, false)] {
-            let (next, wrapped) = generation.generational_inc();
-            assert_eq!(rt; (next.number.get(), wrapped), want);
-            generation = next;
-        }
-        let p = N3::_from_raw(NonZeroU8::MIN, generation);
-        assert_eq!(rt; format!(in rt.alloc(); "{p:?}")?.as_str(), "N3[1](3)");
-        Ok(())
-    }
-}

@@ -1,2 +1,3 @@
+mod kit;
 mod pointers;
 mod stacks;

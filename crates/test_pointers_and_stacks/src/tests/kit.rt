@@ -1,7 +1,28 @@
-//! What no clause says: which requests are refused.
-use crate::RefusingAllocator;
+//! What tests share: a pointer type whose generations start again soon, and an allocator that
+//! refuses a request.
 use std::alloc::{AllocError, Allocator};
+use std::num::NonZeroU8;
 use std::test::Fail;
+use test_kit::{Gen3, N3, RefusingAllocator};
+use triple_arena_ptr::{PtrCore, PtrGenCore};
+
+#[test]
+fn generations_start_again_at_two(rt: HostRuntime) -> Result<(), Fail> {
+    let mut generation = Gen3::one();
+    for (want, wraps) in [
+        ("N3[1](2)", false),
+        ("N3[1](3)", false),
+        ("N3[1](2)", true),
+        ("N3[1](3)", false),
+    ] {
+        let (next, wrapped) = generation.generational_inc();
+        let p = N3::_from_raw(NonZeroU8::MIN, next);
+        assert_eq!(rt; format!(in rt.alloc(); "{p:?}")?.as_str(), want);
+        assert_eq!(rt; wrapped, wraps);
+        generation = next;
+    }
+    Ok(())
+}
 
 #[test]
 fn just_the_nth_is_refused(rt: HostRuntime) -> Result<(), Fail> {
