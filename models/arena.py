@@ -3,7 +3,8 @@
 
 usage: arena.py SEED LINES >stdin 2>stdout     random sections with so many calls each,
                                                and what must be answered
-       arena.py answer <stdin >stdout          what must be answered to these sections
+       arena.py answer <stdin >stdout          what the gate must answer to these sections
+       arena.py answer all <stdin >stdout      the same over all that their headers name
 
 `crates/script_arena/src/main.rt` says how a section is written.
 """
@@ -31,6 +32,7 @@ from arena_rules import (
 NAMES_OF_AN_ARRAY = 4
 # The pointer types that the program has arrays for.
 IN_ARRAYS = {'array': ('P0', 'P1', 'P5', 'N3'), 'renaming_array': ('P0',)}
+from kinds import of_gate, played
 
 
 def reads(arena, verb, x, y):
@@ -382,15 +384,14 @@ def make(kind, stack, heap, room, more):
     return (Renaming if renames else Section)(POINTERS[kind], stack, heap, room, more)
 
 
-def play(section):
+def play(section, gate=None):
     """The lines of a section, over each pointer type and stack, and for each refused request."""
     header, _, calls = section.partition('\n')
-    kinds, stacks, (_, first, last, _, _) = words_of(header)
+    _, _, (_, first, last, _, _) = words_of(header)
     lines = [header]
-    for kind in kinds.split(','):
-        for stack in stacks.split(','):
-            for refused_request in range(first, last + 1):
-                lines += run(kind, stack, refused_request, header, calls.splitlines())
+    for kind, stack in played(header, gate):
+        for refused_request in range(first, last + 1):
+            lines += run(kind, stack, refused_request, header, calls.splitlines())
     return lines
 
 
@@ -556,12 +557,13 @@ def random_sections(seed, count):
 
 
 def main(words):
-    if words == ['answer']:
+    if words[:1] == ['answer']:
+        gate = None if words[1:] == ['all'] else of_gate('script_arena')
         for section in sys.stdin.read().rstrip('\n').split('\n\n'):
-            print('\n'.join(play(section)))
+            print('\n'.join(play(section, gate)))
         return
     if len(words) != 2:
-        sys.exit('usage: arena.py SEED LINES | answer')
+        sys.exit('usage: arena.py SEED LINES | answer [all]')
     sections = random_sections(int(words[0]), int(words[1]))
     print('\n\n'.join(sections))
     print('\n'.join('\n'.join(play(section)) for section in sections), file=sys.stderr)

@@ -2,7 +2,8 @@
 """Plays the sections of `script_chain` by the rules of `chain_rules.py`, and writes random ones.
 
 usage: chains.py SEED LINES >stdin 2>stdout     random sections, some LINES lines in all
-       chains.py answer <stdin >stdout          what must be answered to these sections
+       chains.py answer <stdin >stdout          what the gate must answer to these sections
+       chains.py answer all <stdin >stdout      the same over all that their headers name
 """
 import random
 import sys
@@ -11,6 +12,7 @@ sys.dont_write_bytecode = True
 
 from chain_lines import Writer
 from chain_rules import ARRAY, Arena, Chains, Heap, KINDS, LAST, Links, WORD, some
+from kinds import of_gate, played
 
 
 class Section:
@@ -261,15 +263,14 @@ def told(line, answers):
     return [line if it is None else f'{line} -> {it}' for it in answers]
 
 
-def answers_to(section):
+def answers_to(section, gate):
     """The transcript of a section that is given."""
     header, *lines = section.split('\n')
-    kinds, stacks, room, first, last = [*header.split(' '), '0', '0', '0'][:5]
+    room, first, last = [*header.split(' '), '0', '0', '0'][2:5]
     out = [header]
-    for kind in kinds.split(','):
-        for stack in stacks.split(','):
-            for nth in range(int(first), int(last) + 1):
-                out += answers_over(kind, stack, int(room), nth, lines)
+    for kind, stack in played(header, gate):
+        for nth in range(int(first), int(last) + 1):
+            out += answers_over(kind, stack, int(room), nth, lines)
     return out
 
 
@@ -312,13 +313,14 @@ def write_random(seed, lines):
 
 
 def main(words):
-    if words == ['answer']:
+    if words[:1] == ['answer']:
+        gate = None if words[1:] == ['all'] else of_gate('script_chain')
         sections = sys.stdin.read().rstrip('\n').split('\n\n')
-        print('\n'.join('\n'.join(answers_to(it)) for it in sections))
+        print('\n'.join('\n'.join(answers_to(it, gate)) for it in sections))
     elif len(words) == 2:
         write_random(int(words[0]), int(words[1]))
     else:
-        sys.exit('usage: chains.py SEED LINES | answer')
+        sys.exit('usage: chains.py SEED LINES | answer [all]')
 
 
 if __name__ == '__main__':

@@ -5,7 +5,8 @@ It goes by the rules of `store_rules.py`.
 
 usage: store.py SEED LINES >stdin 2>stdout     random sections with so many lines each,
                                                and what must be written
-       store.py answer <stdin >stdout          what must be written for these sections
+       store.py answer <stdin >stdout          what the gate must write for these sections
+       store.py answer all <stdin >stdout      the same over all that their headers name
        store.py faults >stdin 2>stdout         an input whose reads and writes fail
                                                at each byte in turn
        store.py rooms SEED                     the arguments of the program `route_book`
@@ -20,6 +21,7 @@ import sys
 
 sys.dont_write_bytecode = True
 
+from kinds import moves_of_gate, of_gate, played
 from store_rules import LAST_TICKET, Store
 
 # The greatest index of each pointer type, and its greatest generation.
@@ -31,9 +33,10 @@ POINTERS = {
 }
 BACKINGS = ('heap', 'limited', 'fixed', 'array')
 # The arrays, and what each has room for.
-ARRAYS = {'array': 10, 'array3': 3}
+ARRAYS = {'array': 10, 'array3': 3, 'array4': 4}
 # What a store that moves on the way may begin as, and what it may become.
 ANY = [(p, b) for p in POINTERS for b in BACKINGS if (p, b) != ('P5', 'array')]
+ANY += [('P1', 'array3'), ('P1', 'array4')]
 MOVING = {
     ('P0', 'heap'): ANY,
     ('P1', 'limited'): [('N3', 'fixed')],
@@ -186,24 +189,23 @@ def requests(rooms):
     return 2 * sum(room > 0 for room in rooms) + any(rooms)
 
 
-def move(store, words, spent, refused):
+def move(store, words, to, spent, refused):
     """Moves a store after so many requests for memory, and says how that ended."""
-    _, kind, *numbers = words.split(' ')
-    pointers, backing = kind.split(',')
+    _, _, *numbers = words.split(' ')
     rooms = [int(number) for number in numbers]
     # All else is tested before memory is asked for.
-    why = refusal(pointers, backing, rooms, 0)
+    why = refusal(*to, rooms, 0)
     if why in (None, 'room refused: memory\n') and not store.fits(*rooms):
         return 'not moved: too small\n'
-    why = why or refusal(pointers, backing, rooms, max(refused - spent, 0))
+    why = why or refusal(*to, rooms, max(refused - spent, 0))
     if why:
         return 'not ' + why.partition('\n')[0].replace('room refused', 'moved') + '\n'
-    store.move(*rooms, POINTERS[pointers][1])
+    store.move(*rooms, POINTERS[to[0]][1])
     return 'moved\n'
 
 
-def play_over(pointers, backing, numbers, lines):
-    """What a section's lines write over a new store."""
+def play_over(pointers, backing, to, numbers, lines):
+    """What a section's lines write over a new store, which may become one of another kind."""
     *rooms, last, refused = numbers
     text = refusal(pointers, backing, rooms, refused)
     if text is not None:
@@ -214,7 +216,7 @@ def play_over(pointers, backing, numbers, lines):
         for part in lines[1:].split('>'):
             words, _, run_lines = part.partition('\n')
             if words.startswith('move '):
-                text += f'>{words}\n' + move(store, words, spent, refused)
+                text += f'>{words}\n' + move(store, words, to, spent, refused)
             else:
                 text += play_run(store, words, run_lines)
         return text + ('memory was refused\n' if 'not moved: memory' in text and refused else '')
@@ -223,25 +225,33 @@ def play_over(pointers, backing, numbers, lines):
     return f'{page.text}-> {end}, unread 0, flushed {page.flushed}\n'
 
 
-def play(section):
+def kinds_of(header, lines, in_gate):
+    """What the stores of a section begin as, and what they become, which may be nothing."""
+    if '>move ' not in lines:
+        gate = of_gate('script_route_book') if in_gate else None
+        return [(*kind, None) for kind in played(header, gate)]
+    words = lines.partition('>move ')[2].split(' ')[0]
+    pointers, backings = words.split(',')
+    targets = [(p, b) for p in pointers.split('/') for b in backings.split('/')]
+    moves = moves_of_gate('script_route_book') if in_gate else MOVING
+    found = [(*it, to) for it in played(header, None) for to in targets if to in moves.get(it, ())]
+    return found or sys.exit(f'a section moves to nothing: {header}, {words}')
+
+
+def play(section, in_gate):
     """What a section writes."""
     comment, _, behind = section.partition('\n')
     header, _, lines = behind.partition('\n')
-    pointers, backings, *numbers = header.split(' ')
-    numbers = ([int(number) for number in numbers] + [0] * 5)[:5]
-    texts = [
-        play_over(kind, backing, numbers, lines)
-        for kind in pointers.split(',')
-        for backing in backings.split(',')
-    ]
+    numbers = ([int(number) for number in header.split(' ')[2:]] + [0] * 5)[:5]
+    texts = [play_over(*kind, numbers, lines) for kind in kinds_of(header, lines, in_gate)]
     assert all(text == texts[0] for text in texts), f'the stores of a section differ: {comment}'
     plays = len(texts) * (1 if lines.startswith('>') else PLAYS_OF_AN_INPUT)
     return f'#{comment}\n{header}\n{texts[0]}{plays} plays\n'
 
 
-def answer(script):
+def answer(script, in_gate=False):
     """What a script writes."""
-    return ''.join(play(section) for section in script.split('#') if section)
+    return ''.join(play(section, in_gate) for section in script.split('#') if section)
 
 
 # The rooms of places, stops and marks, in an array and elsewhere.
@@ -456,8 +466,8 @@ def random_lines(seed, count):
 
 
 def main(words):
-    if words == ['answer']:
-        print(answer(sys.stdin.buffer.read().decode()), end='')
+    if words[:1] == ['answer']:
+        print(answer(sys.stdin.buffer.read().decode(), words[1:] != ['all']), end='')
     elif words == ['faults']:
         script = fault_sections()
         print(script, end='')
@@ -473,7 +483,7 @@ def main(words):
         print(script, end='')
         print(answer(script), end='', file=sys.stderr)
     else:
-        sys.exit('usage: store.py SEED LINES | answer | faults | rooms SEED | lines SEED LINES')
+        sys.exit('usage: store.py SEED LINES | answer [all] | faults | rooms SEED | lines SEED LINES')
 
 
 if __name__ == '__main__':

@@ -11,8 +11,9 @@ use std::fmt::Debug;
 use test_kit::{Call, Transcript, generation, pointer};
 use triple_arena::{
     Arena, ArenaDirectInsertEntryTrait, ArenaDirectInsertTrait, ArenaInsertTrait, ArenaSlot,
-    ArenaSlots, ArenaTrait, DirectArena, DirectSlot, DirectSlots, NonZeroInxArray, NonZeroInxVec,
-    P0, Ptr, PtrCore, ReallocationError, Recast, Recaster, compress_recaster,
+    ArenaSlots, ArenaTrait, DirectArena, DirectSlot, DirectSlots, NonZeroInxArray,
+    NonZeroInxGenericStack, NonZeroInxVec, P0, Ptr, PtrCore, ReallocationError, Recast, Recaster,
+    compress_recaster,
 };
 
 // A number, and the pointer beside it.
@@ -45,14 +46,10 @@ pub fn over_heap<P: Ptr + Recast<P>, H: Allocator + Copy + Drop>(
 
 /// Over arrays: five slots for numbers, and four for names.
 pub fn over_array(
-    kind: &str,
     transcript: &mut Transcript,
     header: &Call<'_>,
     calls: &str,
 ) -> Result<(), ReallocationError> {
-    if kind != "P0" {
-        return Err(ReallocationError::BeyondMaxCapacity);
-    }
     over::<
         P0,
         (),
@@ -63,13 +60,14 @@ pub fn over_array(
     >((), transcript, header, calls)
 }
 
+// The bounds are written out, as in `stacks.rt`.
 fn over<
     P: Ptr + Recast<P>,
     H: Copy + Drop,
-    S: ArenaSlots<P, Held<P>, Alloc = H>,
-    D: DirectSlots<P, Held<P>, Alloc = H>,
-    N: DirectSlots<P, P, Alloc = H>,
-    M: ArenaSlots<P, P, Alloc = H>,
+    S: NonZeroInxGenericStack<Item = Holding<P>, Alloc = H> + Drop,
+    D: NonZeroInxGenericStack<Item = DirectHolding<P>, Alloc = H> + Drop,
+    N: NonZeroInxGenericStack<Item = Name<P>, Alloc = H> + Drop,
+    M: NonZeroInxGenericStack<Item = OwnName<P>, Alloc = H> + Drop,
 >(
     alloc: H,
     transcript: &mut Transcript,

@@ -6,7 +6,8 @@
 //!
 //! - POINTERS are pointer types, with `,` between them: `P0`, `P1`, `P3`, `P5`, or `N3`, whose
 //!   generations end at 3;
-//! - STACKS are kinds of stack: `heap`, `limited`, `boxed`, or `array`, which has eight slots;
+//! - STACKS are kinds of stack: `heap`, `limited`, `boxed`, or `array`, which has eight slots. Of
+//!   these pairs the program plays over those of `kinds.rt`;
 //! - ROOM is the capacity that the arenas are made with;
 //! - each time the calls are made once for each request for memory from FIRST to LAST, which is
 //!   refused. Request 0 is none.
@@ -27,6 +28,7 @@ ghost use Rattle.std.specs.Prelude.{◌<◌};
 
 mod chain;
 mod kind;
+mod kinds;
 mod links;
 mod player;
 mod renaming;
@@ -34,11 +36,9 @@ mod section;
 mod several;
 mod stacks;
 
-use stacks::{over_array, over_stack};
-use std::alloc::{Allocator, Global};
+use std::alloc::Global;
 use std::io;
-use test_kit::{Call, N3, RefusingAllocator, Transcript};
-use triple_arena::{P0, P1, P3, P5, ReallocationError};
+use test_kit::{Call, RefusingAllocator, Transcript};
 
 fn main(rt: HostRuntime) -> io::Result<()> {
     let script = io::read_to_string(rt.alloc(), rt.reader())?;
@@ -58,8 +58,10 @@ fn play(alloc: Global, transcript: &mut Transcript, section: &str) {
     let header = Call::new(header);
     for kind in header.whom.split(',') {
         for stack in header.verb.split(',') {
-            for nth in header.second..=header.third {
-                play_once(alloc, transcript, &Run { kind, stack, nth }, &header, calls);
+            if kinds::has(kind, stack) {
+                for nth in header.second..=header.third {
+                    play_once(alloc, transcript, &Run { kind, stack, nth }, &header, calls);
+                }
             }
         }
     }
@@ -83,7 +85,8 @@ fn play_once(
 ) {
     transcript.answer("over", &(run.kind, run.stack, run.nth));
     let heap = RefusingAllocator::new(alloc, refused(run.nth));
-    if let Err(refused) = play_over(&heap, transcript, run, header, calls) {
+    let kind = (run.kind, run.stack);
+    if let Err(refused) = kinds::play_over(&heap, transcript, kind, header, calls) {
         transcript.answer("made", &refused);
     }
     transcript.answer("was refused", &heap.has_refused());
@@ -93,25 +96,4 @@ fn refused(nth: u64) -> u64
     ensures { 0 < result }
 {
     if nth == 0 { u64::MAX } else { nth }
-}
-
-// Generic in the heap: that of a test meets its bounds in one place.
-fn play_over<H: Allocator + Copy + Drop>(
-    heap: H,
-    transcript: &mut Transcript,
-    run: &Run<'_>,
-    header: &Call<'_>,
-    calls: &str,
-) -> Result<(), ReallocationError> {
-    if run.stack == "array" {
-        return over_array(run.kind, transcript, header, calls);
-    }
-    match run.kind {
-        "P0" => over_stack::<P0, H>(heap, run.stack, transcript, header, calls),
-        "P1" => over_stack::<P1, H>(heap, run.stack, transcript, header, calls),
-        "P3" => over_stack::<P3, H>(heap, run.stack, transcript, header, calls),
-        "P5" => over_stack::<P5, H>(heap, run.stack, transcript, header, calls),
-        "N3" => over_stack::<N3, H>(heap, run.stack, transcript, header, calls),
-        _ => Err(ReallocationError::BeyondMaxCapacity),
-    }
 }

@@ -5,8 +5,8 @@ use std::fmt::Debug;
 use test_kit::{Call, ShownPtr, Transcript, generation, index, pointer};
 use triple_arena::{
     Arena, ArenaDirectInsertEntryTrait, ArenaDirectInsertTrait, ArenaInsertTrait, ArenaSlot,
-    ArenaSlots, ArenaTrait, DirectArena, DirectSlot, DirectSlots, NonZeroInxVec, Ptr, PtrCore,
-    ReallocationError, Recast, Recaster, compress_recaster,
+    ArenaSlots, ArenaTrait, DirectArena, DirectSlot, DirectSlots, NonZeroInxGenericStack,
+    NonZeroInxVec, Ptr, PtrCore, ReallocationError, Recast, Recaster, compress_recaster,
 };
 use triple_arena_chain::{ChainArena, ChainArenaTrait, ChainSlots, LinkNoGen};
 
@@ -33,12 +33,13 @@ pub fn over_heap<P: Ptr + Recast<P>, H: Allocator + Copy + Drop>(
 
 // Makes the calls of a section, and then compresses the arena of targets and recasts the chains by
 // the map of that, twice.
+// The bounds are written out, as in `stacks.rt`.
 fn over<
     P: Ptr + Recast<P>,
     H: Copy + Drop,
-    S: ChainSlots<P, P, Alloc = H>,
-    V: ArenaSlots<P, u64, Alloc = H>,
-    R: DirectSlots<P, P, Alloc = H>,
+    S: NonZeroInxGenericStack<Item = Holding<P>, Alloc = H> + Drop,
+    V: NonZeroInxGenericStack<Item = Target<P>, Alloc = H> + Drop,
+    R: NonZeroInxGenericStack<Item = Name<P>, Alloc = H> + Drop,
 >(alloc: H, transcript: &mut Transcript, calls: &str) -> Result<(), ReallocationError> {
     let mut chains = ChainArena::<P, P, S>::new(alloc);
     let mut targets = Arena::<P, u64, V>::new(alloc);
