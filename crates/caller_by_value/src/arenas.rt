@@ -23,13 +23,6 @@ pub fn count<P: PtrCore, T: Drop, S: ArenaSlots<P, T>>(arena: Arena<P, T, S>) ->
     count
 }
 
-/// The same, on the heap.
-pub fn count_on_heap(arena: HeapArena<P0, u64, Global>) -> usize
-    ensures { result ≡ live_count arena }
-{
-    count(arena)
-}
-
 /// The sum of the values. Past the greatest number it goes on from 0.
 pub fn sum<P: PtrCore, S: ArenaSlots<P, u64>>(arena: Arena<P, u64, S>) -> u64
     ensures { result ≡ sum_of (list_map value_of (live_entries arena)) % 2 ^ 64 }
@@ -50,13 +43,6 @@ pub fn sum_on_heap(arena: HeapArena<P0, u64, Global>) -> u64
         total = total.wrapping_add(value);
     }
     total
-}
-
-/// The generic one, on the heap.
-pub fn sum_twice(arena: HeapArena<P0, u64, Global>) -> u64
-    ensures { result ≡ sum_of (list_map value_of (live_entries arena)) % 2 ^ 64 }
-{
-    sum(arena)
 }
 
 /// The first entry whose value is at least this one. The others are dropped half-way.
@@ -88,16 +74,6 @@ pub fn first<P: PtrCore, T: Drop, S: ArenaSlots<P, T>>(arena: Arena<P, T, S>) ->
     first
 }
 
-/// The same, on the heap.
-pub fn first_on_heap(arena: HeapArena<P0, u64, Global>) -> Option<(P0, u64)>
-    ensures { IfNone result (live_entries arena ≡ []) }
-{
-    let mut entries = arena.into_iter();
-    let first = entries.next();
-    drop(entries);
-    first
-}
-
 /// The entries in the order of the indexes, or an error if memory is refused, which drops them
 /// half-way.
 pub fn listed<P: PtrCore, T: Drop, S: ArenaSlots<P, T>, A: Allocator>(
@@ -112,18 +88,4 @@ pub fn listed<P: PtrCore, T: Drop, S: ArenaSlots<P, T>, A: Allocator>(
         entries.push(entry)?;
     }
     Ok(entries)
-}
-
-/// The values in the order of the indexes, on the heap.
-pub fn listed_on_heap(
-    arena: HeapArena<P0, u64, Global>,
-    alloc: Global,
-) -> Result<Vec<u64>, AllocError>
-    ensures { IfOk result (λ v. v.items ≡ list_map value_of (live_entries arena)) }
-{
-    let mut values = Vec::new(alloc);
-    for (_, value) in arena {
-        values.push(value)?;
-    }
-    Ok(values)
 }

@@ -6,9 +6,9 @@ ghost use Rattle.triple_arena.specs.Compression.{value_of};
 ghost use Rattle.triple_arena.specs.Content.{live_count};
 ghost use Rattle.triple_arena_chain.specs.Listed.{listed_values};
 
-use std::alloc::{AllocError, Allocator, Global};
-use triple_arena::{ArenaTrait, P0, PtrCore};
-use triple_arena_chain::{ChainArena, ChainSlots, HeapChainArena};
+use std::alloc::{AllocError, Allocator};
+use triple_arena::{ArenaTrait, PtrCore};
+use triple_arena_chain::{ChainArena, ChainSlots};
 
 /// How many links come.
 #[tactic(auto, using(crate::proofs::CountLemmas::as_many_links))]
@@ -26,17 +26,6 @@ pub fn count<P: PtrCore, T: Drop, S: ChainSlots<P, T>>(chains: ChainArena<P, T, 
 
 /// The sum of the values. Past the greatest number it goes on from 0.
 pub fn sum<P: PtrCore, S: ChainSlots<P, u64>>(chains: ChainArena<P, u64, S>) -> u64
-    ensures { result ≡ sum_of (list_map value_of (listed_values chains)) % 2 ^ 64 }
-{
-    let mut total = 0u64;
-    for (_, value) in chains {
-        total = total.wrapping_add(value);
-    }
-    total
-}
-
-/// The same, on the heap, by a `for` of its own.
-pub fn sum_on_heap(chains: HeapChainArena<P0, u64, Global>) -> u64
     ensures { result ≡ sum_of (list_map value_of (listed_values chains)) % 2 ^ 64 }
 {
     let mut total = 0u64;
@@ -64,8 +53,10 @@ pub fn find<P: PtrCore, S: ChainSlots<P, u64>>(
     None
 }
 
-/// The first link, by one `next`, on the heap. The others are dropped.
-pub fn first_on_heap(chains: HeapChainArena<P0, u64, Global>) -> Option<(P0, u64)>
+/// The first link, by one `next`. The others are dropped.
+pub fn first<P: PtrCore, T: Drop, S: ChainSlots<P, T>>(
+    chains: ChainArena<P, T, S>,
+) -> Option<(P, T)>
     ensures { IfNone result (listed_values chains ≡ []) }
 {
     let mut links = chains.into_iter();

@@ -5,8 +5,8 @@ ghost use Rattle.std.specs.List.{sum as sum_of};
 ghost use Rattle.triple_arena.specs.Compression.{value_of};
 ghost use Rattle.triple_arena.specs.DirectContent.{live_count, live_entries};
 
-use std::alloc::{AllocError, Allocator, Global};
-use triple_arena::{ArenaTrait, DirectArena, DirectSlots, HeapDirectArena, P0, PtrCore};
+use std::alloc::{AllocError, Allocator};
+use triple_arena::{ArenaTrait, DirectArena, DirectSlots, PtrCore};
 
 /// How many entries come.
 #[tactic(auto, using(crate::proofs::CountLemmas::as_many_direct))]
@@ -33,17 +33,6 @@ pub fn sum<P: PtrCore, S: DirectSlots<P, u64>>(arena: DirectArena<P, u64, S>) ->
     total
 }
 
-/// The same, on the heap, by a `for` of its own.
-pub fn sum_on_heap(arena: HeapDirectArena<P0, u64, Global>) -> u64
-    ensures { result ≡ sum_of (list_map value_of (live_entries arena)) % 2 ^ 64 }
-{
-    let mut total = 0u64;
-    for (_, value) in arena {
-        total = total.wrapping_add(value);
-    }
-    total
-}
-
 /// The first entry whose value is at least this one. The others are dropped half-way.
 pub fn find<P: PtrCore, S: DirectSlots<P, u64>>(
     arena: DirectArena<P, u64, S>,
@@ -61,8 +50,10 @@ pub fn find<P: PtrCore, S: DirectSlots<P, u64>>(
     None
 }
 
-/// The same, on the heap.
-pub fn first_on_heap(arena: HeapDirectArena<P0, u64, Global>) -> Option<(P0, u64)>
+/// The first entry, by one `next`. The others are dropped.
+pub fn first<P: PtrCore, T: Drop, S: DirectSlots<P, T>>(
+    arena: DirectArena<P, T, S>,
+) -> Option<(P, T)>
     ensures { IfNone result (live_entries arena ≡ []) }
 {
     let mut entries = arena.into_iter();

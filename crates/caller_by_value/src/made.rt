@@ -1,6 +1,5 @@
 //! Chain arenas that are made of arenas of links, by value.
 ghost use Rattle.std.specs.Prelude.{◌≡◌, ◌↔◌, ◌%◌, ◌^◌, IsOk, IfOk, IfErr, map as list_map};
-ghost use Rattle.std.specs.Int.NonZero.{non_zero_usize_get};
 ghost use Rattle.std.specs.List.{sum as sum_of};
 ghost use Rattle.triple_arena.specs.Compression.{value_of};
 ghost use Rattle.triple_arena.specs.Content.{live_count};
@@ -9,13 +8,8 @@ ghost use Rattle.triple_arena_chain.specs.Links.{ends_in};
 ghost use Rattle.triple_arena_chain.specs.Listed.{listed_values};
 
 use crate::chains;
-use std::alloc::Global;
-use triple_arena::{Arena, ArenaTrait, HeapArena, P0, PtrCore};
-use triple_arena_chain::{ChainArena, ChainSlots, HeapChainArena, LinkNoGen};
-
-type Links = HeapArena<P0, LinkNoGen<P0, u64>, Global>;
-
-type Chains = HeapChainArena<P0, u64, Global>;
+use triple_arena::{Arena, ArenaTrait, PtrCore};
+use triple_arena_chain::{ChainArena, ChainSlots, LinkNoGen};
 
 /// What `from_arena` answers, handed on.
 pub fn become_chains<P: PtrCore, T: Drop, S: ChainSlots<P, T>>(
@@ -26,15 +20,6 @@ pub fn become_chains<P: PtrCore, T: Drop, S: ChainSlots<P, T>>(
     ensures err { IfErr result (λ refused. refused ≡ arena) }
 {
     ChainArena::from_arena(arena)
-}
-
-/// The same, on the heap.
-pub fn become_on_heap(arena: Links) -> Result<Chains, Links>
-    ensures variant { IsOk result ↔ IsAgreed (ends_in non_zero_usize_get arena) }
-    ensures ok { IfOk result (λ chains. chains ≡ arena) }
-    ensures err { IfErr result (λ refused. refused ≡ arena) }
-{
-    Chains::from_arena(arena)
 }
 
 /// The chain arena of links that agree.
@@ -51,10 +36,10 @@ pub fn agreed<P: PtrCore, T: Drop, S: ChainSlots<P, T>>(
 }
 
 /// A chain arena of an empty arena.
-pub fn empty_on_heap(alloc: Global) -> Chains
+pub fn empty<P: PtrCore, T: Drop, S: ChainSlots<P, T>>(alloc: S::Alloc) -> ChainArena<P, T, S>
     ensures { live_count result ≡ 0 }
 {
-    agreed(Links::new(alloc))
+    agreed(Arena::new(alloc))
 }
 
 // The sum of the values of links that do not agree.
@@ -75,16 +60,6 @@ pub fn sum_either<P: PtrCore, S: ChainSlots<P, u64>>(arena: Arena<P, LinkNoGen<P
 {
     match ChainArena::from_arena(arena) {
         Ok(chains) => chains::sum(chains),
-        Err(refused) => sum_links(refused),
-    }
-}
-
-/// The same, on the heap.
-pub fn sum_either_on_heap(arena: Links) -> u64
-    ensures { result ≡ sum_of (list_map value_of (listed_values arena)) % 2 ^ 64 }
-{
-    match Chains::from_arena(arena) {
-        Ok(chains) => chains::sum_on_heap(chains),
         Err(refused) => sum_links(refused),
     }
 }

@@ -83,16 +83,6 @@ pub fn first<P: PtrCore, T: Drop, S: OrdSlots<P, T>>(
     first
 }
 
-/// The same, on the heap.
-pub fn first_on_heap(arena: HeapOrdArena<P0, u64, Global>) -> Option<(P0, u64)>
-    ensures { IfNone result (ordered_entries non_zero_usize_get arena ≡ []) }
-{
-    let mut entries = arena.into_iter();
-    let first = entries.next();
-    drop(entries);
-    first
-}
-
 /// The items beside their pointers, in the order of the list.
 pub fn listed<P: PtrCore, T: Drop, S: OrdSlots<P, T>, A: Allocator>(
     arena: SimpleOrdArena<P, T, S>,
