@@ -53,6 +53,10 @@ class Copies:
             return self.compress_with(self.a, x == 1)
         if whom == 'h':
             return [self.link(i) for i in sorted(self.h.e)] + [self.h.gen(self.h.counter)]
+        if whom == 'v' and verb == 'capacity':
+            return [str(self.v.capacity())]
+        if whom == 'v' and verb == 'generation':
+            return [self.v.gen(self.v.counter)]
         if whom == 'v':
             return [pieces((self.v.name(i), self.v.e[i][2]) for i in sorted(self.v.e))]
         return [None]
@@ -69,7 +73,7 @@ class Copies:
             'h=a': 'clone_to_chain_arena',
             'v=a': 'clone_to_arena',
             'h': 'links',
-            'v': 'show',
+            'v': r.choice(['show', 'show', 'capacity', 'generation']),
             'a<c': 'transfer_canonical',
             'a*': 'compress_with',
         }

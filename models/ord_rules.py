@@ -408,6 +408,8 @@ class Arena:
         if verb.startswith('find_') and not verb.endswith('inx_ptr'):
             place, work = self.search(verb, x, y, self.i(z), self.g(u))
             return [f'({place}, {work})' if self.counting else self.found(place)]
+        if verb == 'most_comparisons':
+            return [str(max(c for c in range(130) if c == 0 or 2 ** (c + 1) <= (x + 1) ** 2))]
         if verb == 'remove_odd':
             if not self.ascends() or any(len(self.equals(k)) > 1 for k in range(1, x + 1, 2)):
                 raise Open

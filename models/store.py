@@ -389,7 +389,7 @@ def random_section(pick, pointers, backings, count, runs=()):
 
 def random_move(pick, kind, backing, count):
     """A section of lines, a move, and lines again, over a store of this kind."""
-    pointers, where = pick.choice(MOVING[kind, backing])
+    pointers, where = pick.choice([it for it in MOVING[kind, backing] if it[1] in BACKINGS])
     writer = Writer(pick, SMALL if 'array' in (backing, where) else LARGE, 0)
     made = list(writer.rooms)
     before = [f'>run\n{writer.lines(count)}', f'>sweeps\n{writer.lines(count)}']
@@ -401,7 +401,7 @@ def random_move(pick, kind, backing, count):
     spent = 0 if backing == 'array' else requests(made)
     refused = spent + pick.choice([requests(rooms) + 1] * 8 + [1, 2, 3])
     words = f'move {pointers},{where} {rooms[0]} {rooms[1]} {rooms[2]}'
-    move(store, words, spent, refused)
+    move(store, words, (pointers, where), spent, refused)
     behind = [f'>run\n{writer.lines(count)}', f'>sweeps\n{writer.lines(count)}']
     header = f'{kind} {backing} {made[0]} {made[1]} {made[2]} 0 {refused}'
     return '\n'.join([header, ''.join(before) + f'>{words}\n' + ''.join(behind)])
@@ -483,7 +483,8 @@ def main(words):
         print(script, end='')
         print(answer(script), end='', file=sys.stderr)
     else:
-        sys.exit('usage: store.py SEED LINES | answer [all] | faults | rooms SEED | lines SEED LINES')
+        usage = 'store.py SEED LINES | answer [all] | faults | rooms SEED | lines SEED LINES'
+        sys.exit(f'usage: {usage}')
 
 
 if __name__ == '__main__':

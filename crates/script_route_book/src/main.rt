@@ -10,7 +10,8 @@
 //! - POINTERS are pointer types, with `,` between them: `P0`, `P1`, `P5`, or `N3`, whose
 //!   generations end at 3;
 //! - BACKINGS are what the stores stand in: `heap`, `limited`, `fixed`, or `array`, which has room
-//!   for ten, and which `P5` lacks, or `array3`, with room for three, which `P1` alone has;
+//!   for ten, and which `P5` lacks, or `array3`, with room for three, which `P0` and `P1` have. Of
+//!   these pairs the program plays over those of `kinds.rt`;
 //! - PLACES, STOPS and MARKS are the rooms, and LAST is the last ticket that counts as given;
 //! - REFUSED is the request for memory that is refused, and 0 is none.
 //!
@@ -33,21 +34,25 @@
 //! - READ and TAKEN are how many bytes a call reads and writes, and ROOM how many the writer takes.
 //!   There 0 is all.
 //!
-//! Between two runs a line `>move POINTERS,BACKING PLACES STOPS MARKS` moves the store, once, and
-//! tells whether it moved; the runs behind it go over what it became, or over the same store. One
-//! that began as `P0 heap` may become any other. One of `P1 limited` becomes one of `N3,fixed`,
-//! that one of `P1,array`, and that one of `P0,heap`.
+//! Between two runs a line `>move POINTERS,BACKINGS PLACES STOPS MARKS` moves the store, once, and
+//! tells whether it moved; the runs behind it go over what it became, or over the same store. With
+//! `/` between its pointers or its backings, the section is played for each. One that began as `P0
+//! heap` may become any other, or one of `P1,array4`. One of `P1 limited` becomes one of
+//! `N3,fixed`, that one of `P1,array`, and that one of `P0,heap`. `kinds.rt` has those of the gate.
 //!
 //! A number that a line lacks is 0. A `#` begins a section and a `>` a run also within a line,
 //! which then has no LF.
 #![tactic(auto)]
 
+mod backings;
 mod books;
+mod kinds;
 mod moves;
 mod runs;
 mod streams;
 
-use books::{Book, play};
+use books::{Book, play, play_to};
+use moves::Moving;
 use runs::{CUTS, Cut};
 use std::alloc::{AllocError, Global};
 use std::fmt::Write;
@@ -76,12 +81,12 @@ fn play_section(alloc: Global, section: &str) -> Result<String, AllocError> {
     let header = Call::new(header);
     for pointers in header.whom.split(',') {
         for backing in header.verb.split(',') {
-            let book = Book {
-                pointers,
-                backing,
-                header,
-            };
-            page.play(alloc, &book, lines)?;
+            let kind = (pointers, backing);
+            let book = Book { kind, header };
+            match Moving::new(lines) {
+                Some(moving) => page.play_moves(alloc, &book, &moving)?,
+                None => page.play(alloc, &book, lines)?,
+            }
         }
     }
     page.end()
@@ -100,6 +105,9 @@ struct Plays {
 impl Plays {
     // Plays the section over a new store in each way of cutting, or runs in the first one.
     fn play(&mut self, alloc: Global, book: &Book<'_>, lines: &str) -> Result<(), AllocError> {
+        if !kinds::has(book.kind) {
+            return Ok(());
+        }
         let ways = if lines.starts_with('>') {
             1
         } else {
@@ -112,13 +120,32 @@ impl Plays {
         Ok(())
     }
 
+    // Plays the section over a new store for each kind that it becomes.
+    fn play_moves(
+        &mut self,
+        alloc: Global,
+        book: &Book<'_>,
+        moving: &Moving<'_>,
+    ) -> Result<(), AllocError> {
+        for pointers in moving.pointers().split('/') {
+            for backing in moving.backings().split('/') {
+                let to = (pointers, backing);
+                if kinds::moves(book.kind, to) {
+                    let text = play_to(alloc, book, moving, to)?;
+                    self.compare(book, CUTS[0], text)?;
+                }
+            }
+        }
+        Ok(())
+    }
+
     // Keeps the text of the first play, and of each other one that differs.
     fn compare(&mut self, book: &Book<'_>, cut: Cut, text: String) -> Result<(), AllocError> {
         if self.plays == 0 {
             write!(self.written, "{text}")?;
             self.first = text;
         } else if text.as_str() != self.first.as_str() {
-            let (pointers, backing) = (book.pointers, book.backing);
+            let (pointers, backing) = book.kind;
             writeln!(self.written, "but over {pointers} {backing}, {cut:?}:")?;
             write!(self.written, "{text}")?;
         }

@@ -1,11 +1,11 @@
 //! A store that moves on the way through a section.
-use crate::books::{Heap, missing};
+use crate::backings::{Backing, Leaving, Target};
 use crate::runs::play_runs;
-use route_book::{BookBacking, OnArray, OnFixed, OnHeap, OnLimited, PtrCore, RoomError, RouteBook};
+use route_book::{BookBacking, PtrCore, RoomError, RouteBook};
 use std::alloc::AllocError;
 use std::fmt::Write;
-use test_kit::{Call, N3};
-use triple_arena_ptr::{P0, P1, P5};
+use std::marker::PhantomData;
+use test_kit::Call;
 
 /// A section whose store moves: the runs before the line of the move, that line, and the runs
 /// behind it.
@@ -18,7 +18,7 @@ pub struct Moving<'a> {
 }
 
 impl<'a> Moving<'a> {
-    /// The parts of a section with a line `>move POINTERS,BACKING PLACES STOPS MARKS`, if it has
+    /// The parts of a section with a line `>move POINTERS,BACKINGS PLACES STOPS MARKS`, if it has
     /// one.
     pub fn new(lines: &'a str) -> Option<Self> {
         let (before, rest) = lines.split_once(">move")?;
@@ -32,88 +32,67 @@ impl<'a> Moving<'a> {
         })
     }
 
-    /// Plays the section over a store, which moves to the pointers and the backing that the line
-    /// names.
-    pub fn play_anywhere<P: PtrCore, B: BookBacking<P>>(
-        &self,
-        heap: Heap<'_>,
-        store: RouteBook<P, B>,
-        text: String,
-    ) -> Result<String, AllocError> {
-        let (pointers, backing) = self.call.verb.split_once(',').unwrap_or(("", ""));
-        if backing == "array" {
-            return self.play_into_array(store, pointers, text);
-        }
-        match pointers {
-            "P0" => self.play_over::<P, B, P0>(heap, store, backing, text),
-            "P1" => self.play_over::<P, B, P1>(heap, store, backing, text),
-            "P5" => self.play_over::<P, B, P5>(heap, store, backing, text),
-            "N3" => self.play_over::<P, B, N3>(heap, store, backing, text),
-            _ => missing(pointers, backing, text),
+    /// The pointers to which the store moves, in one play for each.
+    pub fn pointers(&self) -> &'a str {
+        match self.call.verb.split_once(',') {
+            Some((pointers, _)) => pointers,
+            None => "",
         }
     }
 
-    fn play_over<P: PtrCore, B: BookBacking<P>, Q: PtrCore>(
-        &self,
-        heap: Heap<'_>,
-        store: RouteBook<P, B>,
-        backing: &str,
-        text: String,
-    ) -> Result<String, AllocError> {
-        match backing {
-            "heap" => self.play_to::<P, B, Q, OnHeap<Heap<'_>>>(store, &OnHeap(heap), text),
-            "limited" => self.play_to::<P, B, Q, OnLimited<Heap<'_>>>(
-                store,
-                &OnLimited(heap),
-                text,
-            ),
-            "fixed" => self.play_to::<P, B, Q, OnFixed<Heap<'_>>>(store, &OnFixed(heap), text),
-            _ => missing(self.call.verb, backing, text),
+    /// The backings to which it moves.
+    pub fn backings(&self) -> &'a str {
+        match self.call.verb.split_once(',') {
+            Some((_, backings)) => backings,
+            None => "",
         }
     }
 
-    // Into arrays, whose size is known only if the pointer type is.
-    fn play_into_array<P: PtrCore, B: BookBacking<P>>(
+    /// Plays the section over a store of one kind, which moves to another one.
+    pub fn play_to<P: PtrCore, F: Backing<P>, Q: PtrCore, K: Target<Q>>(
         &self,
-        store: RouteBook<P, B>,
-        pointers: &str,
+        from: &F,
+        to: &K,
+        header: &Call<'_>,
         text: String,
     ) -> Result<String, AllocError> {
-        match pointers {
-            "P0" => self.play_to::<P, B, P0, OnArray<10>>(store, &OnArray::<10>, text),
-            "P1" => self.play_to::<P, B, P1, OnArray<10>>(store, &OnArray::<10>, text),
-            "N3" => self.play_to::<P, B, N3, OnArray<10>>(store, &OnArray::<10>, text),
-            _ => missing(pointers, "array", text),
-        }
+        from.accept(Leaving::<'_, Q, K> {
+            to,
+            pointers: PhantomData,
+            moving: self,
+            header,
+            text,
+        })
     }
 
-    /// Plays the section over a store, which moves to these pointers and this backing. The runs
-    /// behind the line go over what it became, or over the same store if the move is refused.
-    pub fn play_to<P: PtrCore, B: BookBacking<P>, Q: PtrCore, C: BookBacking<Q>>(
+    /// Plays the runs before the line of the move.
+    pub fn play_before<P: PtrCore, B: BookBacking<P>>(
+        &self,
+        store: &mut RouteBook<P, B>,
+        text: String,
+    ) -> Result<String, AllocError> {
+        play_rest(store, self.before, text)
+    }
+
+    /// The store of another kind that the line asks for, or the same.
+    pub fn move_into<P: PtrCore, B: BookBacking<P>, Q: PtrCore, C: BookBacking<Q>>(
         &self,
         store: RouteBook<P, B>,
         backing: &C,
-        text: String,
-    ) -> Result<String, AllocError> {
-        let mut store = store;
-        let text = play_rest(&mut store, self.before, text)?;
+    ) -> Result<RouteBook<Q, C>, (RoomError, RouteBook<P, B>)> {
         let (places, stops, marks) = (self.call.first, self.call.second, self.call.third);
-        match store.into_room::<Q, C>(backing, places as usize, stops as usize, marks as usize) {
-            Ok(moved) => self.play_behind(moved, None, text),
-            Err((refusal, same)) => self.play_behind(same, Some(refusal), text),
-        }
+        store.into_room::<Q, C>(backing, places as usize, stops as usize, marks as usize)
     }
 
-    // Tells how the move ended, and plays the runs behind it.
-    fn play_behind<P: PtrCore, B: BookBacking<P>>(
+    /// Tells how the move ended, and plays the runs behind it.
+    pub fn play_behind<P: PtrCore, B: BookBacking<P>>(
         &self,
-        store: RouteBook<P, B>,
+        store: &mut RouteBook<P, B>,
         refusal: Option<RoomError>,
         text: String,
     ) -> Result<String, AllocError> {
-        let mut store = store;
         let text = self.tell(refusal, text)?;
-        play_rest(&mut store, self.behind, text)
+        play_rest(store, self.behind, text)
     }
 
     // The line of the move, and how it ended.
