@@ -1,6 +1,7 @@
 //! The calls that tell of the tree and of its nodes, and the one that lays them out anew.
 use crate::agreement::check;
 use crate::knots::ShowsKnots;
+use crate::work::most;
 use test_kit::{Call, ShownPtr, Transcript};
 
 /// What tells of itself and of its tree.
@@ -27,6 +28,7 @@ pub fn reads_tree<P: ShownPtr, A: ShowsKnots<P> + TellsOfTree>(
         "get_inx_node" => tell_node(arena, transcript, call),
         "rank" => tell_rank(arena, transcript, call),
         "compress_canonical" => arena.lay_out(transcript, call),
+        "most_comparisons" => transcript.answer(line, &most(call.first)),
         _ => return false,
     }
     true

@@ -73,7 +73,11 @@ fn links<P: ShownPtr, C: ChainSlots<P, u64>>(
 
 impl<P: Ptr, V: ArenaSlots<P, u64>> Player for Values<P, V> {
     fn play(&mut self, transcript: &mut Transcript, call: &Call<'_>) {
-        transcript.answer(call.line, &self.arena);
+        match call.verb {
+            "capacity" => transcript.answer(call.line, &self.arena.capacity()),
+            "generation" => transcript.answer(call.line, &self.arena.generation()),
+            _ => transcript.answer(call.line, &self.arena),
+        }
     }
 }
 
