@@ -273,7 +273,8 @@ def section(r, script, lines):
 
 def main():
     words = sys.argv[1:]
-    if words == ['answer']:
+    # These programs play over all that their sections name.
+    if words in (['answer'], ['answer', 'all']):
         print('\n'.join(answers(sys.stdin.read())))
         return
     script = words.pop(0) if words[:1] in (['copies'], ['searches']) else 'lists'
