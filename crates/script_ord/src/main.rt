@@ -18,7 +18,9 @@ use script_ord_calls::{Player, call_any, call_list, play_beside};
 use std::alloc::Global;
 use std::io;
 use test_kit::{Call, N3, Transcript};
-use triple_arena::{ArenaTrait, NonZeroInxArray, NonZeroInxVec, P0, P1, P3, P5, Ptr};
+use triple_arena::{
+    ArenaTrait, NonZeroInxArray, NonZeroInxGenericStack, NonZeroInxVec, P0, P1, P3, P5, Ptr,
+};
 use triple_arena_ord::{OrdPair, OrdSlots, SimpleOrdArena};
 
 type InArray<P> = NonZeroInxArray<Slot<P>, 8>;
@@ -54,8 +56,9 @@ fn on_heap<P: Ptr>(heap: Global, transcript: &mut Transcript, lines: &str) {
     beside::<P, OnHeap<P>>(heap, heap, transcript, lines);
 }
 
-// Over a stack for `a`, and a vector for `b`.
-fn beside<P: Ptr, S: OrdSlots<P, Item>>(
+// Over a stack for `a`, and a vector for `b`. The bounds are those of which `OrdSlots` is a short
+// form. A stack meets them in half the time.
+fn beside<P: Ptr, S: NonZeroInxGenericStack<Item = Slot<P>> + Drop>(
     alloc: S::Alloc,
     heap: Global,
     transcript: &mut Transcript,
@@ -65,7 +68,7 @@ fn beside<P: Ptr, S: OrdSlots<P, Item>>(
 }
 
 // What the vector owes costs more if its pointers are known.
-fn beside_vector<P: Ptr, Q: Ptr, S: OrdSlots<P, Item>>(
+fn beside_vector<P: Ptr, Q: Ptr, S: NonZeroInxGenericStack<Item = Slot<P>> + Drop>(
     alloc: S::Alloc,
     heap: Global,
     transcript: &mut Transcript,
@@ -75,12 +78,12 @@ fn beside_vector<P: Ptr, Q: Ptr, S: OrdSlots<P, Item>>(
 }
 
 // Makes the calls of a section at two new arenas.
-fn over<P: Ptr, Q: Ptr, S: OrdSlots<P, Item>, R: OrdSlots<Q, Item>>(
-    first: S::Alloc,
-    second: R::Alloc,
-    transcript: &mut Transcript,
-    lines: &str,
-) {
+fn over<
+    P: Ptr,
+    Q: Ptr,
+    S: NonZeroInxGenericStack<Item = Slot<P>> + Drop,
+    R: NonZeroInxGenericStack<Item = Slot<Q>> + Drop,
+>(first: S::Alloc, second: R::Alloc, transcript: &mut Transcript, lines: &str) {
     let mut a = Pairs {
         arena: SimpleOrdArena::<P, Item, S>::new(first),
     };

@@ -27,11 +27,11 @@ use std::alloc::{Allocator, Global};
 use std::io;
 use test_kit::{Call, N3, RefusingAllocator, Transcript};
 use triple_arena::{
-    Arena, ArenaSlot, ArenaSlots, ArenaTrait, NonZeroInxArray, NonZeroInxLimitedStack,
+    Arena, ArenaSlot, ArenaTrait, NonZeroInxArray, NonZeroInxGenericStack, NonZeroInxLimitedStack,
     NonZeroInxLimitedVec, NonZeroInxVec, P0, P1, P5, Ptr, ReallocationError, Recast,
 };
-use triple_arena_chain::{ChainArena, ChainSlots, LinkNoGen};
-use triple_arena_ord::{OrdSlots, SimpleOrdArena};
+use triple_arena_chain::{ChainArena, LinkNoGen};
+use triple_arena_ord::SimpleOrdArena;
 
 // A heap that refuses a request.
 type Heap<'a> = &'a RefusingAllocator<Global>;
@@ -109,12 +109,13 @@ fn play_over<P: Ptr + Recast<P>, H: Allocator + Copy>(
 }
 
 // Over one of two stacks for `a` and `c`, and vectors for `h` and `v`, which are vectors to the
-// caller alone.
+// caller alone. The bounds are those of which `ChainSlots` and its kin are short forms. A stack
+// meets them in half the time.
 fn beside_vectors<
     P: Ptr,
     H: Allocator + Copy,
-    C: ChainSlots<P, u64, Alloc = H>,
-    V: ArenaSlots<P, u64, Alloc = H>,
+    C: NonZeroInxGenericStack<Item = ChainSlot<P>, Alloc = H> + Drop,
+    V: NonZeroInxGenericStack<Item = Value<P>, Alloc = H> + Drop,
 >(heap: H, transcript: &mut Transcript, stack: &str, lines: &str) -> Result<(), ReallocationError> {
     match stack {
         "copying-heap" => over::<P, H, NonZeroInxVec<Slot<P>, H>, C, V>(heap, transcript, lines),
@@ -129,9 +130,9 @@ fn beside_vectors<
 fn over<
     P: Ptr,
     H: Copy,
-    S: OrdSlots<P, Item, Alloc = H>,
-    C: ChainSlots<P, u64, Alloc = H>,
-    V: ArenaSlots<P, u64, Alloc = H>,
+    S: NonZeroInxGenericStack<Item = Slot<P>, Alloc = H> + Drop,
+    C: NonZeroInxGenericStack<Item = ChainSlot<P>, Alloc = H> + Drop,
+    V: NonZeroInxGenericStack<Item = Value<P>, Alloc = H> + Drop,
 >(alloc: H, transcript: &mut Transcript, lines: &str) {
     let mut a = Pairs {
         arena: SimpleOrdArena::<P, Item, S>::new(alloc),

@@ -2,7 +2,8 @@
 use script_ord_calls::{Renames, play_renaming};
 use test_kit::{Call, Transcript, pointer};
 use triple_arena::{
-    Arena, ArenaInsertTrait, ArenaSlot, ArenaSlots, ArenaTrait, Ptr, PtrCore, Recast, Recaster,
+    Arena, ArenaInsertTrait, ArenaSlot, ArenaSlots, ArenaTrait, NonZeroInxGenericStack, Ptr,
+    PtrCore, Recast, Recaster,
 };
 use triple_arena_chain::LinkNoGen;
 use triple_arena_ord::{OrdPair, OrdSlots, SimpleOrdArena, SimpleOrdArenaNode};
@@ -19,13 +20,12 @@ struct Names<P: PtrCore, S: OrdSlots<P, Named<P>>> {
     arena: SimpleOrdArena<P, Named<P>, S>,
 }
 
-/// Makes the calls of a section at two new arenas.
-pub fn over<P: Ptr + Recast<P>, S: OrdSlots<P, Named<P>>, N: ArenaSlots<P, P>>(
-    first: S::Alloc,
-    second: N::Alloc,
-    transcript: &mut Transcript,
-    lines: &str,
-) {
+/// Makes the calls of a section at two new arenas. The bounds are written out, as in `main.rt`.
+pub fn over<
+    P: Ptr + Recast<P>,
+    S: NonZeroInxGenericStack<Item = NamedSlot<P>> + Drop,
+    N: NonZeroInxGenericStack<Item = ArenaSlot<P, P>> + Drop,
+>(first: S::Alloc, second: N::Alloc, transcript: &mut Transcript, lines: &str) {
     let mut x = Names {
         arena: SimpleOrdArena::<P, Named<P>, S>::new(first),
     };

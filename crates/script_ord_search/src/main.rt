@@ -25,8 +25,8 @@ use std::cell::Cell;
 use std::io;
 use test_kit::{Call, N3, RefusingAllocator, Transcript};
 use triple_arena::{
-    ArenaTrait, NonZeroInxArray, NonZeroInxBoxedSlice, NonZeroInxLimitedVec, NonZeroInxVec, P0, P1,
-    P3, P5, Ptr, ReallocationError,
+    ArenaTrait, NonZeroInxArray, NonZeroInxBoxedSlice, NonZeroInxGenericStack,
+    NonZeroInxLimitedVec, NonZeroInxVec, P0, P1, P3, P5, Ptr, ReallocationError,
 };
 use triple_arena_ord::{OrdSlots, SimpleOrdArena};
 
@@ -127,8 +127,9 @@ fn over_stack<P: Ptr, K: CountingKey, H: Allocator + Copy>(
     }
 }
 
-// The arena has so much room, which is asked for if it is not 0.
-fn over<P: Ptr, K: CountingKey, S: OrdSlots<P, Item<K>>>(
+// The arena has so much room, which is asked for if it is not 0. The bound is that of which
+// `OrdSlots` is a short form. A stack meets it in half the time.
+fn over<P: Ptr, K: CountingKey, S: NonZeroInxGenericStack<Item = Slot<P, K>> + Drop>(
     alloc: S::Alloc,
     zero: K,
     transcript: &mut Transcript,
