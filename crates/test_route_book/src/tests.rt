@@ -1,3 +1,5 @@
+mod pointers;
+mod programs;
 mod rows;
 mod streams;
 mod table;
