@@ -46,9 +46,13 @@ fn packs_to_the_first_index<P: PtrCore + Debug, B: BookBacking<P>>(
     book: &mut RouteBook<P, B>,
 ) {
     book.pack();
-    for (p, place) in book.places_arena().iter() {
-        shows(rt, &p, "P0[1](2)");
-        assert!(rt; place.ticket() == 2);
+    let Some(p) = book.places_arena().find_first_inx_ptr() else {
+        panic!(rt; "no place is left");
+    };
+    shows(rt, &p, "P0[1](2)");
+    match book.places_arena().get(p) {
+        Some(place) => assert!(rt; place.ticket() == 2),
+        None => panic!(rt; "the first place is not there"),
     }
 }
 
