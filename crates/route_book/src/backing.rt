@@ -5,10 +5,10 @@ ghost use Rattle.triple_arena_stack.specs.Room.{Room, IsBeyond};
 
 use crate::items::{Mark, Place, Stop};
 use std::alloc::{Allocator, Global};
-use ticket_book::{Entry, TicketSlot};
-use triple_arena::{ArenaSlot, ArenaSlots, DirectSlot, DirectSlots};
-use triple_arena_chain::{ChainSlots, LinkNoGen};
-use triple_arena_ord::{OrdSlots, SimpleOrdArenaNode};
+use ticket_book::TicketSlot;
+use triple_arena::{ArenaSlot, DirectSlot};
+use triple_arena_chain::LinkNoGen;
+use triple_arena_ord::SimpleOrdArenaNode;
 use triple_arena_ptr::PtrCore;
 use triple_arena_stack::{
     NonZeroInxArray, NonZeroInxBoxedSlice, NonZeroInxGenericStack, NonZeroInxLimitedVec,
@@ -29,20 +29,23 @@ pub type MarkSlot<P> = ArenaSlot<P, Mark<P>>;
 /// All five are made with the same room and have the same limit, and all of them take memory or
 /// none does. A backing that mixes stacks has no proof of its laws.
 pub trait BookBacking<P: PtrCore> {
+    // The bounds are written out: the short ones (`OrdSlots`, `ChainSlots`, `ArenaSlots` and
+    // `DirectSlots`) are proved twice wherever a backing is known.
+
     /// The stack of the places.
-    type Places: OrdSlots<P, Place>;
+    type Places: NonZeroInxGenericStack<Item = PlaceSlot<P>> + Drop;
 
     /// The stack of the stops.
-    type Stops: ChainSlots<P, Stop<P>>;
+    type Stops: NonZeroInxGenericStack<Item = StopSlot<P>> + Drop;
 
     /// The stack of the marks.
-    type Marks: ArenaSlots<P, Mark<P>>;
+    type Marks: NonZeroInxGenericStack<Item = MarkSlot<P>> + Drop;
 
     /// The stack of the ticket book.
-    type Book: OrdSlots<P, Entry<P>>;
+    type Book: NonZeroInxGenericStack<Item = TicketSlot<P>> + Drop;
 
     /// The stack of the mirrors, which lead from old pointers to new ones.
-    type Mirror: DirectSlots<P, P>;
+    type Mirror: NonZeroInxGenericStack<Item = DirectSlot<P, P>> + Drop;
 
     // The room of a stack that is made for so many items.
     ghost room: { ℕ → Room };
