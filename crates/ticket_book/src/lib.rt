@@ -14,8 +14,6 @@ mod book;
 mod entry;
 mod moving;
 mod renewal;
-#[cfg(test)]
-mod tests;
 
 pub use book::{TicketBook, TicketSlot};
 pub use entry::{Entry, Kind};

@@ -1,9 +1,9 @@
 //! Books of the library's pointers, over a heap stack and over an array.
 ghost use Rattle.std.specs.Prelude.{◌≡◌, ◌≤◌, []};
 
-use crate::{Entry, Kind, TicketBook, TicketSlot};
 use std::process::Abort;
 use std::test::Fail;
+use ticket_book::{Entry, Kind, TicketBook, TicketSlot};
 use triple_arena_ord::OrdSlots;
 use triple_arena_ptr::{P0, P1, Probes, PtrCore};
 use triple_arena_stack::{NonZeroInxArray, NonZeroInxVec};
