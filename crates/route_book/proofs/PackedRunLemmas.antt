@@ -1,7 +1,7 @@
 -- What the transfers of packed arenas went along, and where the links of the stops lead then.
 use Rattle.std.proofs.Common.{◌≡◌, ◌≢◌, ◌↔◌, ◌∙◌, sym, ap, subst, refl, ℕ, zero, suc, ◌+◌, ◌-◌, ◌<◌}
 use Rattle.std.proofs.Common.{◌≤◌, inl, inr, List, [], ◌∷◌, ◌++◌, length, map, slice_get}
-use Rattle.std.proofs.Common.{slice_index, Option, Some, None, IsSome, arith}
+use Rattle.std.proofs.Common.{slice_index, Option, Some, None, IsSome, is_some, true, false, arith}
 use Rattle.std.specs.List.{range_with_len}
 use Rattle.std.specs.Option.{option_map}
 use Rattle.std.proofs.lemmas.Bool.Decides.{eqb_tells}
@@ -13,13 +13,15 @@ use Rattle.triple_arena.specs.LiveEntries.{live_entries-length}
 use Rattle.triple_arena_chain.specs.LinkShape.{IndexLink}
 use Rattle.triple_arena_chain.specs.AllChainsLaws.{all_live}
 use Rattle.triple_arena_chain.specs.CanonicalLayout.{IsLaidOut}
+use Rattle.triple_arena_chain.specs.CanonicalLayoutLaws.{laid_same}
 use Rattle.triple_arena_chain.specs.CanonicalTransfer.{AreRising, IsMovedAlong}
 use Rattle.triple_arena_chain.specs.CanonicalTransferLaws.{in_order_once}
 use Rattle.triple_arena_chain.specs.Chains.{Ends, On, IsAgreed, first_or, next_at, next_in}
+use Rattle.triple_arena_chain.specs.Chains.{prev_at, prev_in}
 use Rattle.triple_arena_chain.specs.Links.{ends_in, values_in, entry_ends}
 use Rattle.triple_arena_chain.specs.Lists.{Chain, Linear, Cyclic, members, all_members, IsWritten}
 use Rattle.triple_arena_chain.specs.Lists.{AreAllChainsOf}
-use Rattle.triple_arena_chain.specs.ListLaws.{On-first, live_on, live_prev_in}
+use Rattle.triple_arena_chain.specs.ListLaws.{On-first, live_next_in, live_on, live_prev_in}
 use Rattle.triple_arena_chain.specs.Renaming.{ends_renamed}
 use Rattle.triple_arena_ord.specs.Ascending.{entries_along}
 use Rattle.triple_arena_ord.specs.Node.{itemed}
@@ -150,6 +152,47 @@ module _ {J I U T : Type 0} (old_number : J → ℕ) (number : I → ℕ) (order
           by_next None is = refl
           by_next (Some k) is = ap Some (fixed k
               (live_prev_in (ends_in old_number old k) i (agreed.forward i k is)))
+
+  -- all links lead where they led, so the chains are the same runs
+  module _ (agreed : IsAgreed (ends_in old_number old)) where
+    kept : (i : ℕ) → IsSome (ends_in old_number old i)
+        → ends_in number new i ≡ ends_in old_number old i
+    kept i here =
+        ap (ends_in number new) (sym (fixed i here)) ∙ m.renamed.ends i here
+        ∙ by (ends_in old_number old i) refl
+      where
+        back : (o : Option ℕ) → prev_at (ends_in old_number old) i ≡ o → option_map m.to o ≡ o
+        back None is = refl
+        back (Some k) is = ap Some (fixed k
+            (live_next_in (ends_in old_number old k) i (agreed.backward k i is)))
+
+        on : (o : Option ℕ) → next_at (ends_in old_number old) i ≡ o → option_map m.to o ≡ o
+        on None is = refl
+        on (Some k) is = ap Some (fixed k
+            (live_prev_in (ends_in old_number old k) i (agreed.forward i k is)))
+
+        by : (o : Option Ends) → ends_in old_number old i ≡ o
+            → option_map (ends_renamed m.to) o ≡ o
+        by None is = refl
+        by (Some v) is = rw (back v.0 (ap prev_in is), on v.1 (ap next_in is)) refl
+
+    live_before : (i : ℕ) → IsSome (ends_in number new i) → IsSome (ends_in old_number old i)
+    live_before i some =
+        let was = m.renamed.onto i some in
+        subst (λ k. IsSome (ends_in old_number old k)) (sym (fixed was.0 was.1) ∙ was.2) was.1
+
+    same : (i : ℕ) → ends_in number new i ≡ ends_in old_number old i
+    same i = by (ends_in old_number old i) refl (ends_in number new i) refl
+      where
+        by : (o : Option Ends) → ends_in old_number old i ≡ o → (n : Option Ends)
+            → ends_in number new i ≡ n → ends_in number new i ≡ ends_in old_number old i
+        by (Some v) is n there = kept i (rw is refl)
+        by None is None there = there ∙ sym is
+        by None is (Some w) there = absurd (let no : false ≡ true =
+            sym (ap is_some is) ∙ live_before i (rw there refl) in cc)
+
+    pub runs_stay : IsLaidOut (ends_in number new) (live_count old)
+    runs_stay = laid_same (ends_in old_number old) (ends_in number new) (live_count old) same laid
 
 -- ---- entries at the indexes from 1 on
 

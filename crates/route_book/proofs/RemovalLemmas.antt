@@ -180,6 +180,7 @@ module _ {I : Type 0} (number : I → ℕ) (rooms : Rooms) (last : ℕ) (s : Sta
                 room = removed.room;
                 counter = place_steps number rooms last s places places' stops marks book b i g p
                     found_place.1.0 ordered final top counts calm removed;
+                slot = (i, (removed.free, removed.slots));
                 others = subst (λ u. OthersStay (λ (q : Place). q.ticket) u (entry_in places)
                     (entry_in places')) ticket
                     (places_stay number rooms last s places places' stops marks book b i g p
@@ -235,6 +236,7 @@ module _ {I : Type 0} (number : I → ℕ) (rooms : Rooms) (last : ℕ) (s : Sta
                 room = taken.room;
                 counter = stop_steps number rooms last s places stops stops' marks book b i g v
                     found_stop.1.0 chained final top counts calm taken;
+                slot = (i, (taken.free, taken.slots));
                 others = subst (λ u. OthersStay (λ (w : StopView). w.ticket) u (values_in stops)
                     (values_in stops')) stop_named
                     (stops_stay number rooms last s places stops stops' marks book b i g v

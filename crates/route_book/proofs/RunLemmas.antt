@@ -48,3 +48,14 @@ marks_run c d f compact recast live (suc k) =
         let same : k + 1 ≡ suc k = omega arith in
         subst (λ i. entry_at c i ≡ option_map entry_of_listed (slice_get (live_entries c) k))
         same (compact k)
+
+-- what stood at the indexes from 1 on does so after each entry was mapped
+pub run_mapped : {T U : Type 0} (old : ℕ → Option (ℕ × T)) (new : ℕ → Option (ℕ × U)) (n m : ℕ)
+    (f : ℕ × T → ℕ × U) → ((k : ℕ) → new k ≡ option_map f (old k)) → m ≡ n
+    → ((i : ℕ) → IsSome (old i) ↔ ((1 ≤ i) × (i ≤ n)))
+    → (i : ℕ) → IsSome (new i) ↔ ((1 ≤ i) × (i ≤ m))
+run_mapped old new n m f each same run i =
+    let reads : is_some (new i) ≡ is_some (old i) = ap is_some (each i) ∙ some_mapped f (old i) in (
+      λ some. rw same ((run i).0 (sym reads ∙ some)),
+      λ within. reads ∙ (run i).1 (within.0, (let high = within.1 in omega (arith, high, same))),
+    )

@@ -1,5 +1,5 @@
 -- What the compression of all three arenas leaves.
-use Rattle.std.specs.Prelude.{◌≡◌, ℕ, ◌≤◌, true, Option, map, IsSome}
+use Rattle.std.specs.Prelude.{◌≡◌, ℕ, ◌≤◌, true, [], Option, map, IsSome}
 use Rattle.triple_arena.specs.Changes.{IsCompressed}
 use Rattle.triple_arena.specs.Compression.{value_of}
 use Rattle.triple_arena.specs.Content.{Content, entry_at, live_count, some_counter, arena_capacity}
@@ -13,7 +13,7 @@ use Rattle.route_lines.specs.State.{Place}
 use Rattle.route_book.specs.Item.{StopView, MarkView}
 
 -- places and stops are laid out in the order of their lists, marks in the order of their indexes,
--- and each index that was live or is live is within the room
+-- no index is free, and each index that was live or is live is within the room
 pub record IsAllCompressed {I : Type 0} (number : I → ℕ) (last : Option ℕ)
     (places places' : Ordered I Place) (stops stops' : Content (IndexLink I StopView))
     (marks marks' : Content MarkView) : Type 0 where
@@ -23,6 +23,7 @@ pub record IsAllCompressed {I : Type 0} (number : I → ℕ) (last : Option ℕ)
   pub laid : IsLaidInOrder number last true places places'
   pub canonical : IsCanonical number last true stops stops'
   pub values : map value_of (live_entries marks') ≡ map value_of (live_entries marks)
+  pub mark_free : marks'.free ≡ []
   pub compressed : IsCompressed entry_at live_count some_counter
       (λ (c : Content MarkView). c.room) last live_entries true marks marks'
   pub place_indexes : (i : ℕ) → IsSome (entry_in places i) → i ≤ arena_capacity places.chains

@@ -1,12 +1,14 @@
 -- What becomes of a store that is moved to other pointers, stacks and rooms.
-use Rattle.std.specs.Prelude.{◌≡◌, ◌||◌, ℕ, ◌+◌, Bool, Option, Some, None, if◌then◌else◌, min}
-use Rattle.std.specs.Prelude.{nat_lt, length}
+use Rattle.std.specs.Prelude.{◌≡◌, ◌||◌, ◌↔◌, ℕ, ◌+◌, ◌≤◌, Bool, [], Option, Some, None, IsSome}
+use Rattle.std.specs.Prelude.{if◌then◌else◌, min, nat_lt, length}
+use Rattle.std.specs.List.{range_with_len}
 use Rattle.std.specs.Option.{option_or}
 use Rattle.triple_arena_ptr.specs.Generation.{second_generation}
 use Rattle.triple_arena_stack.specs.Room.{Room}
-use Rattle.triple_arena.specs.Content.{entry_at}
-use Rattle.triple_arena_chain.specs.Links.{values_in}
-use Rattle.triple_arena_ord.specs.Ordered.{entry_in}
+use Rattle.triple_arena.specs.Content.{entry_at, live_count}
+use Rattle.triple_arena_chain.specs.CanonicalLayout.{IsLaidOut}
+use Rattle.triple_arena_chain.specs.Links.{ends_in, values_in}
+use Rattle.triple_arena_ord.specs.Ordered.{entry_in, order_in}
 use Rattle.route_lines.specs.State.{State, Rooms, in_rooms, stop_list}
 use Rattle.route_lines.specs.declared.refusal.RoomError.{RoomError}
 use Rattle.route_lines.specs.declared.refusal.RoomError.TheVariants.{TooSmall}
@@ -47,10 +49,10 @@ move_refusal_of last greatest limit rooms s =
 
 module _ {I : Type 0} where
   -- a store that was moved: its state is the old one in its rooms, its counters have started, at
-  -- the generation that all items have, its arenas have the rooms of a new store's, and no
-  -- reference is dead
-  pub record IsMovedIn (last : Option ℕ) (greatest : ℕ) (room : ℕ → Room) (wanted : Rooms)
-      (old : State) (new : Book I) : Type 0 where
+  -- the generation that all items have, its arenas have the rooms of a new store's and are laid out
+  -- as a pack does it, and no reference is dead
+  pub record IsMovedIn (number : I → ℕ) (last : Option ℕ) (greatest : ℕ) (room : ℕ → Room)
+      (wanted : Rooms) (old : State) (new : Book I) : Type 0 where
     pub state : new.state ≡ in_rooms wanted old
     pub place_counter : new.places.chains.counter ≡ second_generation last
     pub stop_counter : new.stops.counter ≡ second_generation last
@@ -59,6 +61,12 @@ module _ {I : Type 0} where
     pub stop_generations : HaveGeneration (second_generation last) (values_in new.stops)
     pub mark_generations : HaveGeneration (second_generation last) (entry_at new.marks)
     pub rooms : HasRooms greatest room wanted new
+    pub order : order_in number new.places ≡ range_with_len 1 (length new.state.places)
+    pub stop_runs : IsLaidOut (ends_in number new.stops) (live_count new.stops)
+    pub mark_run : (i : ℕ) → IsSome (entry_at new.marks i) ↔ ((1 ≤ i) × (i ≤ live_count new.marks))
+    pub place_free : new.places.chains.free ≡ []
+    pub stop_free : new.stops.free ≡ []
+    pub mark_free : new.marks.free ≡ []
     pub stops : (i g : ℕ) (v : StopView) → values_in new.stops i ≡ Some (g, v)
         → IsLive (entry_in new.places) v.place
     pub marks : (i g : ℕ) (m : MarkView) → entry_at new.marks i ≡ Some (g, m)

@@ -1,10 +1,10 @@
 -- What removals, packs and lines leave of the items that live on, and how many references they
 -- look at.
-use Rattle.std.specs.Prelude.{◌≡◌, ◌≢◌, ◌↔◌, ℕ, ◌+◌, ◌≤◌, ⊤, Bool, true, false}
+use Rattle.std.specs.Prelude.{◌≡◌, ◌≢◌, ◌↔◌, ℕ, ◌+◌, ◌≤◌, ⊤, Bool, true, false, List, []}
 use Rattle.std.specs.Prelude.{Option, None, Some, IsSome, Result, Ok, Err, IfErr, length}
 use Rattle.std.specs.List.{range_with_len}
 use Rattle.triple_arena_ptr.specs.Generation.{next_generation, next_wraps, second_generation}
-use Rattle.triple_arena.specs.Content.{entry_at, live_count, removed}
+use Rattle.triple_arena.specs.Content.{Content, entry_at, live_count, removed}
 use Rattle.triple_arena_chain.specs.CanonicalLayout.{IsLaidOut}
 use Rattle.triple_arena_chain.specs.Links.{ends_in, values_in}
 use Rattle.triple_arena_ord.specs.Ordered.{entry_in, order_in}
@@ -34,6 +34,12 @@ OthersStay {T} ticket t old new = (i g : ℕ) (x : T) → old i ≡ Some (g, x) 
 abbrev pub HaveGeneration : {T : Type 0} → ℕ → (ℕ → Option (ℕ × T)) → Type 0
 HaveGeneration {T} n at = (i g : ℕ) (x : T) → at i ≡ Some (g, x) → g ≡ n
 
+-- the free indexes and the slots are those that one removal leaves
+abbrev pub LosesSlot : {T : Type 0} → Option ℕ → Content T → Content T → Type 0
+LosesSlot last old new =
+    (i : ℕ) × ((new.free ≡ (removed last old i).free)
+    × (length new.slots ≡ length (removed last old i).slots))
+
 -- the kind of an item
 abbrev pub kind_of : Item → Kind
 kind_of (place p) = OfPlace
@@ -41,18 +47,20 @@ kind_of (stop v) = OfStop
 kind_of (mark m) = OfMark
 
 module _ {I : Type 0} where
-  -- a place has ended: its arena's counter is one up, and stops and marks are as they were, with
-  -- their references
-  pub record IsPlaceEnded (t : ℕ) (old new : Book I) : Type 0 where
+  -- a place has ended: its arena's counter is one up, its index is free as one removal leaves it,
+  -- and stops and marks are as they were, with their references
+  pub record IsPlaceEnded (last : Option ℕ) (t : ℕ) (old new : Book I) : Type 0 where
     pub counter : new.places.chains.counter ≡ old.places.chains.counter + 1
+    pub slot : LosesSlot last old.places.chains new.places.chains
     pub room : new.places.chains.room ≡ old.places.chains.room
     pub others : OthersStay (λ (p : Place). p.ticket) t (entry_in old.places) (entry_in new.places)
     pub stops : new.stops ≡ old.stops
     pub marks : new.marks ≡ old.marks
 
   -- the same of a stop
-  pub record IsStopEnded (t : ℕ) (old new : Book I) : Type 0 where
+  pub record IsStopEnded (last : Option ℕ) (t : ℕ) (old new : Book I) : Type 0 where
     pub counter : new.stops.counter ≡ old.stops.counter + 1
+    pub slot : LosesSlot last old.stops new.stops
     pub room : new.stops.room ≡ old.stops.room
     pub others : OthersStay (λ (v : StopView). v.ticket) t (values_in old.stops)
         (values_in new.stops)
@@ -71,8 +79,8 @@ module _ {I : Type 0} where
 
   -- what became of an item of a kind whose removal does not start a counter again
   abbrev pub IsEnded : Option ℕ → Kind → ℕ → Book I → Book I → Type 0
-  IsEnded last OfPlace t old new = IsPlaceEnded t old new
-  IsEnded last OfStop t old new = IsStopEnded t old new
+  IsEnded last OfPlace t old new = IsPlaceEnded last t old new
+  IsEnded last OfStop t old new = IsStopEnded last t old new
   IsEnded last OfMark t old new = IsMarkEnded last t old new
 
   -- whether the removal of an item of a kind would start its arena's counter again, which
@@ -84,7 +92,8 @@ module _ {I : Type 0} where
 
   -- a pack: each reference was looked at once and none is dead. All counters have started again, at
   -- the generation that all items have. All items stand at the indexes from 1 on: places in the
-  -- order of their keys, the stops of each route one after another. The rooms stay
+  -- order of their keys, the stops of each route one after another, and no index is free. The
+  -- rooms stay
   pub record IsPacked (number : I → ℕ) (last : Option ℕ) (before after : ℕ) (old new : Book I)
       : Type 0 where
     pub looks : after ≡ before + references_in old.state
@@ -98,6 +107,9 @@ module _ {I : Type 0} where
     pub order : order_in number new.places ≡ range_with_len 1 (length new.state.places)
     pub stop_runs : IsLaidOut (ends_in number new.stops) (live_count new.stops)
     pub mark_run : (i : ℕ) → IsSome (entry_at new.marks i) ↔ ((1 ≤ i) × (i ≤ live_count new.marks))
+    pub place_free : new.places.chains.free ≡ []
+    pub stop_free : new.stops.free ≡ []
+    pub mark_free : new.marks.free ≡ []
     pub stops : (i g : ℕ) (v : StopView) → values_in new.stops i ≡ Some (g, v)
         → IsLive (entry_in new.places) v.place
     pub marks : (i g : ℕ) (m : MarkView) → entry_at new.marks i ≡ Some (g, m)
@@ -149,6 +161,20 @@ module _ {I : Type 0} where
   Stays s (Some (Remove t)) old new = ⊤
   Stays s (Some Pack) old new = ⊤
   Stays s command old new = new ≡ old
+
+  -- the arenas that a line leaves as they were, whether it is refused or not: a place and its word
+  -- change no stop and no mark, a route no place and no mark, a mark no place and no stop
+  abbrev pub Spares : Option Command → Book I → Book I → Type 0
+  Spares (Some (PlaceLine key word near)) old new =
+      (new.stops ≡ old.stops) × (new.marks ≡ old.marks)
+  Spares (Some (Word t word)) old new = (new.stops ≡ old.stops) × (new.marks ≡ old.marks)
+  Spares (Some (Start p)) old new = (new.places ≡ old.places) × (new.marks ≡ old.marks)
+  Spares (Some (Extend t p)) old new = (new.places ≡ old.places) × (new.marks ≡ old.marks)
+  Spares (Some (Join t u)) old new = (new.places ≡ old.places) × (new.marks ≡ old.marks)
+  Spares (Some (Cut t)) old new = (new.places ≡ old.places) × (new.marks ≡ old.marks)
+  Spares (Some (Swap t u)) old new = (new.places ≡ old.places) × (new.marks ≡ old.marks)
+  Spares (Some (Mark p t)) old new = (new.places ≡ old.places) × (new.stops ≡ old.stops)
+  Spares command old new = ⊤
 
   -- what a line does to items, counters and looks, by its command
   abbrev pub Steps : (I → ℕ) → Option ℕ → Option Command → ℕ → ℕ → Book I → Book I → Type 0

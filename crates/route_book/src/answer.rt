@@ -2,14 +2,13 @@
 ghost use Rattle.std.specs.Prelude.{◌≡◌, ◌≢◌, ◌+◌, ℕ, [], Some, OnOk, OnErr};
 ghost use Rattle.std.specs.Io.KnownBytes.{Appends};
 ghost use Rattle.route_lines.specs.Grammar.{command_of};
-ghost use Rattle.rank_tree.specs.Comparisons.{most_comparisons};
 ghost use Rattle.route_lines.specs.Calls.{walked};
 ghost use Rattle.route_lines.specs.Reply.{reply, next, places_text, stops_text, walk_text};
-ghost use Rattle.route_lines.specs.Searches.{CountsFor, CountsWithin, living_count};
+ghost use Rattle.route_lines.specs.Searches.{CountsFor, CountsWithin, most_for};
 ghost use Rattle.route_lines.specs.Watched.{inner_of, failed_of};
 ghost use Rattle.route_lines.specs.Written.{AppendsBeginning};
 ghost use Rattle.route_lines.specs.declared.command.Command.{Command as Asked};
-ghost use Rattle.route_book.specs.Removals.{Stays, Steps};
+ghost use Rattle.route_book.specs.Removals.{Spares, Stays, Steps};
 
 use crate::backing::BookBacking;
 use crate::book::{RouteBook, Walk};
@@ -25,7 +24,9 @@ use triple_arena_ptr::PtrCore;
 impl<P: PtrCore, B: BookBacking<P>> RouteBook<P, B> {
     /// Carries out one line, given without its LF, and writes its reply.
     ///
-    /// A line that asks, spells no command or is refused leaves the store as it was.
+    /// A line that asks, spells no command or is refused leaves the store as it was. One that puts
+    /// in or rewords a place leaves stops and marks, one on routes places and marks, and `mark`
+    /// places and stops.
     ///
     /// An `Err` is that of the write that failed, or `WriteZero` if one took nothing. The line is
     /// carried out all the same, and a beginning of its reply is written, at least a byte short.
@@ -39,6 +40,7 @@ impl<P: PtrCore, B: BookBacking<P>> RouteBook<P, B> {
         ensures steps { Steps P.Inx.number P.Gen.last
             (command_of line.now) counts.old.looks counts.new.looks self.old self.new }
         ensures stays { Stays self.old.state (command_of line.now) self.old self.new }
+        ensures others { Spares (command_of line.now) self.old self.new }
         ensures ok { OnOk result (Appends (W.contents (inner_of writer.old))
             (W.contents (inner_of writer.new)) (reply self.old.state (command_of line.now))) }
         ensures ok_failed { OnOk result (failed_of writer.new ≡ failed_of writer.old) }
@@ -63,6 +65,7 @@ impl<P: PtrCore, B: BookBacking<P>> RouteBook<P, B> {
         ensures steps { Steps P.Inx.number P.Gen.last command counts.old.looks counts.new.looks
             self.old self.new }
         ensures stays { Stays self.old.state command self.old self.new }
+        ensures others { Spares command self.old self.new }
         ensures ok { OnOk result (Appends (W.contents (inner_of writer.old))
             (W.contents (inner_of writer.new)) (reply self.old.state command)) }
         ensures ok_failed { OnOk result (failed_of writer.new ≡ failed_of writer.old) }
@@ -94,6 +97,7 @@ impl<P: PtrCore, B: BookBacking<P>> RouteBook<P, B> {
         ensures steps { Steps P.Inx.number P.Gen.last
             (Some command) counts.old.looks counts.new.looks self.old self.new }
         ensures stays { Stays self.old.state (Some command) self.old self.new }
+        ensures others { Spares (Some command) self.old self.new }
         ensures text { command ≢ Asked.All → ((stop : ℕ) → command ≢ Asked.Walk stop)
             → text.new ≡ reply self.old.state (Some command) }
         ensures counts { CountsFor self.old.state (Some command) counts.old counts.new }
@@ -147,7 +151,7 @@ impl<P: PtrCore, B: BookBacking<P>> RouteBook<P, B> {
             (W.contents (inner_of writer.new)) (walk_text (walked self.now.state stop))) }
         ensures err_failed { OnErr result (failed_of writer.new ≡ failed_of writer.old + 1) }
         ensures counts { CountsWithin counts.old counts.new
-            0 (most_comparisons (living_count self.now.state)) 0 }
+            0 (most_for self.now.state stop) 0 }
     {
         match self.walk_counted(stop, counts) {
             Ok(stops) => write_stops(stops, text, writer),

@@ -1,13 +1,12 @@
 //! The store, and what its calls share.
 ghost use Rattle.std.specs.Prelude.{◌≡◌, ℕ, ◌+◌, ◌≤◌, Some, Ok, Err, IfOk, IfErr, length};
-ghost use Rattle.rank_tree.specs.Comparisons.{most_comparisons};
 ghost use Rattle.triple_arena.specs.Content.{entry_at, live_count};
 ghost use Rattle.triple_arena.specs.Entries.{value_if};
 ghost use Rattle.triple_arena_chain.specs.Links.{ends_in, values_in};
 ghost use Rattle.triple_arena_ord.specs.Ordered.{entry_in};
 ghost use Rattle.route_lines.specs.Calls.{place_holder, stop_holder};
 ghost use Rattle.route_lines.specs.Routes.{next_stop};
-ghost use Rattle.route_lines.specs.Searches.{living_count};
+ghost use Rattle.route_lines.specs.Searches.{most_for};
 ghost use Rattle.route_lines.specs.Sound.{IsSound};
 ghost use Rattle.route_lines.specs.State.{Place as PlaceView, holder, is_full_of_places, mark_of};
 ghost use Rattle.route_lines.specs.State.{stop_list, stop_of};
@@ -94,7 +93,7 @@ impl<P: PtrCore, B: BookBacking<P>> RouteBook<P, B> {
         ensures refused { IfErr result (λ e. holder self.now.state ticket ≡ Err e) }
         ensures found { IfOk result (λ e. IsItem self.now.state (found_of self.now) ticket
             e.0 (P.index e.1) (P.generation e.1)) }
-        ensures bound { probes.new ≤ probes.old + most_comparisons (living_count self.now.state) }
+        ensures bound { probes.new ≤ probes.old + most_for self.now.state ticket }
         ensures rises { probes.old ≤ probes.new }
     {
         if ticket == 0 || ticket > self.last {
@@ -112,7 +111,7 @@ impl<P: PtrCore, B: BookBacking<P>> RouteBook<P, B> {
         ensures found { IfOk result (λ p. (place : PlaceView)
             × (value_if (P.generation p) (entry_in self.now.places (P.index p)) ≡ Some place)
             × (place_holder self.now.state ticket ≡ Ok place)) }
-        ensures bound { probes.new ≤ probes.old + most_comparisons (living_count self.now.state) }
+        ensures bound { probes.new ≤ probes.old + most_for self.now.state ticket }
         ensures rises { probes.old ≤ probes.new }
     {
         let found = self.find_item(ticket, probes)?;
@@ -129,7 +128,7 @@ impl<P: PtrCore, B: BookBacking<P>> RouteBook<P, B> {
         ensures found { IfOk result (λ p. (stop : StopView)
             × (value_if (P.generation p) (values_in self.now.stops (P.index p)) ≡ Some stop)
             × (stop_holder self.now.state ticket ≡ Ok (state_stop (found_of self.now) stop))) }
-        ensures bound { probes.new ≤ probes.old + most_comparisons (living_count self.now.state) }
+        ensures bound { probes.new ≤ probes.old + most_for self.now.state ticket }
         ensures rises { probes.old ≤ probes.new }
     {
         let found = self.find_item(ticket, probes)?;

@@ -1,13 +1,14 @@
 //! The program over a store: its arguments, its exit status, and what it tells.
-ghost use Rattle.std.specs.Prelude.{◌≡◌, ◌<◌, ◌≤◌, ◌+◌, ◌-◌, ◌^◌, ◌↔◌, ◌⊎◌, Some, None, Err};
-ghost use Rattle.std.specs.Prelude.{IfSome, IfOk, IfErr, IsErr, IsNone, codes, map, string_bytes};
-ghost use Rattle.route_lines.specs.CommandLine.{Answers, AnswersWholeLines, BeginsToAnswer, Tells};
-ghost use Rattle.route_lines.specs.CommandLine.{refusal_of, refused_line, room_sum, rooms_of};
+ghost use Rattle.std.specs.Prelude.{◌≡◌, ◌<◌, ◌≤◌, ◌+◌, ◌^◌, ◌↔◌, Some, None, Err, IfSome, IfOk};
+ghost use Rattle.std.specs.Prelude.{IfErr, IsErr, IsNone, codes, map, string_bytes};
+ghost use Rattle.route_lines.specs.CommandLine.{Answers, EndsAtFault, Tells, refusal_of};
+ghost use Rattle.route_lines.specs.CommandLine.{refused_line, room_sum, rooms_of};
+ghost use Rattle.route_lines.specs.State.{Rooms, empty};
 ghost use Rattle.route_book.specs.Rooms.{refusal_of as refusal_over};
 ghost use Rattle.route_lines.specs.declared.refusal.RoomError.{RoomError as Refused};
-ghost use Rattle.route_lines.specs.Watched.{inner_of, failed_of, calls_of};
+ghost use Rattle.route_lines.specs.Watched.{inner_of, failed_of};
 
-use crate::backing::OnHeap;
+use crate::backing::{BookBacking, OnHeap};
 use crate::book::RouteBook;
 use crate::running::run;
 use route_lines::{Counts, RoomError, RunFault, Watched, read_rooms, refused_line, tell};
@@ -57,21 +58,8 @@ pub fn program<R: Read, W: Write, E: Write>(
     // A read failed and every whole line that was read is answered. Or a write failed: the replies
     // are written up to a line whose reply is cut short, or all of them are, and the flush failed.
     ensures fault { result ≡ 1 → IfSome (rooms_of (map string_bytes args.now)) (λ rooms.
-        (AnswersWholeLines rooms (R.remaining (inner_of input.old))
-        (R.remaining (inner_of input.new)) (W.contents (inner_of output.old))
-        (W.contents (inner_of output.new))
-        × ((failed_of input.new ≡ failed_of input.old + 1)
-        ⊎ (calls_of input.new ≡ calls_of input.old + (2 ^ 64 - 1)))
-        × (failed_of output.new ≡ failed_of output.old)
-        × Tells (failed_of errors.old) (failed_of errors.new) (E.contents (inner_of errors.old))
-        (E.contents (inner_of errors.new)) (codes "read failed"))
-        ⊎ (BeginsToAnswer rooms (R.remaining (inner_of input.old))
-        (R.remaining (inner_of input.new)) (W.contents (inner_of output.old))
-        (W.contents (inner_of output.new))
-        × (failed_of output.new ≡ failed_of output.old + 1)
-        × (failed_of input.new ≡ failed_of input.old)
-        × Tells (failed_of errors.old) (failed_of errors.new) (E.contents (inner_of errors.old))
-        (E.contents (inner_of errors.new)) (codes "write failed"))) }
+        EndsAtFault R.remaining W.contents E.contents rooms input.old input.new output.old
+        output.new errors.old errors.new) }
 
     // The line that says why the input was not read.
     ensures told_usage { result ≡ 2
@@ -95,8 +83,8 @@ pub fn program<R: Read, W: Write, E: Write>(
     }
 }
 
-// The status of a run over a new store, or why that is not made; a fault is told. It is generic in
-// the pointers, since the checker takes a whole store over `P0` in generic code alone.
+// The status of a run over a new store, or why that is not made. It is generic in the pointers,
+// since the checker takes a whole store over `P0` in generic code alone.
 fn serve<P: PtrCore, R: Read, W: Write, E: Write>(
     alloc: Global,
     places: usize,
@@ -123,36 +111,46 @@ fn serve<P: PtrCore, R: Read, W: Write, E: Write>(
         × (failed_of output.new ≡ failed_of output.old)) }
     ensures silent { IfOk result (λ status. status ≡ 0 → errors.new ≡ errors.old) }
     ensures fault { IfOk result (λ status. status ≡ 1 →
-        (AnswersWholeLines (record { places = places; stops = stops; marks = marks })
-        (R.remaining (inner_of input.old)) (R.remaining (inner_of input.new))
-        (W.contents (inner_of output.old)) (W.contents (inner_of output.new))
-        × ((failed_of input.new ≡ failed_of input.old + 1)
-        ⊎ (calls_of input.new ≡ calls_of input.old + (2 ^ 64 - 1)))
-        × (failed_of output.new ≡ failed_of output.old)
-        × Tells (failed_of errors.old) (failed_of errors.new) (E.contents (inner_of errors.old))
-        (E.contents (inner_of errors.new)) (codes "read failed"))
-        ⊎ (BeginsToAnswer (record { places = places; stops = stops; marks = marks })
-        (R.remaining (inner_of input.old)) (R.remaining (inner_of input.new))
-        (W.contents (inner_of output.old)) (W.contents (inner_of output.new))
-        × (failed_of output.new ≡ failed_of output.old + 1)
-        × (failed_of input.new ≡ failed_of input.old)
-        × Tells (failed_of errors.old) (failed_of errors.new) (E.contents (inner_of errors.old))
-        (E.contents (inner_of errors.new)) (codes "write failed"))) }
+        EndsAtFault R.remaining W.contents E.contents
+        (record { places = places; stops = stops; marks = marks }) input.old input.new output.old
+        output.new errors.old errors.new) }
 {
     let mut book = RouteBook::<P, OnHeap>::new(&OnHeap(alloc), places, stops, marks)?;
-    match run(&mut book, input, output, &mut Counts::new()) {
-        Ok(()) => Ok(0),
+    Ok(run_and_tell(&mut book, input, output, errors))
+}
+
+// The status of a run over a store with nothing in it; a fault is told. It has the store by `&mut`,
+// since one that is held by value costs its drop at each way out.
+fn run_and_tell<P: PtrCore, B: BookBacking<P>, R: Read, W: Write, E: Write>(
+    book: &mut RouteBook<P, B>,
+    input: &mut Watched<R>,
+    output: &mut Watched<W>,
+    errors: &mut Watched<E>,
+) -> u8
+    ensures status { result ≤ 1 }
+    ensures answered { (rooms : Rooms) → book.old.state ≡ empty rooms 0 → result ≡ 0
+        → Answers rooms (R.remaining (inner_of input.old)) (R.remaining (inner_of input.new))
+        (W.contents (inner_of output.old)) (W.contents (inner_of output.new)) }
+    ensures unfailed { result ≡ 0 → (failed_of input.new ≡ failed_of input.old)
+        × (failed_of output.new ≡ failed_of output.old) }
+    ensures silent { result ≡ 0 → errors.new ≡ errors.old }
+    ensures fault { (rooms : Rooms) → book.old.state ≡ empty rooms 0 → result ≡ 1
+        → EndsAtFault R.remaining W.contents E.contents rooms input.old input.new output.old
+        output.new errors.old errors.new }
+{
+    match run(book, input, output, &mut Counts::new()) {
+        Ok(()) => 0,
         Err(RunFault::Read(_)) => {
             tell(errors, b"read failed\n");
-            Ok(1)
+            1
         }
         Err(RunFault::Write(_)) => {
             tell(errors, b"write failed\n");
-            Ok(1)
+            1
         }
         Err(RunFault::TooLong) => {
             tell(errors, b"read failed\n");
-            Ok(1)
+            1
         }
     }
 }

@@ -35,13 +35,13 @@ mod backing;
 mod book;
 mod command_line;
 mod items;
+pub mod laws;
 mod mirrors;
 mod parts;
 mod place_arena;
 mod places;
 mod recasts;
 mod running;
-mod sweep_steps;
 mod transfers;
 
 pub use backing::{
@@ -52,9 +52,7 @@ pub use command_line::program;
 pub use items::{Mark, Place, PlaceKey, Ref, Stop};
 pub use places::Places;
 pub use route_lines::{
-    Command, Counts, Refusal, RoomError, RunFault, Shown, Watched, Word, laws, read_line,
-    read_number,
+    Command, Counts, Refusal, RoomError, RunFault, Shown, Watched, Word, read_line, read_number,
 };
 pub use running::run;
-pub use sweep_steps::lines_are_sweep_steps;
 pub use triple_arena_ptr::{Probes, PtrCore};

@@ -1,12 +1,12 @@
 //! Stored references that are recast by mirrors: one that leads to nothing is gone.
-ghost use Rattle.std.specs.Prelude.{◌≡◌, ℕ, ◌+◌, ◌*◌, Option};
+ghost use Rattle.std.specs.Prelude.{◌≡◌, ℕ, ◌+◌, ◌*◌, List, Option};
 ghost use Rattle.std.specs.Option.{option_map};
 ghost use Rattle.triple_arena.specs.Content.{entry_at as mark_at, live_count};
 ghost use Rattle.triple_arena.specs.DirectContent.{entry_at};
 ghost use Rattle.triple_arena_chain.specs.Links.{ends_in, values_in};
 ghost use Rattle.ticket_book.specs.Mirrors.{numbers};
 ghost use Rattle.route_book.specs.Holds.{found_by};
-ghost use Rattle.route_book.specs.Item.{StopView, pointer_of};
+ghost use Rattle.route_book.specs.Item.{MarkView, StopView, pointer_of};
 ghost use Rattle.route_book.specs.Packing.{recast_mark, recast_stop};
 
 use crate::items::{Mark, Ref, Stop};
@@ -67,6 +67,9 @@ fn recast_stops<P: PtrCore, A: ArenaTrait<P, Stop<P>>, M: ArenaTrait<P, P>>(
     ensures kept { (f : A → Option (Option ℕ × Option ℕ))
         → ((s : A) (i : ℕ) (t : StopView) → f (A.with_value s i t) ≡ f s)
         → f stops.new ≡ f stops.old }
+    ensures kept_list { (f : A → List ℕ)
+        → ((s : A) (i : ℕ) (t : StopView) → f (A.with_value s i t) ≡ f s)
+        → f stops.new ≡ f stops.old }
     ensures looks { looks.new ≡ looks.old + A.live_count stops.old }
 {
     let mut walk = stops.advancer();
@@ -79,7 +82,7 @@ fn recast_stops<P: PtrCore, A: ArenaTrait<P, Stop<P>>, M: ArenaTrait<P, P>>(
 }
 
 // Recasts the references of the marks by a mirror of the places and one of the stops: two looks for
-// each mark.
+// each mark. What no write of a value changes stays.
 fn recast_marks<P: PtrCore, A: ArenaTrait<P, Mark<P>>, M: ArenaTrait<P, P>, N: ArenaTrait<P, P>>(
     marks: &mut A,
     places: &M,
@@ -95,6 +98,9 @@ fn recast_marks<P: PtrCore, A: ArenaTrait<P, Mark<P>>, M: ArenaTrait<P, P>, N: A
     ensures live { A.live_count marks.new ≡ A.live_count marks.old }
     ensures counter { A.counter marks.new ≡ A.counter marks.old }
     ensures room { A.room marks.new ≡ A.room marks.old }
+    ensures kept_list { (f : A → List ℕ)
+        → ((s : A) (i : ℕ) (m : MarkView) → f (A.with_value s i m) ≡ f s)
+        → f marks.new ≡ f marks.old }
     ensures looks { looks.new ≡ looks.old + 2 * A.live_count marks.old }
 {
     let mut walk = marks.advancer();
@@ -121,6 +127,7 @@ pub(crate) fn recast_all_stops<P: PtrCore, S: ChainSlots<P, Stop<P>>, R: DirectS
         )) (values_in stops.old j) }
     ensures ends { (j : ℕ) → ends_in P.Inx.number stops.new j ≡ ends_in P.Inx.number stops.old j }
     ensures live { live_count stops.new ≡ live_count stops.old }
+    ensures free { stops.new.free ≡ stops.old.free }
     ensures counter { stops.new.counter ≡ stops.old.counter }
     ensures room { stops.new.room ≡ stops.old.room }
     ensures looks { looks.new ≡ looks.old + live_count stops.old }
@@ -142,6 +149,7 @@ pub(crate) fn recast_all_marks<P: PtrCore, S: ArenaSlots<P, Mark<P>>, R: DirectS
               (numbers P.index P.generation (entry_at stops.now)) e.1,
         )) (mark_at marks.old j) }
     ensures live { live_count marks.new ≡ live_count marks.old }
+    ensures free { marks.new.free ≡ marks.old.free }
     ensures counter { marks.new.counter ≡ marks.old.counter }
     ensures room { marks.new.room ≡ marks.old.room }
     ensures looks { looks.new ≡ looks.old + 2 * live_count marks.old }

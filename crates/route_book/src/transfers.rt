@@ -1,5 +1,5 @@
 //! Items that go to arenas over other pointers: after a pack each has the index there that it had.
-ghost use Rattle.std.specs.Prelude.{◌≡◌, ◌≤◌, ◌↔◌, ℕ, IsSome, Some, ⊤};
+ghost use Rattle.std.specs.Prelude.{◌≡◌, ◌≤◌, ◌↔◌, ℕ, [], IsSome, Some, ⊤};
 ghost use Rattle.std.specs.List.{range_with_len};
 ghost use Rattle.std.specs.Option.{option_map};
 ghost use Rattle.triple_arena_ptr.specs.Generation.{second_generation};
@@ -69,7 +69,9 @@ pub(crate) fn transfer_places<P: PtrCore, S: OrdSlots<P, Place>, Q: PtrCore, R: 
     ensures within { order_in P.Inx.number from ≡ range_with_len 1 (size_in from)
         → (k : ℕ) → IsSome (entry_in from k) → k ≤ max_index_of Q.Inx.greatest }
     ensures order { in_order Q.Inx.number to.new ≡ in_order P.Inx.number from }
+    ensures run { order_in Q.Inx.number to.new ≡ range_with_len 1 (size_in from) }
     ensures size { size_in to.new ≡ size_in from }
+    ensures free { to.new.chains.free ≡ [] }
     ensures counter { to.new.chains.counter ≡ second_generation Q.Gen.last }
     ensures room { to.new.chains.room ≡ to.old.chains.room }
 {
@@ -113,7 +115,10 @@ pub(crate) fn transfer_stops<
     ensures next { IsLaidOut (ends_in P.Inx.number from) (live_count from)
         → (k : ℕ) → IsSome (values_in from k)
         → next_at (ends_in Q.Inx.number to.new) k ≡ next_at (ends_in P.Inx.number from) k }
+    ensures laid { IsLaidOut (ends_in P.Inx.number from) (live_count from)
+        → IsLaidOut (ends_in Q.Inx.number to.new) (live_count from) }
     ensures live { live_count to.new ≡ live_count from }
+    ensures free { to.new.free ≡ [] }
     ensures counter { to.new.counter ≡ second_generation Q.Gen.last }
     ensures room { to.new.room ≡ to.old.room }
 {
@@ -150,6 +155,7 @@ pub(crate) fn transfer_marks<
     ensures within { ((i : ℕ) → IsSome (entry_at from i) ↔ ((1 ≤ i) × (i ≤ live_count from)))
         → (k : ℕ) → IsSome (entry_at from k) → k ≤ max_index_of Q.Inx.greatest }
     ensures live { live_count to.new ≡ live_count from }
+    ensures free { to.new.free ≡ [] }
     ensures counter { to.new.counter ≡ second_generation Q.Gen.last }
     ensures room { to.new.room ≡ to.old.room }
 {

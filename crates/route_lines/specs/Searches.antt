@@ -3,12 +3,13 @@ use Rattle.std.specs.Prelude.{◌≡◌, ℕ, suc, ◌+◌, ◌-◌, ◌*◌, �
 use Rattle.std.specs.Prelude.{Bool, List, [], ◌∷◌, Option, Some, None, Result, Ok, Err}
 use Rattle.std.specs.Prelude.{if◌then◌else◌, length, nat_lt}
 use Rattle.rank_tree.specs.Comparisons.{most_comparisons}
-use Rattle.route_lines.specs.Calls.{placed_near}
+use Rattle.route_lines.specs.Calls.{place_holder, placed, placed_near, stop_holder}
 use Rattle.route_lines.specs.State.{State, Place as Spot, stop_list}
 use Rattle.route_lines.specs.declared.command.Command.{Command}
-use Rattle.route_lines.specs.declared.command.Command.TheVariants.{Place, Find, Floor, All}
-use Rattle.route_lines.specs.declared.command.Command.TheVariants.{Extend, Join, Swap, Mark}
-use Rattle.route_lines.specs.declared.command.Command.TheVariants.{Remove, Pack}
+use Rattle.route_lines.specs.declared.command.Command.TheVariants.{Place, Word, Show, Find}
+use Rattle.route_lines.specs.declared.command.Command.TheVariants.{Floor, After, Before, Remove}
+use Rattle.route_lines.specs.declared.command.Command.TheVariants.{Start, Extend, Join, Cut, Swap}
+use Rattle.route_lines.specs.declared.command.Command.TheVariants.{Walk, Mark, Pack}
 use Rattle.route_lines.specs.declared.counts.Counts.{Counts}
 use Rattle.route_lines.specs.declared.refusal.Refusal.{Refusal}
 
@@ -18,6 +19,16 @@ place_count s = length s.places
 
 abbrev pub living_count : State → ℕ
 living_count s = length s.places + length (stop_list s.routes) + length s.marks
+
+-- the greatest number of comparisons of a search by ticket: none if the ticket was never given
+abbrev pub most_for : State → ℕ → ℕ
+most_for s ticket =
+    if (ticket == 0) || nat_lt s.last ticket then 0 else most_comparisons (living_count s)
+
+-- the same behind a test: none if that refuses
+abbrev pub most_behind : {X : Type 0} → Result X Refusal → ℕ → ℕ
+most_behind (Ok x) most = most
+most_behind (Err refusal) most = 0
 
 -- how many places stand before the first one of a kind
 abbrev pub places_before : (Spot → Bool) → List Spot → ℕ
@@ -43,11 +54,7 @@ most_from places key near =
 
 -- the same of a hint: none if the new place is refused, and so if no living place has the ticket
 abbrev pub most_near : State → ℕ → ℕ → ℕ
-most_near s key near = by (placed_near s near)
-  where
-    by : Result ℕ Refusal → ℕ
-    by (Ok ticket) = most_from s.places key near
-    by (Err refusal) = 0
+most_near s key near = most_behind (placed_near s near) (most_from s.places key near)
 
 -- from the old counts on at most so many comparisons with keys, with first and with second tickets
 pub record ComparesWithin (old new : Counts) (keys firsts seconds : ℕ) : Type 0 where
@@ -71,7 +78,8 @@ pub record CountsWithin (old new : Counts) (keys firsts seconds : ℕ) : Type 0 
 -- the greatest number of comparisons with keys that a command may take: what names no key makes
 -- none
 abbrev pub most_keys : State → Option Command → ℕ
-most_keys s (Some (Place key word None)) = most_comparisons (place_count s)
+most_keys s (Some (Place key word None)) =
+    most_behind (placed s) (most_comparisons (place_count s))
 most_keys s (Some (Place key word (Some near))) = most_near s key near
 most_keys s (Some (Find key)) = most_comparisons (place_count s)
 most_keys s (Some (Floor key)) = most_comparisons (place_count s)
@@ -79,20 +87,27 @@ most_keys s command = 0
 
 -- with first tickets
 abbrev pub most_firsts : State → Option Command → ℕ
-most_firsts s None = 0
-most_firsts s (Some (Place key word None)) = 0
-most_firsts s (Some (Find key)) = 0
-most_firsts s (Some (Floor key)) = 0
-most_firsts s (Some All) = 0
-most_firsts s (Some Pack) = 0
-most_firsts s command = most_comparisons (living_count s)
+most_firsts s (Some (Place key word (Some near))) = most_for s near
+most_firsts s (Some (Word ticket word)) = most_for s ticket
+most_firsts s (Some (Show ticket)) = most_for s ticket
+most_firsts s (Some (After ticket)) = most_for s ticket
+most_firsts s (Some (Before ticket)) = most_for s ticket
+most_firsts s (Some (Remove ticket)) = most_for s ticket
+most_firsts s (Some (Start place)) = most_for s place
+most_firsts s (Some (Extend stop place)) = most_for s stop
+most_firsts s (Some (Join stop next)) = most_for s stop
+most_firsts s (Some (Cut stop)) = most_for s stop
+most_firsts s (Some (Swap stop other)) = most_for s stop
+most_firsts s (Some (Walk stop)) = most_for s stop
+most_firsts s (Some (Mark place stop)) = most_for s place
+most_firsts s command = 0
 
--- and with second tickets
+-- and with second tickets, which are searched for if the first is not refused
 abbrev pub most_seconds : State → Option Command → ℕ
-most_seconds s (Some (Extend stop place)) = most_comparisons (living_count s)
-most_seconds s (Some (Join stop next)) = most_comparisons (living_count s)
-most_seconds s (Some (Swap stop other)) = most_comparisons (living_count s)
-most_seconds s (Some (Mark place stop)) = most_comparisons (living_count s)
+most_seconds s (Some (Extend stop place)) = most_behind (stop_holder s stop) (most_for s place)
+most_seconds s (Some (Join stop next)) = most_behind (stop_holder s stop) (most_for s next)
+most_seconds s (Some (Swap stop other)) = most_behind (stop_holder s stop) (most_for s other)
+most_seconds s (Some (Mark place stop)) = most_behind (place_holder s place) (most_for s stop)
 most_seconds s command = 0
 
 -- from the old counts on at most what this command may take in this state

@@ -3,7 +3,7 @@ ghost use Rattle.std.specs.Prelude.{◌≡◌, ℕ, ◌+◌, ◌++◌, List, OnO
 ghost use Rattle.std.specs.Io.KnownBytes.{Appends};
 ghost use Rattle.route_lines.specs.ReplyText.{HasRoom};
 ghost use Rattle.route_lines.specs.Watched.{inner_of, failed_of};
-ghost use Rattle.route_lines.specs.Written.{AppendsBeginning};
+ghost use Rattle.route_lines.specs.Written.{AppendsBeginning, Writes};
 
 use crate::reply_text::ReplyText;
 use crate::watched::Watched;
@@ -52,8 +52,11 @@ pub fn make_room<W: Write>(text: &mut ReplyText, writer: &mut Watched<W>) -> io:
 
 /// Writes a line. Nobody is left to hear of a failure.
 pub fn tell<E: Write>(errors: &mut Watched<E>, line: &[u8])
-    ensures { failed_of errors.new ≡ failed_of errors.old
-        → Appends (E.contents (inner_of errors.old)) (E.contents (inner_of errors.new)) line.now }
+    ensures { Writes (failed_of errors.old) (failed_of errors.new)
+        (E.contents (inner_of errors.old)) (E.contents (inner_of errors.new)) line.now }
 {
-    let _ = send(errors, line);
+    match send(errors, line) {
+        Ok(()) => {}
+        Err(_) => {}
+    }
 }

@@ -5,7 +5,7 @@ ghost use Rattle.rank_tree.specs.Comparisons.{most_comparisons};
 ghost use Rattle.triple_arena_chain.specs.Links.{values_in};
 ghost use Rattle.triple_arena_ord.specs.Ordered.{entry_in};
 ghost use Rattle.route_lines.specs.Calls.{shown, found, floor_of, place_after, place_before};
-ghost use Rattle.route_lines.specs.Searches.{CountsWithin, place_count, living_count};
+ghost use Rattle.route_lines.specs.Searches.{CountsWithin, most_for, place_count};
 ghost use Rattle.route_lines.specs.State.{Place as PlaceView};
 ghost use Rattle.route_book.specs.Holds.{found_by};
 ghost use Rattle.route_book.specs.Item.{StopView, pointer_of};
@@ -38,7 +38,7 @@ impl<P: PtrCore, B: BookBacking<P>> RouteBook<P, B> {
     pub fn show_counted(&self, ticket: u64, counts: &mut Counts) -> Result<Shown, Refusal>
         ensures result { result ≡ shown self.now.state ticket }
         ensures counts { CountsWithin counts.old counts.new
-            0 (most_comparisons (living_count self.now.state)) 0 }
+            0 (most_for self.now.state ticket) 0 }
     {
         let found = self.find_item(ticket, &mut counts.first)?;
         match found.0 {
@@ -111,7 +111,7 @@ impl<P: PtrCore, B: BookBacking<P>> RouteBook<P, B> {
     pub fn after_counted(&self, ticket: u64, counts: &mut Counts) -> Result<Option<u64>, Refusal>
         ensures result { result ≡ place_after self.now.state ticket }
         ensures counts { CountsWithin counts.old counts.new
-            0 (most_comparisons (living_count self.now.state)) 0 }
+            0 (most_for self.now.state ticket) 0 }
     {
         entries_stand_in_the_list::<P, Place>();
         // The list is as it must be.
@@ -132,7 +132,7 @@ impl<P: PtrCore, B: BookBacking<P>> RouteBook<P, B> {
     pub fn before_counted(&self, ticket: u64, counts: &mut Counts) -> Result<Option<u64>, Refusal>
         ensures result { result ≡ place_before self.now.state ticket }
         ensures counts { CountsWithin counts.old counts.new
-            0 (most_comparisons (living_count self.now.state)) 0 }
+            0 (most_for self.now.state ticket) 0 }
     {
         entries_stand_in_the_list::<P, Place>();
         // The list is as it must be.

@@ -1,9 +1,8 @@
 //! Marks.
 ghost use Rattle.std.specs.Prelude.{◌≡◌, IfOk};
-ghost use Rattle.rank_tree.specs.Comparisons.{most_comparisons};
 ghost use Rattle.triple_arena.specs.Content.{inserted};
-ghost use Rattle.route_lines.specs.Calls.{marked, after_mark};
-ghost use Rattle.route_lines.specs.Searches.{CountsWithin, living_count};
+ghost use Rattle.route_lines.specs.Calls.{marked, after_mark, place_holder};
+ghost use Rattle.route_lines.specs.Searches.{CountsWithin, most_behind, most_for};
 ghost use Rattle.route_lines.specs.State.{is_full_of_marks};
 ghost use Rattle.route_book.specs.Book.{Changes};
 ghost use Rattle.route_book.specs.Item.{MarkView};
@@ -54,8 +53,8 @@ impl<P: PtrCore, B: BookBacking<P>> RouteBook<P, B> {
         ensures arena { IfOk result
             (λ _. (m : MarkView) × (self.new.marks ≡ inserted self.old.marks m)) }
         ensures counts { CountsWithin counts.old counts.new
-            0 (most_comparisons (living_count self.old.state))
-            (most_comparisons (living_count self.old.state)) }
+            0 (most_for self.old.state place)
+            (most_behind (place_holder self.old.state place) (most_for self.old.state stop)) }
     {
         changes_keep_states_sound();
         let at = self.find_place(place, &mut counts.first)?;

@@ -19,8 +19,9 @@ use triple_arena_ptr::PtrCore;
 
 impl<P: PtrCore, B: BookBacking<P>> RouteBook<P, B> {
     /// The store over other pointers, stacks and rooms, with its places, routes, marks and tickets.
-    /// No stored reference is dead then, and all counters have started. All memory is taken before
-    /// anything moves, and with an error the store comes back as it was.
+    /// No stored reference is dead then, all counters have started, and the items stand as a pack
+    /// leaves them. All memory is taken before anything moves, and with an error the store comes
+    /// back as it was.
     ///
     /// `Generation`, `Index` and `Stack` as by [`RouteBook::new_after`], in this order; else
     /// `TooSmall` if more items of a kind live than its new room holds; else `Memory` if the memory
@@ -32,8 +33,8 @@ impl<P: PtrCore, B: BookBacking<P>> RouteBook<P, B> {
         stops: usize,
         marks: usize,
     ) -> Result<RouteBook<Q, C>, (RoomError, RouteBook<P, B>)>
-        ensures moved { IfOk result (λ book. IsMovedIn Q.Gen.last Q.Inx.greatest C.room
-            (record { places = places; stops = stops; marks = marks }) self.state book) }
+        ensures moved { IfOk result (λ book. IsMovedIn Q.Inx.number Q.Gen.last Q.Inx.greatest
+            C.room (record { places = places; stops = stops; marks = marks }) self.state book) }
         ensures back { IfErr result (λ refused. refused.1 ≡ self) }
         ensures refused { (e : Refused)
             → move_refusal_of Q.Gen.last Q.Inx.greatest C.limit
@@ -74,7 +75,7 @@ impl<P: PtrCore, B: BookBacking<P>> RouteBook<P, B> {
         ensures { (rooms : Rooms)
             → to.state.rooms ≡ rooms
             → HasRooms Q.Inx.greatest C.room rooms to
-            → IsMovedIn Q.Gen.last Q.Inx.greatest C.room rooms self.state result }
+            → IsMovedIn Q.Inx.number Q.Gen.last Q.Inx.greatest C.room rooms self.state result }
     {
         let mut store = self;
         store.pack();
@@ -91,7 +92,7 @@ impl<P: PtrCore, B: BookBacking<P>> RouteBook<P, B> {
         ensures { (rooms : Rooms)
             → to.state.rooms ≡ rooms
             → HasRooms Q.Inx.greatest C.room rooms to
-            → IsMovedIn Q.Gen.last Q.Inx.greatest C.room rooms self.state result }
+            → IsMovedIn Q.Inx.number Q.Gen.last Q.Inx.greatest C.room rooms self.state result }
     {
         changes_keep_states_sound();
         let mut moved = to;

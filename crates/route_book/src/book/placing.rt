@@ -6,7 +6,8 @@ ghost use Rattle.triple_arena_ord.specs.Found.{IsSimilar};
 ghost use Rattle.triple_arena_ord.specs.Ordered.{IsAscending, asked_at, entry_in};
 ghost use Rattle.route_lines.specs.Calls.{place_holder, placed, after_place, placed_near};
 ghost use Rattle.route_lines.specs.Calls.{after_place_near, worded, after_word};
-ghost use Rattle.route_lines.specs.Searches.{CountsWithin, place_count, living_count, most_near};
+ghost use Rattle.route_lines.specs.Searches.{CountsWithin, most_behind, most_for, most_near};
+ghost use Rattle.route_lines.specs.Searches.{place_count};
 ghost use Rattle.route_lines.specs.State.{Place as PlaceView, is_full_of_places};
 ghost use Rattle.route_book.specs.Book.{Changes};
 ghost use Rattle.route_book.specs.Keys.{key_cmp, key_of};
@@ -47,7 +48,8 @@ impl<P: PtrCore, B: BookBacking<P>> RouteBook<P, B> {
             (after_place self.old.state key word) result self.old self.new }
         ensures others { (self.new.stops ≡ self.old.stops) × (self.new.marks ≡ self.old.marks) }
         ensures counts { CountsWithin counts.old counts.new
-            (most_comparisons (place_count self.old.state)) 0 0 }
+            (most_behind (placed self.old.state)
+            (most_comparisons (place_count self.old.state))) 0 0 }
     {
         if self.is_full_of_places() {
             return Err(Refusal::Full);
@@ -87,7 +89,7 @@ impl<P: PtrCore, B: BookBacking<P>> RouteBook<P, B> {
             (after_place_near self.old.state key word near) result self.old self.new }
         ensures others { (self.new.stops ≡ self.old.stops) × (self.new.marks ≡ self.old.marks) }
         ensures counts { CountsWithin counts.old counts.new
-            (most_near self.old.state key near) (most_comparisons (living_count self.old.state)) 0 }
+            (most_near self.old.state key near) (most_for self.old.state near) 0 }
     {
         // The list is as it must be.
         let _ = self.places.len();
@@ -128,7 +130,7 @@ impl<P: PtrCore, B: BookBacking<P>> RouteBook<P, B> {
             (after_word self.old.state ticket word) result self.old self.new }
         ensures others { (self.new.stops ≡ self.old.stops) × (self.new.marks ≡ self.old.marks) }
         ensures counts { CountsWithin counts.old counts.new
-            0 (most_comparisons (living_count self.old.state)) 0 }
+            0 (most_for self.old.state ticket) 0 }
     {
         let at = self.find_place(ticket, &mut counts.first)?;
         Ok(self.replace_word(at, ticket, word))

@@ -1,10 +1,9 @@
 //! Removals, which leave stored references as they are.
 ghost use Rattle.std.specs.Prelude.{◌≡◌, ℕ, Some, false};
-ghost use Rattle.rank_tree.specs.Comparisons.{most_comparisons};
 ghost use Rattle.triple_arena_ptr.specs.Generation.{next_wraps};
 ghost use Rattle.ticket_book.specs.Tickets.{Entry as EntryView, entry_at};
 ghost use Rattle.route_lines.specs.Calls.{removed, after_removed};
-ghost use Rattle.route_lines.specs.Searches.{ComparesWithin, living_count};
+ghost use Rattle.route_lines.specs.Searches.{ComparesWithin, most_for};
 ghost use Rattle.route_lines.specs.Sound.{IsSound};
 ghost use Rattle.route_lines.specs.State.{holder};
 ghost use Rattle.route_book.specs.Book.{as_book, IsBook, KeepsRooms};
@@ -116,7 +115,7 @@ impl<P: PtrCore, B: BookBacking<P>> RouteBook<P, B> {
             self.old self.new
             (holder self.old.state ticket) }
         ensures counts { ComparesWithin counts.old counts.new
-            0 (most_comparisons (living_count self.old.state)) 0 }
+            0 (most_for self.old.state ticket) 0 }
     {
         if ticket == 0 || ticket > self.last {
             return Err(Refusal::Unknown);

@@ -1,9 +1,8 @@
 //! Routes: a stop behind another, and stops that are joined, parted and exchanged.
 ghost use Rattle.std.specs.Prelude.{◌≡◌};
-ghost use Rattle.rank_tree.specs.Comparisons.{most_comparisons};
 ghost use Rattle.route_lines.specs.Calls.{after_cut, after_extend, after_join, after_swap};
-ghost use Rattle.route_lines.specs.Calls.{extended, joined, parted, swapped};
-ghost use Rattle.route_lines.specs.Searches.{CountsWithin, living_count};
+ghost use Rattle.route_lines.specs.Calls.{extended, joined, parted, stop_holder, swapped};
+ghost use Rattle.route_lines.specs.Searches.{CountsWithin, most_behind, most_for};
 ghost use Rattle.route_book.specs.Book.{Changes};
 
 use crate::backing::BookBacking;
@@ -46,8 +45,8 @@ impl<P: PtrCore, B: BookBacking<P>> RouteBook<P, B> {
             (after_extend self.old.state stop place) result self.old self.new }
         ensures others { (self.new.places ≡ self.old.places) × (self.new.marks ≡ self.old.marks) }
         ensures counts { CountsWithin counts.old counts.new
-            0 (most_comparisons (living_count self.old.state))
-            (most_comparisons (living_count self.old.state)) }
+            0 (most_for self.old.state stop)
+            (most_behind (stop_holder self.old.state stop) (most_for self.old.state place)) }
     {
         changes_keep_states_sound();
         extensions_lead_through();
@@ -93,8 +92,8 @@ impl<P: PtrCore, B: BookBacking<P>> RouteBook<P, B> {
             (after_join self.old.state stop next) result self.old self.new }
         ensures others { (self.new.places ≡ self.old.places) × (self.new.marks ≡ self.old.marks) }
         ensures counts { CountsWithin counts.old counts.new
-            0 (most_comparisons (living_count self.old.state))
-            (most_comparisons (living_count self.old.state)) }
+            0 (most_for self.old.state stop)
+            (most_behind (stop_holder self.old.state stop) (most_for self.old.state next)) }
     {
         changes_keep_states_sound();
         stops_follow_their_previous_ones();
@@ -132,7 +131,7 @@ impl<P: PtrCore, B: BookBacking<P>> RouteBook<P, B> {
             (after_cut self.old.state stop) result self.old self.new }
         ensures others { (self.new.places ≡ self.old.places) × (self.new.marks ≡ self.old.marks) }
         ensures counts { CountsWithin counts.old counts.new
-            0 (most_comparisons (living_count self.old.state)) 0 }
+            0 (most_for self.old.state stop) 0 }
     {
         changes_keep_states_sound();
         cuts_part_one_stop();
@@ -174,8 +173,8 @@ impl<P: PtrCore, B: BookBacking<P>> RouteBook<P, B> {
             (after_swap self.old.state stop other) result self.old self.new }
         ensures others { (self.new.places ≡ self.old.places) × (self.new.marks ≡ self.old.marks) }
         ensures counts { CountsWithin counts.old counts.new
-            0 (most_comparisons (living_count self.old.state))
-            (most_comparisons (living_count self.old.state)) }
+            0 (most_for self.old.state stop)
+            (most_behind (stop_holder self.old.state stop) (most_for self.old.state other)) }
     {
         changes_keep_states_sound();
         swaps_exchange_next_stops();

@@ -1,9 +1,8 @@
 //! Stops and their routes.
 ghost use Rattle.std.specs.Prelude.{◌≡◌};
-ghost use Rattle.rank_tree.specs.Comparisons.{most_comparisons};
 ghost use Rattle.triple_arena_chain.specs.Links.{IsChained};
 ghost use Rattle.route_lines.specs.Calls.{started, after_start};
-ghost use Rattle.route_lines.specs.Searches.{CountsWithin, living_count};
+ghost use Rattle.route_lines.specs.Searches.{CountsWithin, most_for};
 ghost use Rattle.route_lines.specs.State.{is_full_of_stops};
 ghost use Rattle.route_book.specs.Book.{Changes};
 
@@ -46,7 +45,7 @@ impl<P: PtrCore, B: BookBacking<P>> RouteBook<P, B> {
             (after_start self.old.state place) result self.old self.new }
         ensures others { (self.new.places ≡ self.old.places) × (self.new.marks ≡ self.old.marks) }
         ensures counts { CountsWithin counts.old counts.new
-            0 (most_comparisons (living_count self.old.state)) 0 }
+            0 (most_for self.old.state place) 0 }
     {
         changes_keep_states_sound();
         starts_lead_nowhere();

@@ -1,9 +1,8 @@
 //! A walk along a route.
 ghost use Rattle.std.specs.Prelude.{◌≡◌};
 ghost use Rattle.std.specs.Iterator.{YieldsFirstBy, item_count};
-ghost use Rattle.rank_tree.specs.Comparisons.{most_comparisons};
 ghost use Rattle.route_lines.specs.Calls.{walked};
-ghost use Rattle.route_lines.specs.Searches.{CountsWithin, living_count};
+ghost use Rattle.route_lines.specs.Searches.{CountsWithin, most_for};
 
 use crate::backing::BookBacking;
 use crate::book::RouteBook;
@@ -95,7 +94,7 @@ impl<P: PtrCore, B: BookBacking<P>> RouteBook<P, B> {
     ) -> Result<Walk<'_, P, B::Places, B::Stops>, Refusal>
         ensures result { result ≡ walked self.now.state stop }
         ensures counts { CountsWithin counts.old counts.new
-            0 (most_comparisons (living_count self.now.state)) 0 }
+            0 (most_for self.now.state stop) 0 }
     {
         stops_follow_their_previous_ones();
         lists_are_walked_both_ways();

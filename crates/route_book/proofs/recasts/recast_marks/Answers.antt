@@ -54,6 +54,7 @@ loop-p-preserved-in-Some-get_mut g c =
       live = g.met.A.ArenaTrait.live_with_value _ _ _ ∙ inv.live;
       counter = g.met.A.ArenaTrait.counter_with_value _ _ _ ∙ inv.counter;
       room = g.met.A.ArenaTrait.room_with_value _ _ _ ∙ inv.room;
+      kept_list = λ f law. law _ _ _ ∙ inv.kept_list f law;
       looks = omega (arith, tick, tick', looks, count);
     }
 

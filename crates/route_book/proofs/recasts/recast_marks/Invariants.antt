@@ -1,5 +1,6 @@
-use Rattle.std.specs.Prelude.{◌≡◌, ℕ, ◌+◌, ◌-◌, ◌*◌, ◌<◌, ◌≤◌, false, IsSome}
+use Rattle.std.specs.Prelude.{◌≡◌, ℕ, ◌+◌, ◌-◌, ◌*◌, ◌<◌, ◌≤◌, false, IsSome, List}
 use Rattle.std.specs.Option.{option_map}
+use Rattle.route_book.specs.Item.{MarkView}
 use Rattle.route_book.specs.Packing.{recast_mark}
 use Rattle.ticket_book.specs.Mirrors.{numbers}
 use Rattle.triple_arena_chain.specs.Renaming.{live_below}
@@ -27,6 +28,9 @@ invariant-loop-p g l =
       live : g.A.ArenaTrait.live_count l.marks ≡ g.A.ArenaTrait.live_count l.fn.marks;
       counter : g.A.ArenaTrait.counter l.marks ≡ g.A.ArenaTrait.counter l.fn.marks;
       room : g.A.ArenaTrait.room l.marks ≡ g.A.ArenaTrait.room l.fn.marks;
+      kept_list : (f : g.row.A.Denot → List ℕ)
+          → ((s : g.row.A.Denot) (i : ℕ) (m : MarkView) → f (g.A.ArenaTrait.with_value s i m) ≡ f s)
+          → f l.marks ≡ f l.fn.marks;
       looks : l.looks ≡ l.fn.looks + 2 * live_below (g.A.ArenaTrait.entry_at l.fn.marks)
           (g.A.ArenaTrait.walk l.walk).low;
     }

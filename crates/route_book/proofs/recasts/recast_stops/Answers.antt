@@ -53,6 +53,7 @@ loop-p-preserved-in-Some-get_mut g c =
       counter = g.met.A.ArenaTrait.counter_with_value _ _ _ ∙ inv.counter;
       room = g.met.A.ArenaTrait.room_with_value _ _ _ ∙ inv.room;
       kept = λ f law. law _ _ _ ∙ inv.kept f law;
+      kept_list = λ f law. law _ _ _ ∙ inv.kept_list f law;
       looks = omega (arith, tick, looks, count);
     }
 

@@ -1,4 +1,4 @@
-use Rattle.std.specs.Prelude.{◌≡◌, ℕ, ◌+◌, ◌-◌, ◌<◌, ◌≤◌, false, IsSome, Option}
+use Rattle.std.specs.Prelude.{◌≡◌, ℕ, ◌+◌, ◌-◌, ◌<◌, ◌≤◌, false, IsSome, List, Option}
 use Rattle.std.specs.Option.{option_map}
 use Rattle.route_book.specs.Item.{StopView}
 use Rattle.route_book.specs.Packing.{recast_stop}
@@ -29,6 +29,9 @@ invariant-loop-p g l =
       counter : g.A.ArenaTrait.counter l.stops ≡ g.A.ArenaTrait.counter l.fn.stops;
       room : g.A.ArenaTrait.room l.stops ≡ g.A.ArenaTrait.room l.fn.stops;
       kept : (f : g.row.A.Denot → Option (Option ℕ × Option ℕ))
+          → ((s : g.row.A.Denot) (i : ℕ) (t : StopView) → f (g.A.ArenaTrait.with_value s i t) ≡ f s)
+          → f l.stops ≡ f l.fn.stops;
+      kept_list : (f : g.row.A.Denot → List ℕ)
           → ((s : g.row.A.Denot) (i : ℕ) (t : StopView) → f (g.A.ArenaTrait.with_value s i t) ≡ f s)
           → f l.stops ≡ f l.fn.stops;
       looks : l.looks ≡ l.fn.looks + live_below (g.A.ArenaTrait.entry_at l.fn.stops)

@@ -1,4 +1,4 @@
-use Rattle.std.proofs.Common.{rules, subst, map, replicate, refl, arith, ◌≡◌}
+use Rattle.std.proofs.Common.{rules, ap, subst, map, replicate, refl, arith, ◌≡◌}
 use Rattle.triple_arena_ptr.specs.Generation.{second_generation}
 use Rattle.triple_arena_ptr.specs.Index.{max_index_of}
 use Rattle.triple_arena.specs.Compression.{generation_of}
@@ -31,3 +31,6 @@ returns-clause-within g c run k some =
     let value = c.capacity.ensures.value in
     let top = c.capacity.ensures.bounded in
     omega (arith, bound, fits, value, top)
+
+pub returns-clause-free : goal.returns-clause-free
+returns-clause-free g c = ap (λ m. m.free) c.in-Ok.ensures.exact

@@ -42,3 +42,9 @@ returns-clause-order g c =
     (λ h p item q t k is. search rules) done.moved.moved in
     ap (map (λ x. x.1.1)) (c.canonical_transfers_list_by_index.ensures _ _ _ _ _ done.filled
     done.moved.order) ∙ values
+
+pub returns-clause-run : goal.returns-clause-run
+returns-clause-run g c = c.in-Ok.ensures.moved.order
+
+pub returns-clause-free : goal.returns-clause-free
+returns-clause-free g c = c.in-Ok.ensures.moved.free

@@ -10,7 +10,7 @@ use Rattle.triple_arena_chain.specs.ListLaws.{live_prev_in}
 use Rattle.route_book.specs.Moving.{stop_over}
 use Rattle.route_book.proofs.LinkLemmas.{live_values}
 use Rattle.route_book.proofs.TransferLemmas.{moved_as}
-use Rattle.route_book.proofs.PackedRunLemmas.{next_same, stop_bound, stops_along}
+use Rattle.route_book.proofs.PackedRunLemmas.{next_same, runs_stay, stop_bound, stops_along}
 use Rattle.route_book.proofs.transfers.transfer_stops.Goals as goal
 
 pub returns-clause-entries : goal.returns-clause-entries
@@ -50,3 +50,13 @@ returns-clause-next g c laid k some =
     next_same g.P.Inx.PtrInxCore.number g.Q.Inx.PtrInxCore.number done.moved.order c.args.from
     c.transfer_canonical_reallocating-moved.new.self done.moved.laid laid
     c.len.ensures.formed.agreed k some
+
+pub returns-clause-laid : goal.returns-clause-laid
+returns-clause-laid g c laid =
+    let done = c.in-Ok.ensures in
+    runs_stay g.P.Inx.PtrInxCore.number g.Q.Inx.PtrInxCore.number done.moved.order c.args.from
+    c.transfer_canonical_reallocating-moved.new.self done.moved.laid laid
+    c.len.ensures.formed.agreed
+
+pub returns-clause-free : goal.returns-clause-free
+returns-clause-free g c = c.in-Ok.ensures.moved.laid.free

@@ -4,7 +4,8 @@ use Rattle.triple_arena_ptr.specs.Generation.{second_generation}
 use Rattle.triple_arena_ptr.specs.Index.{max_index_of}
 use Rattle.triple_arena_stack.specs.Room.{capacity}
 use Rattle.triple_arena.specs.Content.{entry_at}
-use Rattle.triple_arena_chain.specs.Links.{values_in}
+use Rattle.triple_arena_chain.specs.CanonicalLayout.{IsLaidOut}
+use Rattle.triple_arena_chain.specs.Links.{ends_in, values_in}
 use Rattle.triple_arena_ord.specs.Ordered.{entry_in}
 use Rattle.route_lines.specs.Sound.{IsSound}
 use Rattle.route_lines.specs.State.{Rooms, in_rooms, stop_list}
@@ -12,6 +13,7 @@ use Rattle.route_lines.specs.declared.change.Change.TheVariants.{Move}
 use Rattle.route_book.specs.Book.{Book}
 use Rattle.route_book.specs.Removals.{IsPacked}
 use Rattle.route_book.proofs.MovedStoreLemmas.{moved_kept, moved_mark, moved_stop}
+use Rattle.route_book.proofs.RunLemmas.{run_mapped}
 use Rattle.route_book.proofs.WholeLemmas.{have_all}
 use Rattle.route_book.proofs.book.RouteBook.move_packed.Goals as goal
 
@@ -124,6 +126,15 @@ returns g c rooms same has =
         marks = marks.room
             ∙ ap (λ (b : Book g.row.Q-Inx.Denot). b.marks.room) c.moved.view_is ∙ has.marks;
       };
+      order = places.run ∙ ap (range_with_len 1) (sym c.self.invariant.book.within.place_count
+          ∙ sym (ap (λ t. length t.places) c.changed-moved-inside.ensures));
+      stop_runs = subst (IsLaidOut (ends_in g.Q.Inx.PtrInxCore.number c.transfer_stops.new.to))
+          (sym stops.live) (stops.laid packing.stop_runs);
+      mark_run = run_mapped (entry_at c.self.inside.marks) (entry_at c.transfer_marks.new.to) _ _ _
+          (marks.entries packing.mark_run) marks.live packing.mark_run;
+      place_free = places.free;
+      stop_free = stops.free;
+      mark_free = marks.free;
       stops = moved_stop g.P.Inx.PtrInxCore.number g.Q.Inx.PtrInxCore.number g.P.Gen.PtrGenCore.last
           (max_index_of g.Q.Inx.PtrInxCore.greatest)
           (second_generation g.Q.Gen.PtrGenCore.last) _ own

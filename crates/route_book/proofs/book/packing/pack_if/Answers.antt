@@ -73,6 +73,9 @@ returns-clause-ready g c = rw c.if-not-needed.false (record {
   mark_run = marks_run c.compress_all.new.marks c.recast_all_marks.new.marks _
       c.compress_all.ensures.compressed.entries c.recast_all_marks.ensures.entries
       c.recast_all_marks.ensures.live;
+  place_free = c.compress_all.ensures.laid.free;
+  stop_free = c.recast_all_stops.ensures.free ∙ c.compress_all.ensures.canonical.free;
+  mark_free = c.recast_all_marks.ensures.free ∙ c.compress_all.ensures.mark_free;
   stops = whole_stops g.P.Inx.PtrInxCore.number g.P.Gen.PtrGenCore.last _ _ _ _ _ _ _ _ _ _
       c.requires.book c.compress_all.ensures c.entries_stand_in_the_list.ensures
       c.recast_all_stops.new.stops c.recast_all_marks.new.marks _ _ _ _ _ _ refl refl refl
