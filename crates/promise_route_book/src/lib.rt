@@ -1,0 +1,16 @@
+//! What is promised of a store's calls, said again of callers, so that wrong bodies can be tried
+//! here, where a check takes seconds.
+//!
+//! An edit of `must-fail` puts another body into a function, made of other calls, and must be
+//! refused. Wrong bodies that lie inside the library stand in its own `wrong-bodies.txt`.
+#![tactic(auto)]
+
+mod ended;
+mod moves;
+mod packs;
+mod places;
+
+pub use ended::remove_and_show;
+pub use moves::into_room;
+pub use packs::{pack_and_show, pack_counted};
+pub use places::place_near_counted;
