@@ -10,7 +10,7 @@ mod moves;
 mod packs;
 mod places;
 
-pub use ended::remove_and_show;
+pub use ended::{remove, remove_and_show};
 pub use moves::into_room;
 pub use packs::{pack_and_show, pack_counted};
 pub use places::place_near_counted;
