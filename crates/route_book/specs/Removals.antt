@@ -1,6 +1,6 @@
 -- What removals, packs and lines leave of the items that live on, and how many references they
 -- look at.
-use Rattle.std.specs.Prelude.{◌≡◌, ◌≢◌, ◌↔◌, ℕ, ◌+◌, ◌≤◌, ⊤, Bool, true, false, List, []}
+use Rattle.std.specs.Prelude.{◌≡◌, ◌≢◌, ◌↔◌, ℕ, ◌+◌, ◌≤◌, ⊤, Bool, true, false, []}
 use Rattle.std.specs.Prelude.{Option, None, Some, IsSome, Result, Ok, Err, IfErr, length}
 use Rattle.std.specs.List.{range_with_len}
 use Rattle.triple_arena_ptr.specs.Generation.{next_generation, next_wraps, second_generation}

@@ -3,11 +3,11 @@ use Rattle.std.proofs.Common.{◌≡◌, ◌⊎◌, inl, inr, subst, ℕ, List, 
 use Rattle.std.specs.Io.KnownBytes.{Appends, Consumes, IsAtEnd}
 use Rattle.route_lines.specs.State.{State, Rooms, empty}
 use Rattle.route_lines.specs.Text.{whole, replies, lines, whole_lines, text}
-use Rattle.route_lines.specs.Run.{Carries, StopsWithin, OnRead, OnWrite, OnTooLong}
+use Rattle.route_lines.specs.Run.{Carries, StopsWithin, OnRead, OnWrite}
 use Rattle.route_lines.specs.CommandLine.{AnswersWholeLines, BeginsToAnswer}
 use Rattle.route_lines.specs.declared.counts.Counts.{Counts}
 use Rattle.route_lines.specs.declared.fault.RunFault.{RunFault}
-use Rattle.route_lines.specs.declared.fault.RunFault.TheVariants.{Read, Write, TooLong}
+use Rattle.route_lines.specs.declared.fault.RunFault.TheVariants.{Read, Write}
 use Rattle.std.specs.declared.io.Error.{Error}
 
 pub answers-whole_lines : (rooms : Rooms) (book later : State)
@@ -57,6 +57,3 @@ on_read fault e P is on = subst (λ f. OnRead f P) is on
 
 pub on_write : (fault : RunFault) (e : Error) (P : Type 0) → fault ≡ Write e → OnWrite fault P → P
 on_write fault e P is on = subst (λ f. OnWrite f P) is on
-
-pub on_too_long : (fault : RunFault) (P : Type 0) → fault ≡ TooLong → OnTooLong fault P → P
-on_too_long fault P is on = subst (λ f. OnTooLong f P) is on

@@ -1,6 +1,6 @@
 use Rattle.std.proofs.Common.{inl, inr}
 use Rattle.route_lines.specs.CommandLineLaws.{answers-whole_lines, begins-to_answer, on_read}
-use Rattle.route_lines.specs.CommandLineLaws.{on_write, on_too_long}
+use Rattle.route_lines.specs.CommandLineLaws.{on_write}
 use Rattle.route_book.proofs.command_line.run_and_tell.Goals as goal
 
 pub returns-in-Err-Read-clause-fault : goal.returns-in-Err-Read-clause-fault
