@@ -18,3 +18,9 @@ pub mod RecastingLemmas
 pub mod StepsLemmas
 pub mod DrainLemmas
 pub mod IteratorLemmas
+pub mod LentSlotsLemmas
+pub mod IterMutLemmas
+pub mod BothWaysLemmas
+pub mod TwoItemsLemmas
+pub mod TwoValuesLemmas
+pub mod DirectTwoValuesLemmas

@@ -6,7 +6,7 @@ use Rattle.triple_arena_ptr.specs.Generation.{next_generation}
 use Rattle.triple_arena_stack.specs.Room.{Room}
 use Rattle.triple_arena.specs.ArenaRoom.{room_with}
 use Rattle.triple_arena.specs.Entries.{with_entry, without, with_generation_at}
-use Rattle.triple_arena.specs.Entries.{with_values_exchanged}
+use Rattle.triple_arena.specs.Entries.{generation_at, with_values_exchanged}
 use Rattle.triple_arena.specs.Compression.{renewed, generation_given, entry_of_listed}
 use Rattle.triple_arena.specs.Compression.{generation_of, IsCompact}
 
@@ -45,6 +45,13 @@ module _ {S T : Type 0} (entry_of : S → ℕ → Option (ℕ × T)) (live_of : 
     pub live : live_of new ≡ live_of old
     pub counter : counter_of new ≡ counter_of old
     pub room : room_of new ≡ room_with min (room_of old)
+
+  -- other values, each under the generation that stood there
+  pub record IsRewritten (old new : S) : Type 0 where
+    pub generations : (k : ℕ) → generation_at (entry_of new) k ≡ generation_at (entry_of old) k
+    pub live : live_of new ≡ live_of old
+    pub counter : counter_of new ≡ counter_of old
+    pub room : room_of new ≡ room_of old
 
   -- the values at two indexes in each other's place, each under the generation that stood there;
   -- all others stay

@@ -6,8 +6,11 @@ pub mod SlotState
 pub mod Steps
 pub mod StepsLaws
 pub mod Entries
+pub mod LentSlots
+pub mod BothWays
 pub mod Changes
 pub mod Content
+pub mod TwoValues
 pub mod Layout
 pub mod Walk
 pub mod WalkLaws
@@ -34,9 +37,12 @@ pub mod DirectSlot
 pub mod DirectState
 pub mod DirectLayout
 pub mod DirectLaws
+pub mod TwoValuesLaws
 pub mod DirectEntry
 pub mod DirectExchangeLaws
 pub mod Iterators
+pub mod IterMut
+pub mod IterMutLaws
 pub mod Recaster
 pub mod SlotRecaster
 pub mod RecasterLaws

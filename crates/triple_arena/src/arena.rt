@@ -19,6 +19,7 @@ mod generation;
 mod indexing;
 mod insertion;
 mod iterators;
+mod lending;
 mod max_capacity;
 mod reading;
 mod recast;

@@ -10,6 +10,7 @@ mod exchange;
 mod indexing;
 mod insertion;
 mod iterators;
+mod lending;
 mod max_capacity;
 mod reading;
 mod recast;

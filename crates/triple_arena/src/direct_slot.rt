@@ -3,6 +3,7 @@ ghost use Rattle.std.specs.Prelude.{◌≡◌, ℕ, Option, Some, None, IsSome, 
 ghost use Rattle.std.specs.Option.{option_map};
 ghost use Rattle.triple_arena.specs.DirectSlot.{value_of, with_slot_value, with_slot_generation};
 
+use crate::lent_slots::{LentValue, SlotKey};
 use crate::slot::{EntrySlot, ValueMut};
 use std::marker::Model;
 use triple_arena_ptr::PtrCore;
@@ -31,6 +32,21 @@ impl<G, T> ValueMut<T> for DirectState<G, T> {
         match self {
             DirectState::Used(_, value) => value,
             DirectState::Free => unreached!(),
+        }
+    }
+}
+
+impl<G, T> LentValue<T> for DirectState<G, T> {
+    ghost use Rattle.triple_arena.specs.DirectState.{state_value, with_state_value};
+
+    ghost held = { state_value };
+
+    ghost with_held = { with_state_value };
+
+    fn value_mut_if(&mut self) -> Option<&mut T> {
+        match self {
+            DirectState::Used(_, value) => Some(value),
+            DirectState::Free => None,
         }
     }
 }
@@ -132,6 +148,29 @@ impl<P: PtrCore, T> ValueMut<T> for DirectSlot<P, T> {
 
     fn value_mut(&mut self) -> &mut T {
         self.state.value_mut()
+    }
+}
+
+impl<P: PtrCore, T> LentValue<T> for DirectSlot<P, T> {
+    ghost held = { value_of };
+
+    ghost with_held = { with_slot_value };
+
+    fn value_mut_if(&mut self) -> Option<&mut T> {
+        self.state.value_mut_if()
+    }
+}
+
+impl<P: PtrCore, T> SlotKey<P::Gen> for DirectSlot<P, T> {
+    ghost number_of = { P.Gen.number };
+
+    ghost key_number = { λ s. option_map (λ e. e.0) s };
+
+    fn slot_key(&mut self) -> Option<P::Gen> {
+        match &self.state {
+            DirectState::Used(generation, _) => Some(*generation),
+            DirectState::Free => None,
+        }
     }
 }
 

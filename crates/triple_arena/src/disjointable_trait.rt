@@ -1,12 +1,15 @@
 //! Two entries changed at once.
-ghost use Rattle.std.specs.Prelude.{◌≡◌, ◌≢◌, ◌↔◌, ℕ, IsOk, IsSome, OnOk, OnErr, IsErrOf};
+ghost use Rattle.std.specs.Prelude.{◌≡◌, ◌≢◌, ◌↔◌, ℕ, [], ◌∷◌, length, map, Some, IsSome, IfSome};
+ghost use Rattle.std.specs.Prelude.{IsOk, OnOk, OnErr, IsErrOf};
+ghost use Rattle.std.specs.Borrow.{sem, LendsBoth, LendsBothIf, Array};
+ghost use Rattle.std.specs.Option.{option_map};
 ghost use Rattle.triple_arena.specs.Changes.{IsExchanged};
 ghost use Rattle.triple_arena.specs.Entries.{value_if};
 
 use crate::ArenaTrait;
 use triple_arena_ptr::{GetDisjointMutError, PtrCore};
 
-/// The arenas in which the values of two entries change places.
+/// The arenas that lend two of their values at once, and in which two change places.
 pub trait DisjointableArenaTrait<P: PtrCore, T: Drop>: ArenaTrait<P, T> {
     // The arena with the values at two indexes exchanged, if both are live.
     ghost exchanged: { Self → ℕ → ℕ → Self };
@@ -20,6 +23,66 @@ pub trait DisjointableArenaTrait<P: PtrCore, T: Drop>: ArenaTrait<P, T> {
             (P.Inx.number i) (P.Inx.number j) self.old self.new }
         ensures exact { self.new ≡ exchanged self.old (P.Inx.number i) (P.Inx.number j) }
         ensures formed { Self.is_formed self.new };
+
+    /// The values at two indexes that are live, for writing. Afterwards these two are what was
+    /// written, and all else is as it was.
+    ///
+    /// The arena is lent as the one item of a slice, as `slice::from_mut` makes it.
+    fn lend_two(these: &mut [Self], i: P::Inx, j: P::Inx) -> (&mut T, &mut T)
+        requires one { length these.old ≡ 1 }
+        requires two { P.Inx.number i ≢ P.Inx.number j }
+        requires i_is_live { (a : Self) → these.old ≡ a ∷ []
+            → IsSome (Self.entry_at a (P.Inx.number i)) }
+        requires j_is_live { (a : Self) → these.old ≡ a ∷ []
+            → IsSome (Self.entry_at a (P.Inx.number j)) }
+        ensures* writes_back { sem 𝓛 (LendsBoth (Array Self.row 0) T.row T.row these.entry result
+            (λ x y. map (λ a. Self.with_value (Self.with_value a (P.Inx.number i) x)
+            (P.Inx.number j) y) these.old)) }
+        ensures values { (a : Self) → these.old ≡ a ∷ []
+            → (option_map (λ e. e.1) (Self.entry_at a (P.Inx.number i)) ≡ Some result.0.now)
+            × (option_map (λ e. e.1) (Self.entry_at a (P.Inx.number j)) ≡ Some result.1.now) };
+
+    /// Whether `p` and `q` point to two entries. It returns `IndexOutOfBounds` if one of them
+    /// points to none, and else `OverlappingIndices` if they are one.
+    final fn check_disjoint(&self, p: P, q: P) -> Result<(), GetDisjointMutError>
+        ensures variant { IsOk result
+            ↔ (IsSome (value_if (P.generation p) (Self.entry_at self.now (P.index p)))
+            × IsSome (value_if (P.generation q) (Self.entry_at self.now (P.index q)))
+            × (P.index p ≢ P.index q)) }
+        ensures overlapping { IsErrOf result GetDisjointMutError.OverlappingIndices
+            ↔ (IsSome (value_if (P.generation p) (Self.entry_at self.now (P.index p)))
+            × IsSome (value_if (P.generation q) (Self.entry_at self.now (P.index q)))
+            × (P.index p ≡ P.index q)) }
+    {
+        if !self.contains(p) || !self.contains(q) {
+            return Err(GetDisjointMutError::IndexOutOfBounds);
+        }
+        if p.inx() == q.inx() {
+            return Err(GetDisjointMutError::OverlappingIndices);
+        }
+        Ok(())
+    }
+
+    /// Whether two indexes are live and two. It returns `IndexOutOfBounds` if one of them is not
+    /// live, and else `OverlappingIndices` if they are one.
+    final fn check_disjoint_inx(&self, i: P::Inx, j: P::Inx) -> Result<(), GetDisjointMutError>
+        ensures variant { IsOk result
+            ↔ (IsSome (Self.entry_at self.now (P.Inx.number i))
+            × IsSome (Self.entry_at self.now (P.Inx.number j))
+            × (P.Inx.number i ≢ P.Inx.number j)) }
+        ensures overlapping { IsErrOf result GetDisjointMutError.OverlappingIndices
+            ↔ (IsSome (Self.entry_at self.now (P.Inx.number i))
+            × IsSome (Self.entry_at self.now (P.Inx.number j))
+            × (P.Inx.number i ≡ P.Inx.number j)) }
+    {
+        if self.get_inx(i).is_none() || self.get_inx(j).is_none() {
+            return Err(GetDisjointMutError::IndexOutOfBounds);
+        }
+        if i == j {
+            return Err(GetDisjointMutError::OverlappingIndices);
+        }
+        Ok(())
+    }
 
     /// Exchanges the values that `p` and `q` point to, as `swap_inx` does. It returns
     /// `IndexOutOfBounds` if one of them points to none, and else `OverlappingIndices` if they are
@@ -41,13 +104,63 @@ pub trait DisjointableArenaTrait<P: PtrCore, T: Drop>: ArenaTrait<P, T> {
     {
         // The arena is well-formed.
         let _ = self.len();
-        if !self.contains(p) || !self.contains(q) {
-            return Err(GetDisjointMutError::IndexOutOfBounds);
-        }
-        if p.inx() == q.inx() {
-            return Err(GetDisjointMutError::OverlappingIndices);
-        }
+        self.check_disjoint(p, q)?;
         self.swap_inx(p.inx(), q.inx());
         Ok(())
+    }
+}
+
+/// The values that `p` and `q` point to, for writing, if both point to one and they are two.
+/// Afterwards these two are what was written, and all else is as it was; without an answer nothing
+/// changes. `check_disjoint` tells which of the two fails.
+///
+/// The arena is lent as the one item of a slice, as `slice::from_mut` makes it.
+pub fn get_disjoint_mut<P: PtrCore, T: Drop, A: DisjointableArenaTrait<P, T>>(
+    these: &mut [A],
+    p: P,
+    q: P,
+) -> Option<(&mut T, &mut T)>
+    requires one { length these.old ≡ 1 }
+    ensures* writes_back { sem 𝓛 (LendsBothIf (Array A.row 0) T.row T.row these.entry result
+        (λ x y. map (λ a. A.with_value (A.with_value a (P.index p) x) (P.index q) y) these.old)
+        these.old) }
+    ensures variant { (a : A) → these.old ≡ a ∷ [] → IsSome result
+        ↔ (IsSome (value_if (P.generation p) (A.entry_at a (P.index p)))
+        × IsSome (value_if (P.generation q) (A.entry_at a (P.index q)))
+        × (P.index p ≢ P.index q)) }
+    ensures values { (a : A) → these.old ≡ a ∷ [] → IfSome result (λ r.
+        (value_if (P.generation p) (A.entry_at a (P.index p)) ≡ Some r.0.now)
+        × (value_if (P.generation q) (A.entry_at a (P.index q)) ≡ Some r.1.now)) }
+{
+    match these[0].check_disjoint(p, q) {
+        Ok(()) => Some(A::lend_two(these, p.inx(), q.inx())),
+        Err(_) => None,
+    }
+}
+
+/// The values at two indexes, for writing, if both are live and they are two. Afterwards these two
+/// are what was written, and all else is as it was; without an answer nothing changes.
+/// `check_disjoint_inx` tells which of the two fails, and `get_inx` the generations.
+///
+/// The arena is lent as the one item of a slice, as `slice::from_mut` makes it.
+pub fn get_disjoint_inx_mut<P: PtrCore, T: Drop, A: DisjointableArenaTrait<P, T>>(
+    these: &mut [A],
+    i: P::Inx,
+    j: P::Inx,
+) -> Option<(&mut T, &mut T)>
+    requires one { length these.old ≡ 1 }
+    ensures* writes_back { sem 𝓛 (LendsBothIf (Array A.row 0) T.row T.row these.entry result
+        (λ x y. map (λ a. A.with_value (A.with_value a (P.Inx.number i) x) (P.Inx.number j) y)
+        these.old) these.old) }
+    ensures variant { (a : A) → these.old ≡ a ∷ [] → IsSome result
+        ↔ (IsSome (A.entry_at a (P.Inx.number i)) × IsSome (A.entry_at a (P.Inx.number j))
+        × (P.Inx.number i ≢ P.Inx.number j)) }
+    ensures values { (a : A) → these.old ≡ a ∷ [] → IfSome result (λ r.
+        (option_map (λ e. e.1) (A.entry_at a (P.Inx.number i)) ≡ Some r.0.now)
+        × (option_map (λ e. e.1) (A.entry_at a (P.Inx.number j)) ≡ Some r.1.now)) }
+{
+    match these[0].check_disjoint_inx(i, j) {
+        Ok(()) => Some(A::lend_two(these, i, j)),
+        Err(_) => None,
     }
 }

@@ -24,6 +24,7 @@ ghost use Rattle.triple_arena.specs.Content.{grown_if_full, cleared, reallocated
 ghost use Rattle.triple_arena.specs.Recasting.{content_recasted};
 ghost use Rattle.triple_arena.specs.DirectContent.{DirectContent, live_entries as live_entries_of};
 ghost use Rattle.triple_arena.specs.Drains.{drained};
+ghost use Rattle.triple_arena.specs.IterMut.{with_values};
 ghost use Rattle.triple_arena.specs.LiveEntries.{live_entries};
 ghost use Rattle.triple_arena.specs.Recaster.{IsRecaster, IsRenaming};
 
@@ -68,13 +69,15 @@ pub fn writes_are_steps<P: PtrCore, T: Drop, A: ArenaTrait<P, T>>()
         A.live_entries P.Gen.last (write index value) arena (A.with_value arena index value) }
 {}
 
-/// What is done to an `Arena` and leaves each pointer is a step of a history too: a recast, the
-/// free slots put in order or taken from the end, a limit that is set, and the growth for a place
-/// that is let go.
+/// What is done to an `Arena` and leaves each pointer is a step of a history too: a recast, a loop
+/// that writes values, the free slots put in order or taken from the end, a limit that is set, and
+/// the growth for a place that is let go.
 pub fn what_keeps_pointers_is_a_step<I, P: PtrCore, T: Drop>()
     ensures recast { (items : T → List I) (image : I → Option I) (recasted : T → T)
         (arena : Content T) → Takes entry_at live_count some_counter (λ c. c.room) live_entries
         P.Gen.last keep arena (content_recasted items image recasted arena) }
+    ensures values { (arena : Content T) (values : List (Option T)) → Takes entry_at live_count
+        some_counter (λ c. c.room) live_entries P.Gen.last keep arena (with_values arena values) }
     ensures order { (arena : Content T) → Takes entry_at live_count some_counter (λ c. c.room)
         live_entries P.Gen.last keep arena (canonicalized arena) }
     ensures free_end { (arena : Content T) → Takes entry_at live_count some_counter (λ c. c.room)

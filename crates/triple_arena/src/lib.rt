@@ -54,19 +54,22 @@ mod direct_slot;
 mod disjointable_trait;
 mod drain;
 mod insert_trait;
+mod iter_mut;
 mod iterators;
 pub mod laws;
+mod lent_slots;
 mod optional_inx;
 mod part;
 mod slot;
 mod slots;
 mod stack_room;
 mod transfer;
+mod two_values;
 
 /// The advancers of the arenas, and the iterators of `Arena`.
 pub mod arena_iterators {
     pub use crate::advancer::PtrAdvancer;
-    use crate::{Arena, ArenaSlot, Whole, capacity_drain, drain, iterators};
+    use crate::{Arena, ArenaSlot, Whole, capacity_drain, drain, iter_mut, iterators};
 
     /// The entries of an arena, each taken out.
     pub type Drain<'a, P, T, S> = drain::Drain<'a, P, T, Arena<P, T, S>>;
@@ -83,6 +86,12 @@ pub mod arena_iterators {
     /// The values of an arena.
     pub type Vals<'a, P, T> = PartVals<'a, P, T, T, Whole>;
 
+    /// The pointers and the values of an arena, each value for writing.
+    pub type IterMut<'a, P, T> = iter_mut::IterMut<'a, P, T, ArenaSlot<P, T>>;
+
+    /// The values of an arena, each for writing.
+    pub type ValsMut<'a, P, T> = iter_mut::ValsMut<'a, P, T, ArenaSlot<P, T>>;
+
     /// The pointers of an arena, and of each value `V` the part `T` that `M` shows.
     pub type PartIter<'a, P, V, T, M> = iterators::Iter<'a, P, V, T, ArenaSlot<P, V>, M>;
 
@@ -93,7 +102,7 @@ pub mod arena_iterators {
 /// The advancer and the iterators of `DirectArena`.
 pub mod direct_iterators {
     pub use crate::advancer::PtrAdvancer;
-    use crate::{DirectArena, DirectSlot, Whole, capacity_drain, drain, iterators};
+    use crate::{DirectArena, DirectSlot, Whole, capacity_drain, drain, iter_mut, iterators};
 
     /// The entries of a direct arena, each taken out.
     pub type Drain<'a, P, T, S> = drain::Drain<'a, P, T, DirectArena<P, T, S>>;
@@ -109,6 +118,12 @@ pub mod direct_iterators {
 
     /// The values of a direct arena.
     pub type Vals<'a, P, T> = iterators::Vals<'a, P, T, T, DirectSlot<P, T>, Whole>;
+
+    /// The pointers and the values of a direct arena, each value for writing.
+    pub type IterMut<'a, P, T> = iter_mut::IterMut<'a, P, T, DirectSlot<P, T>>;
+
+    /// The values of a direct arena, each for writing.
+    pub type ValsMut<'a, P, T> = iter_mut::ValsMut<'a, P, T, DirectSlot<P, T>>;
 }
 
 pub use arena::{
@@ -124,7 +139,7 @@ pub use direct::{
 };
 pub use direct_insert_trait::{ArenaDirectInsertEntryTrait, ArenaDirectInsertTrait};
 pub use direct_slot::DirectSlot;
-pub use disjointable_trait::DisjointableArenaTrait;
+pub use disjointable_trait::{DisjointableArenaTrait, get_disjoint_inx_mut, get_disjoint_mut};
 pub use drain::Drain;
 pub use insert_trait::ArenaInsertTrait;
 pub use part::{Part, Whole};

@@ -11,6 +11,7 @@ ghost use Rattle.triple_arena.specs.Slot.{with_slot_generation};
 ghost use Rattle.triple_arena_stack.specs.Stack.{item_at, with_item};
 ghost use Rattle.triple_arena.specs.Entries.{value_if};
 
+use crate::lent_slots::{LentValue, SlotKey};
 use crate::optional_inx::OptionalInx;
 use std::marker::Model;
 use std::mem;
@@ -57,6 +58,21 @@ impl<G, T> ValueMut<T> for SlotState<G, T> {
         match self {
             SlotState::Used(_, value) => value,
             SlotState::Free(_, _) => unreached!(),
+        }
+    }
+}
+
+impl<G, T> LentValue<T> for SlotState<G, T> {
+    ghost use Rattle.triple_arena.specs.SlotState.{state_value, with_state_value};
+
+    ghost held = { state_value };
+
+    ghost with_held = { with_state_value };
+
+    fn value_mut_if(&mut self) -> Option<&mut T> {
+        match self {
+            SlotState::Used(_, value) => Some(value),
+            SlotState::Free(_, _) => None,
         }
     }
 }
@@ -276,6 +292,29 @@ impl<P: PtrCore, T> ValueMut<T> for ArenaSlot<P, T> {
 
     fn value_mut(&mut self) -> &mut T {
         self.state.value_mut()
+    }
+}
+
+impl<P: PtrCore, T> LentValue<T> for ArenaSlot<P, T> {
+    ghost held = { value_of };
+
+    ghost with_held = { with_slot_value };
+
+    fn value_mut_if(&mut self) -> Option<&mut T> {
+        self.state.value_mut_if()
+    }
+}
+
+impl<P: PtrCore, T> SlotKey<P::Gen> for ArenaSlot<P, T> {
+    ghost number_of = { P.Gen.number };
+
+    ghost key_number = { λ s. option_map (λ e. e.0) (entry_of s) };
+
+    fn slot_key(&mut self) -> Option<P::Gen> {
+        match &self.state {
+            SlotState::Used(generation, _) => Some(*generation),
+            SlotState::Free(_, _) => None,
+        }
     }
 }
 

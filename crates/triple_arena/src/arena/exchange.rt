@@ -7,6 +7,7 @@ ghost use Rattle.triple_arena.specs.Content.{IsWellFormed};
 
 use crate::arena::Arena;
 use crate::slot::exchange_values;
+use crate::two_values::lend_in_either_order;
 use crate::{ArenaSlots, DisjointableArenaTrait};
 use std::num::NonZeroUsize;
 use triple_arena_ptr::PtrCore;
@@ -26,6 +27,12 @@ impl<P: PtrCore, T: Drop, S: ArenaSlots<P, T>> DisjointableArenaTrait<P, T> for 
             }
             _ => unreached!(),
         }
+    }
+
+    fn lend_two(these: &mut [Self], i: P::Inx, j: P::Inx) -> (&mut T, &mut T) {
+        let first = these[0].slots_before(i);
+        let second = these[0].slots_before(j);
+        lend_in_either_order(these, first, second)
     }
 }
 

@@ -1,5 +1,5 @@
 //! What is found in an arena, and the lend of a value.
-ghost use Rattle.std.specs.Prelude.{◌≡◌, ◌↔◌, ℕ, IsSome, IfSome, Option, Some, ⊤};
+ghost use Rattle.std.specs.Prelude.{◌≡◌, ◌↔◌, ℕ, suc, IsSome, IfSome, Option, Some, ⊤};
 ghost use Rattle.std.specs.Borrow.{sem, Lends};
 ghost use Rattle.std.specs.Int.NonZero.{non_zero_usize_get};
 ghost use Rattle.std.specs.Option.{option_map};
@@ -11,6 +11,7 @@ use crate::slot::ValueMut;
 use crate::{ArenaSlots, ArenaTrait};
 use std::num::NonZeroUsize;
 use triple_arena_ptr::{PtrCore, PtrInxCore};
+use unreached::unreached;
 
 impl<P: PtrCore, T: Drop, S: ArenaSlots<P, T>> Arena<P, T, S> {
     // The index of the entry that `p` points to, if it is live.
@@ -32,6 +33,18 @@ impl<P: PtrCore, T: Drop, S: ArenaSlots<P, T>> Arena<P, T, S> {
                 None => None,
             },
             None => None,
+        }
+    }
+
+    // How many slots come before that of an index that is live.
+    pub(crate) fn slots_before(&self, inx: P::Inx) -> usize
+        requires live { IsSome (entry_at self.now (P.Inx.number inx)) }
+        requires no_more { ⊤ }
+        ensures { suc result ≡ P.Inx.number inx }
+    {
+        match self.live_inx(inx) {
+            Some(i) => i.get() - 1,
+            None => unreached!(),
         }
     }
 

@@ -7,6 +7,7 @@ ghost use Rattle.triple_arena.specs.DirectContent.{IsWellFormed};
 
 use crate::direct::DirectArena;
 use crate::slot::exchange_values;
+use crate::two_values::lend_in_either_order;
 use crate::{DirectSlots, DisjointableArenaTrait};
 use std::num::NonZeroUsize;
 use triple_arena_ptr::PtrCore;
@@ -28,6 +29,12 @@ impl<P: PtrCore, T: Drop, S: DirectSlots<P, T>> DisjointableArenaTrait<P, T>
             }
             _ => unreached!(),
         }
+    }
+
+    fn lend_two(these: &mut [Self], i: P::Inx, j: P::Inx) -> (&mut T, &mut T) {
+        let first = these[0].slots_before(i);
+        let second = these[0].slots_before(j);
+        lend_in_either_order(these, first, second)
     }
 }
 

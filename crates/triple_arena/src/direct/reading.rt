@@ -1,5 +1,5 @@
 //! What is found in a direct arena, and the lend of a value.
-ghost use Rattle.std.specs.Prelude.{◌≡◌, ◌↔◌, length, IsSome, IfSome, IsTrue, Option, Some};
+ghost use Rattle.std.specs.Prelude.{◌≡◌, ◌↔◌, suc, length, IsSome, IfSome, IsTrue, Option, Some, ⊤};
 ghost use Rattle.std.specs.Int.NonZero.{non_zero_usize_get};
 ghost use Rattle.std.specs.Option.{option_map};
 ghost use Rattle.triple_arena.specs.Entries.{pointer_at as pointer_of_entry};
@@ -11,6 +11,7 @@ use crate::slot::ValueMut;
 use crate::{ArenaTrait, DirectSlots};
 use std::num::NonZeroUsize;
 use triple_arena_ptr::{PtrCore, PtrInxCore};
+use unreached::unreached;
 
 impl<P: PtrCore, T: Drop, S: DirectSlots<P, T>> DirectArena<P, T, S> {
     // The index of the entry that `p` points to, if it is live.
@@ -49,6 +50,18 @@ impl<P: PtrCore, T: Drop, S: DirectSlots<P, T>> DirectArena<P, T, S> {
         match inx.try_into_usize() {
             Some(i) if self.is_live(i) => Some(i),
             _ => None,
+        }
+    }
+
+    // How many slots come before that of an index that is live.
+    pub(crate) fn slots_before(&self, inx: P::Inx) -> usize
+        requires live { IsSome (entry_at self.now (P.Inx.number inx)) }
+        requires no_more { ⊤ }
+        ensures { suc result ≡ P.Inx.number inx }
+    {
+        match self.live_inx(inx) {
+            Some(i) => i.get() - 1,
+            None => unreached!(),
         }
     }
 

@@ -1,0 +1,26 @@
+-- Two values of an arena that are written.
+use Rattle.std.specs.Prelude.{ℕ, zero, suc, List, [], ◌∷◌}
+use Rattle.triple_arena.specs.Content.{Content, with_value}
+use Rattle.triple_arena.specs.DirectContent.{DirectContent, with_value as with_direct_value}
+
+module _ {X : Type 0} where
+  -- the list with another item where so many come before it
+  abbrev pub changed_at : ℕ → (X → X) → List X → List X
+  changed_at n f [] = []
+  changed_at zero f (x ∷ xs) = f x ∷ xs
+  changed_at (suc n) f (x ∷ xs) = x ∷ changed_at n f xs
+
+-- the slots with other values in two of them
+abbrev pub written_both : {X T : Type 0} → (X → T → X) → List X → ℕ → ℕ → T → T → List X
+written_both with xs low high x y
+    = changed_at high (λ e. with e y) (changed_at low (λ e. with e x) xs)
+
+module _ {T : Type 0} where
+  -- the content with other values in two slots, each with so many before it
+  abbrev pub with_two_values : Content T → ℕ → ℕ → T → T → Content T
+  with_two_values c low high x y = with_value (with_value c (suc low) x) (suc high) y
+
+  -- the same of a direct arena
+  abbrev pub with_two_direct_values : DirectContent T → ℕ → ℕ → T → T → DirectContent T
+  with_two_direct_values d low high x y
+      = with_direct_value (with_direct_value d (suc low) x) (suc high) y
