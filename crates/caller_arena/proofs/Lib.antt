@@ -1,2 +1,3 @@
 pub mod MirrorLemmas
 pub mod ReuseLemmas
+mod WritingLemmas

@@ -1,9 +1,9 @@
 //! What callers know of an arena to which they give the pointers.
 ghost use Rattle.std.specs.Prelude.{◌≡◌, ◌+◌, ◌↔◌, Some, None, IsOk, OnOk, OnErr, IsErrOf, IsSome};
-ghost use Rattle.std.specs.Prelude.{IfSome, OnSome, IsTrue, false};
-ghost use Rattle.triple_arena_ptr.specs.InvalidationOption.{value_of, overflowed};
+ghost use Rattle.std.specs.Prelude.{IfSome, OnSome, false};
+ghost use Rattle.triple_arena_ptr.specs.InvalidationOption.{overflowed};
 ghost use Rattle.triple_arena_ptr.specs.InvalidationResult.{answer_of};
-ghost use Rattle.triple_arena.specs.DirectContent.{entry_at, get, live_count, inserted, removed};
+ghost use Rattle.triple_arena.specs.DirectContent.{entry_at, live_count, inserted, removed};
 ghost use Rattle.triple_arena.specs.DirectContent.{IsPlace};
 
 use triple_arena::{

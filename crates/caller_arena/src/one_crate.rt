@@ -1,5 +1,5 @@
 //! A caller at a known arena, whose code names `triple_arena` alone.
-ghost use Rattle.std.specs.Prelude.{◌≡◌, ℕ, ◌+◌, ◌<◌, OnOk, IfOk, IsOk, Some};
+ghost use Rattle.std.specs.Prelude.{◌≡◌, ◌+◌, ◌<◌, OnOk, IfOk, IsOk, Some};
 ghost use Rattle.triple_arena.specs.Content.{entry_at, live_count, arena_capacity, inserted};
 ghost use Rattle.triple_arena.specs.Content.{grown_if_full};
 
