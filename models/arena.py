@@ -103,6 +103,8 @@ def changes(arena, verb, x, y, z, w):
         'drain': lambda: arena.drain(x),
         'swap': lambda: [arena.swap(i, g, pointers.index(z), pointers.generation(w))],
         'swap_inx': lambda: [arena.swap_inx(i, pointers.index(y))],
+        'add_to_each': lambda: done(arena.add_to_first(x, len(arena.entries))),
+        'add_to_first': lambda: arena.add_to_first(x, y),
     }
     return simple[verb]() if verb in simple else None
 
@@ -403,6 +405,7 @@ READS = '''
 CHANGES = '''
     remove remove remove remove_inx remove_inx remove_inx remove_inx invalidate invalidate
     set set_inx set_inx_unwrap swap swap swap_inx compress_with reallocate_min_capacity
+    add_to_each add_to_first
 '''.split()
 OF_ARENAS = ['insert'] * 10 + ['insert_within_capacity', 'insert_reallocating'] * 3
 OF_ARENAS += ['entry_insert', 'entry_insert_reallocating', 'entry_insert_within_capacity'] * 2
@@ -459,6 +462,8 @@ class Random:
             words = [self.index(top)]
         elif verb == 'swap_inx':
             words = [self.index(top), self.index(top)]
+        elif verb in ('add_to_each', 'add_to_first'):
+            words = [self.random.randrange(1000), self.random.randrange(6)]
         elif verb in ('set_inx', 'set_inx_unwrap', 'walk_and_insert'):
             words = [self.index(top), self.random.randrange(1000)]
             words = words[::-1] if verb == 'walk_and_insert' else words

@@ -204,6 +204,17 @@ class AnyArena:
             self.exchange(i, j)
         return str(both).lower()
 
+    def add_to_first(self, number, count):
+        """The first values, so many of them, are greater by a number; the others stay.
+
+        It tells the pointers to these, and how many others there are.
+        """
+        live = self.indexes()
+        for j in live[:count]:
+            generation, value = self.entries[j]
+            self.entries[j] = (generation, (value + number) % 2**64)
+        return [self.pointer_text(j) for j in live[:count]] + [str(max(0, len(live) - count))]
+
     def exchange(self, i, j):
         """The values change places, and the generations stay."""
         (g, v), (h, w) = self.entries[i], self.entries[j]

@@ -5,6 +5,7 @@ use crate::any_arena;
 use crate::player::Player;
 use std::fmt::Debug;
 use test_kit::{Call, ShownPtr, Transcript, generation};
+use triple_arena::arena_iterators::{IterMut, ValsMut};
 use triple_arena::{
     Arena, ArenaInsertEntries, ArenaInsertEntryTrait, ArenaSlots, ArenaTrait, Ptr, PtrCore,
     PtrInxCore, ReallocationError,
@@ -140,9 +141,40 @@ fn changes<P: PtrCore + Debug, S: ArenaSlots<P, u64>>(
             arena.remove_free_end_slots();
             transcript.line(line);
         }
+        "add_to_each" => {
+            add_to_each(arena.vals_mut(), call);
+            transcript.line(line);
+        }
+        "add_to_first" => add_to_first(arena.iter_mut(), transcript, call),
         _ => return false,
     }
     true
+}
+
+// Adds the first number to each value.
+fn add_to_each<P: PtrCore>(values: ValsMut<'_, P, u64>, call: &Call<'_>) {
+    for value in values {
+        *value = value.wrapping_add(call.first);
+    }
+}
+
+// Adds the first number to so many of the first values as the second says. It tells their pointers,
+// and how many values are left, which stay.
+fn add_to_first<P: PtrCore + Debug>(
+    mut entries: IterMut<'_, P, u64>,
+    transcript: &mut Transcript,
+    call: &Call<'_>,
+) {
+    for _ in 0..call.second {
+        match entries.next() {
+            Some((p, value)) => {
+                *value = value.wrapping_add(call.first);
+                transcript.answer(call.line, &p);
+            }
+            None => break,
+        }
+    }
+    transcript.answer(call.line, &entries.len());
 }
 
 // Makes an insertion by an entry, and says whether there is one of that name.
