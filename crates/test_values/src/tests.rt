@@ -4,4 +4,5 @@ mod falling;
 mod links;
 mod pairs;
 mod rows;
+mod two_values;
 mod values;

@@ -2,7 +2,6 @@
 //!
 //! A test names a pointer type and a stack. What it calls is generic in both, which is proved in
 //! far less time.
-ghost use Rattle.std.specs.Prelude.{◌≡◌};
 
 use crate::tests::calls::{put_in, store};
 use crate::tests::values::shows;
