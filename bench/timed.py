@@ -34,7 +34,7 @@ PROGRAMS = {
     'store': [('RouteBook', 'own', [], 0), ('plain', 'plain', [], 0)],
 }
 OPERATIONS = {
-    'arena': ['insert', 'find', 'remove', 'churn', 'walk'],
+    'arena': ['insert', 'find', 'remove', 'churn', 'walk', 'rewrite'],
     'chains': ['insert', 'remove', 'walk', 'canonical_walk'],
     'ord': ['insert', 'find', 'remove', 'cancel', 'walk', 'canonical_find', 'canonical_walk'],
     'store': ['places', 'all', 'churn', 'refused'],

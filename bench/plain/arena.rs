@@ -104,6 +104,14 @@ impl<T> Arena<T> {
             })
     }
 
+    /// The values, for writing, in the order of the indexes.
+    pub fn values_mut(&mut self) -> impl Iterator<Item = &mut T> {
+        self.slots.iter_mut().filter_map(|slot| match slot {
+            Slot::Used(_, value) => Some(value),
+            Slot::Free(_) => None,
+        })
+    }
+
     pub fn remove(&mut self, pointer: Pointer) -> Option<T> {
         self.get(pointer)?;
         self.remove_inx(pointer)

@@ -38,6 +38,10 @@ impl<T> Arena<T> {
         self.0.iter().map(|(key, value)| (Pointer(key), value))
     }
 
+    pub fn values_mut(&mut self) -> impl Iterator<Item = &mut T> {
+        self.0.values_mut()
+    }
+
     /// `slotmap` has no removal by an index, so this is one by the key.
     pub fn remove_inx(&mut self, pointer: Pointer) -> Option<T> {
         self.0.remove(pointer.0)

@@ -14,6 +14,11 @@ pub trait Entries {
     /// A checksum of the values in their order.
     fn walk(&self, laps: &mut Laps) -> u64;
 
+    /// Writes each value, in their order: a checksum of what is written.
+    fn rewrite(&mut self, _laps: &mut Laps) -> u64 {
+        0
+    }
+
     fn renumber(&mut self);
 }
 
@@ -129,8 +134,9 @@ fn filled<T: Entries>(
         "find" => Some(go::<T, FIND>(entries, laps, len, steps)),
         "remove" => Some(go::<T, REMOVE>(entries, laps, len, steps)),
         "churn" => Some(go::<T, CHURN>(entries, laps, len, steps)),
-        "walk" if steps == 0 => Some(0),
+        "walk" | "rewrite" if steps == 0 => Some(0),
         "walk" => Some(entries.walk(laps)),
+        "rewrite" => Some(entries.rewrite(laps)),
         _ => None,
     }
 }
