@@ -19,4 +19,4 @@ pub use insertions::{
 };
 pub use layout::compress_canonical;
 pub use removals::remove;
-pub use searches::{find_key_counted, find_key_linear_counted};
+pub use searches::{bounds_of_small_arenas, find_key_counted, find_key_linear_counted};

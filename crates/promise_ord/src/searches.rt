@@ -12,6 +12,15 @@ ghost use Rattle.triple_arena_ord.specs.Ordered.{asked_at};
 use triple_arena::PtrCore;
 use triple_arena_ord::{OrdSlots, Probes, SimpleOrdArena, SimpleOrdItem};
 
+/// The most comparisons of a search among 1, 2, 3, 4 and 7 entries.
+pub fn bounds_of_small_arenas()
+    ensures one { most_comparisons 1 ≡ 1 }
+    ensures two { most_comparisons 2 ≡ 2 }
+    ensures three { most_comparisons 3 ≡ 3 }
+    ensures four { most_comparisons 4 ≡ 3 }
+    ensures seven { most_comparisons 7 ≡ 5 }
+{}
+
 /// Finds an entry with an equal key; in a list whose keys ascend, exactly if there is one. Each
 /// comparison is a tick.
 pub fn find_key_counted<P: PtrCore, T: SimpleOrdItem + Drop, S: OrdSlots<P, T>>(
