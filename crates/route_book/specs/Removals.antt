@@ -47,8 +47,8 @@ kind_of (stop v) = OfStop
 kind_of (mark m) = OfMark
 
 module _ {I : Type 0} where
-  -- a place has ended: its arena's counter is one up, its index is free as one removal leaves it,
-  -- and stops and marks are as they were, with their references
+  -- a place has ended: its arena's counter is one up, the free indexes and the slots are as one
+  -- removal leaves them, and stops and marks are as they were, with their references
   pub record IsPlaceEnded (last : Option ℕ) (t : ℕ) (old new : Book I) : Type 0 where
     pub counter : new.places.chains.counter ≡ old.places.chains.counter + 1
     pub slot : LosesSlot last old.places.chains new.places.chains

@@ -1,6 +1,7 @@
 -- A search along the list of an ordered arena.
 use Rattle.std.proofs.Common.{◌≡◌, ◌≢◌, ℕ, ◌+◌, ◌≤◌, List, [], ◌∷◌, filter_map, Option, Some, None}
-use Rattle.std.proofs.Common.{IsSome, IfSome, if◌then◌else◌, is_some, true, false, inl, inr, refl, sym, ap}
+use Rattle.std.proofs.Common.{IsSome, IfSome, if◌then◌else◌, is_some, true, false, inl, inr, refl}
+use Rattle.std.proofs.Common.{sym, ap}
 use Rattle.std.proofs.Common.{◌∙◌, subst, arith}
 use Rattle.std.specs.Option.{option_map}
 use Rattle.std.proofs.lemmas.Bool.Decides.{eqb_tells}

@@ -103,7 +103,7 @@ pub(crate) fn pack_if<P: PtrCore, B: BookBacking<P>>(
 
 impl<P: PtrCore, B: BookBacking<P>> RouteBook<P, B> {
     /// Moves all items to the first indexes: places in the order of their keys, the stops of a
-    /// route one after another. No index before the last is free then.
+    /// route one after another. No index is free then.
     ///
     /// Each stored reference is looked at once; one to an item that has ended is `Gone` from then
     /// on. All items have the second generation then, and pointers into the arenas may find
