@@ -1,10 +1,10 @@
-"""store_lines.py places|all|churn|pack|refused LINES: lines for the store, the same each time.
+"""store_lines.py places|all|churn|pack LINES: lines for the store, the same each time.
 
 `places` has the lines on places alone: a new place, at a key that is there another word or one more
 place, look-ups, and `all` once, at the end. `all` has routes, marks and removals too: routes are
 short, so that walks cost as much at each size. `churn` puts in places, stops and marks, and once as
 many live as a quarter of the lines, a removal follows each. `pack` is `churn` with that line behind
-it. `refused` has lines that spell no command: they are read and answered, and nothing is done.
+it.
 """
 import random
 import sys
@@ -143,11 +143,6 @@ def packed(pick, lines):
     yield 'pack'
 
 
-def refused(pick, lines):
-    for _ in range(lines):
-        yield f'plays {pick.randrange(lines)}'
-
-
 if __name__ == '__main__':
     kind, count = sys.argv[1], int(sys.argv[2])
     kinds = {
@@ -155,7 +150,6 @@ if __name__ == '__main__':
         'all': everything,
         'churn': churn,
         'pack': packed,
-        'refused': refused,
     }
     made = kinds[kind](random.Random(count), count)
     sys.stdout.write(''.join(line + '\n' for line in made))

@@ -1,9 +1,10 @@
-"""timed.py time|leaps LAYER BUILD: measures the programs of a layer that bench/run put into BUILD.
+"""timed.py time|leaps|plot LAYER BUILD: measures the programs that bench/run put into BUILD.
 
-`time` runs the programs in turn. Each prints what every thousand steps took; of each thousand the
-least of all passes is taken, and the sum is shared among the steps. A program over the store is
-timed as a whole, by its processor time. `leaps` reads the trace of each program, of one size. A
-different checksum or reply ends it.
+`time` runs a layer's programs in turn. Each prints what every thousand steps took; of each thousand
+the least of all passes is taken, and the sum is shared among the steps. A program over the store is
+timed as a whole, by its processor time. What it prints are tables of Markdown, one for each peer.
+`leaps` reads the trace of each program, of one size. `plot` times some operations of each layer,
+whose programs lie in a folder of BUILD, for plot.py. A different checksum or reply ends it.
 """
 import os
 import pathlib
@@ -12,32 +13,58 @@ import sys
 
 # So many entries or lines, so many runs of each program, and so many passes in a run, where each
 # fills anew. A run over the store is one pass.
-SIZES = {10_000: (8, 3), 100_000: (5, 2), 1_000_000: (3, 1)}
+SIZES = {10_000: (20, 5), 100_000: (16, 3), 1_000_000: (6, 1)}
+PLOTTED = {1_000: (10, 10), 10_000: (8, 5), 100_000: (6, 3), 1_000_000: (3, 1)}
+# No pass gives pages back to the system, so that only the first one meets fresh pages: whether a
+# C library does so by itself turns on the sizes of the vectors, and not on what is measured.
+KEPT = 4_000_000_000
+PLACE = os.environ | {
+    'GLIBC_TUNABLES': f'glibc.malloc.mmap_threshold={KEPT}:glibc.malloc.trim_threshold={KEPT}'
+}
 # As many for leaps, of which each run takes half a minute.
 TRACED = 50_000
 
-# By layer: the title, the program, its first words, and how many bytes an entry has in the table of
-# what finds it. Ratios are of the first program to each other. One that is not built is left out.
+# By layer: our type, and then the title, the program, its first words, and how many bytes an entry
+# has in the table of what finds it. The first two are ours. What is not built is left out.
+OURS = {'arena': 'Arena', 'chains': 'ChainArena', 'ord': 'SimpleOrdArena', 'store': 'RouteBook'}
+
+
+def ours(*words):
+    return [('over `P3`', 'p3', [*words], 8), ('over `P0`', 'p0', [*words], 16)]
+
+
 PROGRAMS = {
     'arena': [
-        ('Arena', 'own', ['timed-arena'], 16),
-        ('SlotMap', 'slotmap', ['timed'], 8),
-        ('by hand', 'plain', ['timed'], 16),
+        *ours('timed-arena'),
+        ('`SlotMap`', 'slotmap', ['timed'], 8),
+        ("an arena by hand with `P0`'s pointers", 'plain', ['timed'], 16),
     ],
-    'chains': [('ChainArena', 'own', ['timed-chains'], 16), ('slab', 'plain', ['timed'], 8)],
+    'chains': [*ours('timed-chains'), ('a slab by hand', 'plain', ['timed'], 8)],
     'ord': [
-        ('OrdArena', 'own', ['timed-ord'], 16),
-        ('BTreeMap', 'plain', ['timed', 'map'], 0),
-        ('with slab', 'plain', ['timed', 'slab'], 8),
-        ('std::map', 'std_map', [], 8),
+        *ours('timed-ord'),
+        ('`BTreeMap`', 'plain', ['timed', 'map'], 0),
+        ('`BTreeMap` with a slab', 'plain', ['timed', 'slab'], 8),
+        ('`std::map`', 'std_map', [], 8),
     ],
-    'store': [('RouteBook', 'own', [], 0), ('plain', 'plain', [], 0)],
+    'store': [*ours(), ('the plain store', 'plain', [], 0)],
 }
 OPERATIONS = {
     'arena': ['insert', 'find', 'remove', 'churn', 'walk', 'rewrite'],
     'chains': ['insert', 'remove', 'walk', 'canonical_walk'],
     'ord': ['insert', 'find', 'remove', 'cancel', 'walk', 'canonical_find', 'canonical_walk'],
-    'store': ['places', 'all', 'churn', 'refused'],
+    'store': ['places', 'all', 'churn'],
+}
+NAMES = {
+    'canonical_walk': 'walk, renumbered',
+    'canonical_find': 'find, renumbered',
+    'all': 'any kind',
+}
+# What is drawn.
+DRAWN = {
+    'arena': ['find', 'remove'],
+    'chains': ['remove', 'walk'],
+    'ord': ['find', 'insert'],
+    'store': ['places', 'all'],
 }
 # What is traced: a trace is slow, and these wait for memory most.
 TRACES = {
@@ -48,13 +75,37 @@ TRACES = {
 }
 # The nodes of a `std::map` stay where they are. A `BTreeMap` has no other reference to an entry
 # than its key, and so `cancel` has a slab beside it, which is there for that alone.
-NEVER = {('BTreeMap', 'cancel')}
-NEVER |= {('with slab', it) for it in OPERATIONS['ord'] if it != 'cancel'}
-NEVER |= {('std::map', it) for it in ('canonical_find', 'canonical_walk')}
+NEVER = {('`BTreeMap`', 'cancel')}
+NEVER |= {('`BTreeMap` with a slab', it) for it in OPERATIONS['ord'] if it != 'cancel'}
+NEVER |= {('`std::map`', it) for it in ('canonical_find', 'canonical_walk')}
 
 
 def shown(number):
     return f'{number:.1f}' if number < 100 else f'{number:.0f}'
+
+
+class Times:
+    """What the runs of a program took: the least of all, and of each half of them."""
+
+    def __init__(self):
+        self.halves = [None, None]
+
+    def add(self, at, times):
+        known = self.halves[at % 2]
+        self.halves[at % 2] = times if known is None else list(map(min, known, times))
+
+    def step(self, steps):
+        return sum(map(min, self.halves[0], self.halves[1] or self.halves[0])) / steps
+
+    def half(self, at):
+        return sum(self.halves[at] or self.halves[0])
+
+
+def ratio(own, peer, steps):
+    """A ratio, to two digits where those of both halves of the runs are within a twentieth."""
+    first, second = (own.half(at) / peer.half(at) for at in range(2))
+    value = own.step(steps) / peer.step(steps)
+    return f'{value:.2f}' if abs(first - second) < 0.05 else f'{value:.1f}'
 
 
 class Layer:
@@ -73,7 +124,9 @@ class Layer:
     def run(self, program, operation, entries, passes):
         """The least that each thousand steps took in the passes of a run, and the checksum."""
         command = self.command(program, operation, entries, entries, passes)
-        said = subprocess.run(command, check=True, capture_output=True, text=True).stdout
+        said = subprocess.run(
+            command, check=True, capture_output=True, text=True, env=PLACE
+        ).stdout
         *times, checksum = said.split()
         pieces = entries // 1000
         if len(times) != pieces * passes:
@@ -81,17 +134,17 @@ class Layer:
         return [min(int(it) for it in times[at::pieces]) for at in range(pieces)], checksum
 
     def timed(self, operation, entries, runs, passes):
-        """Nanoseconds a step of each program."""
-        best = {}
-        for _ in range(runs):
+        """The times of each program."""
+        best = {program[0]: Times() for program in self.does(operation)}
+        for at in range(runs):
             checksums = set()
             for program in self.does(operation):
                 times, checksum = self.run(program, operation, entries, passes)
                 checksums.add(checksum)
-                best[program[0]] = list(map(min, times, best.get(program[0], times)))
+                best[program[0]].add(at, times)
             if len(checksums) > 1:
                 sys.exit(f'bench/run: the programs answer {operation} {entries} differently')
-        return {title: sum(times) / entries for title, times in best.items()}
+        return best
 
     def bytes_of(self, program):
         """How the greatest resident size grows from one million entries to two, less the table."""
@@ -102,26 +155,38 @@ class Layer:
             sizes.append(os.wait4(child.pid, 0)[2].ru_maxrss)
         return (sizes[1] - sizes[0]) * 1024 / 1_000_000 - program[3]
 
-    def row(self, operation, entries, of):
-        own, *peers = self.titles
-        cells = [f'{shown(of[it]) if it in of else "":>11}' for it in self.titles]
-        ratios = [f'{of[own] / of[it]:.2f}' if it in of and own in of else '' for it in peers]
-        cells += [f'{it:>13}' for it in ratios]
-        print(f'{operation:<16}{entries:>9,}', *cells, sep='', flush=True)
+    def tables(self, rows, names):
+        """A table for each peer: ours over both pointers, the peer, and the ratios to it.
 
-    def head(self, words):
-        cells = [f'{it:>11}' for it in self.titles]
-        cells += [f'{"to " + it:>13}' for it in self.titles[1:]]
-        print(f'{words:<25}', *cells, sep='', flush=True)
+        `rows` has by operation the times of each size, by title.
+        """
+        own = self.titles[:2]
+        for peer in self.titles[2:]:
+            head = [f'`{OURS[self.name]}`, to {peer}', *own, 'peer', *(f'ratio {it}' for it in own)]
+            print('\n|', ' | '.join(head), '|')
+            print('|' + '---|' * len(head))
+            for operation, sizes in rows.items():
+                if (peer, operation) in NEVER:
+                    continue
+                cells = ['; '.join(shown(of[it].step(at)) for at, of in sizes.items())
+                         for it in (*own, peer)]
+                cells += ['; '.join(ratio(of[it], of[peer], at) for at, of in sizes.items())
+                          for it in own]
+                print('|', ' | '.join([names.get(operation, operation), *cells]), '|')
+            yield peer
 
     def time(self):
-        self.head('ns a step, entries')
+        rows = {}
         for operation in OPERATIONS[self.name]:
-            for entries, turns in SIZES.items():
-                self.row(operation, entries, self.timed(operation, entries, *turns))
-        print()
-        self.head('bytes an entry')
-        self.row('', 1_000_000, {program[0]: self.bytes_of(program) for program in self.programs})
+            rows[operation] = {
+                entries: self.timed(operation, entries, *turns) for entries, turns in SIZES.items()
+            }
+            print(operation, 'is measured', file=sys.stderr, flush=True)
+        sizes = {program[0]: self.bytes_of(program) for program in self.programs}
+        for peer in self.tables(rows, NAMES):
+            of = [sizes[it] for it in (*self.titles[:2], peer)]
+            cells = [f'{it:.1f}' for it in of] + [f'{it / of[2]:.2f}' for it in of[:2]]
+            print('| bytes an entry |', ' | '.join(cells), '|', flush=True)
 
 
 class Store(Layer):
@@ -148,33 +213,31 @@ class Store(Layer):
         """The nanoseconds of processor time that a run over a file takes."""
         command = self.command(program, count)
         with open(path) as file:
-            child = subprocess.Popen(command, stdin=file, stdout=subprocess.DEVNULL)
+            child = subprocess.Popen(command, stdin=file, stdout=subprocess.DEVNULL, env=PLACE)
             used = os.wait4(child.pid, 0)[2]
         return (used.ru_utime + used.ru_stime) * 1e9
 
     def timed(self, kind, count, runs, passes):
-        """Nanoseconds a line of each program, less those of a run over no line."""
-        path, best = self.lines(kind, count), {}
-        for _ in range(runs * passes):
+        """The times of each program over lines, less the least over no line."""
+        path, titles = self.lines(kind, count), self.titles
+        taken = {program[0]: Times() for program in self.programs}
+        empty = {program[0]: Times() for program in self.programs}
+        for at in range(runs * passes):
             for program in self.programs:
-                for which in (path, os.devnull):
-                    taken = self.run(program, count, which)
-                    best[program[0], which] = min(taken, best.get((program[0], which), taken))
-        return {it: (best[it, path] - best[it, os.devnull]) / count for it in self.titles}
+                taken[program[0]].add(at, [self.run(program, count, path)])
+                empty[program[0]].add(at, [self.run(program, count, os.devnull)])
+        for title in titles:
+            less = empty[title].step(1)
+            taken[title].halves = [[it[0] - less] if it else None for it in taken[title].halves]
+        return taken
 
     def time(self):
-        self.head('ns a line, lines')
-        of = {}
+        rows = {}
         for kind in OPERATIONS[self.name]:
-            for count, turns in SIZES.items():
-                of[kind, count] = self.timed(kind, count, *turns)
-                self.row(kind, count, of[kind, count])
-        print()
-        self.head('the same, less `refused`')
-        for kind in OPERATIONS[self.name][:-1]:
-            for count in SIZES:
-                less = of['refused', count]
-                self.row(kind, count, {it: of[kind, count][it] - less[it] for it in self.titles})
+            rows[kind] = {count: self.timed(kind, count, *turns) for count, turns in SIZES.items()}
+            print(kind, 'is measured', file=sys.stderr, flush=True)
+        for _ in self.tables(rows, NAMES):
+            pass
 
 
 class Traces:
@@ -201,9 +264,9 @@ class Traces:
         return self.known[key]
 
     def row(self, operation):
-        """What a step or a line takes in the first two programs."""
+        """What a step or a line takes over `P3`, over `P0` and in the first peer."""
         layer, row = self.layer, []
-        for program in layer.programs[:2]:
+        for program in layer.programs[:3]:
             if isinstance(layer, Store):
                 command = layer.command(program, TRACED)
                 whole, less = self.of(command, layer.lines(operation, TRACED)), self.of(command)
@@ -217,23 +280,39 @@ class Traces:
         return row
 
     def show(self):
-        words = f'a step, of {TRACED:,}'
-        print(f'{words:<25}{"instructions":>24}{"ratio":>8}{"leaps":>16}{"ratio":>8}')
+        titles = [f'{what}, {it.strip("`")}' for what in ('instructions', 'leaps')
+                  for it in ('P3', 'P0', self.layer.titles[2])]
+        print(f'{f"a step, of {TRACED:,}":<20}', *(f'{it:>26}' for it in titles), sep='')
         for operation in TRACES[self.layer.name]:
-            (own, own_leaps), (peer, peer_leaps) = self.row(operation)
-            leaps = f'{own_leaps:>8.2f}{peer_leaps:>8.2f}'
-            if peer_leaps > 0.05:
-                leaps += f'{own_leaps / peer_leaps:>8.2f}'
-            print(f'{operation:<25}{own:>12.1f}{peer:>12.1f}{own / peer:>8.2f}{leaps}', flush=True)
+            row = self.row(operation)
+            cells = [f'{it[0]:>26.1f}' for it in row] + [f'{it[1]:>26.2f}' for it in row]
+            print(f'{operation:<20}', *cells, sep='', flush=True)
+
+
+def plot(build):
+    """A line for each layer, operation and program: the sizes and the times of a step."""
+    for name, operations in DRAWN.items():
+        layer = layer_of(name, pathlib.Path(build) / name)
+        for operation in operations:
+            sizes = {at: layer.timed(operation, at, *turns) for at, turns in PLOTTED.items()}
+            for title in next(iter(sizes.values())):
+                steps = [f'{at}:{of[title].step(at):.1f}' for at, of in sizes.items()]
+                print(OURS[name], NAMES.get(operation, operation), title, *steps, sep='\t',
+                      flush=True)
+
+
+def layer_of(name, build):
+    return (Store if name == 'store' else Layer)(name, build)
 
 
 def main():
     way, name, build = sys.argv[1:]
-    layer = (Store if name == 'store' else Layer)(name, build)
-    if way == 'leaps':
-        Traces(layer).show()
+    if way == 'plot':
+        plot(build)
+    elif way == 'leaps':
+        Traces(layer_of(name, build)).show()
     else:
-        layer.time()
+        layer_of(name, build).time()
 
 
 main()

@@ -236,6 +236,7 @@ impl Entries for Numbered {
         timed::walk(self.arena.iter().map(|(_, value)| *value), laps)
     }
 
+    #[inline(never)]
     fn rewrite(&mut self, laps: &mut timed::Laps) -> u64 {
         let written = self.arena.values_mut().map(|value| {
             *value = value.wrapping_add(1);

@@ -30,10 +30,14 @@ struct Laps {
         return PIECE;
     }
 
-    size_t step(size_t left) {
-        if (left > 1) return left - 1;
+    void lap() {
         auto time = std::chrono::duration_cast<std::chrono::nanoseconds>(Clock::now() - begin);
         times.push_back(time.count());
+    }
+
+    size_t step(size_t left) {
+        if (left > 1) return left - 1;
+        lap();
         return start();
     }
 };
@@ -64,15 +68,44 @@ struct Numbered {
     }
 };
 
-// Calls `step` with each number and with one of a far order; what it answers goes into a checksum.
+// What goes from step to step.
+struct Pace {
+    size_t len, stride, far;
+};
+
+// The steps between two looks at the clock, a function of their own as in `timed.rs`. Each calls
+// `step` with its number and with one of a far order; what it answers goes into a checksum.
 template <typename Step>
-static uint64_t go(Laps &laps, size_t len, size_t steps, Step step) {
-    size_t stride = len == 0 ? 0 : FAR % len, far = 0, left = laps.start();
-    uint64_t sum = 0;
-    for (size_t n = 0; n < steps; n++) {
+[[gnu::noinline]] static uint64_t piece(Pace &pace, size_t start, size_t end, uint64_t sum,
+                                        Step step) {
+    size_t len = pace.len, stride = pace.stride, far = pace.far;
+    for (size_t n = start; n < end; n++) {
         sum = sum * 31 + step(n, far);
         far += stride;
         if (far >= len) far -= len;
+    }
+    pace.far = far;
+    return sum;
+}
+
+template <typename Step>
+static uint64_t go(Laps &laps, size_t len, size_t steps, Step step) {
+    Pace pace = {len, len == 0 ? 0 : FAR % len, 0};
+    uint64_t sum = 0;
+    for (size_t done = 0; done < steps; done += PIECE) {
+        size_t end = done + PIECE < steps ? done + PIECE : steps;
+        laps.start();
+        sum = piece(pace, done, end, sum, step);
+        laps.lap();
+    }
+    return sum;
+}
+
+[[gnu::noinline]] static uint64_t walk(Laps &laps, const Map &map) {
+    uint64_t sum = 0;
+    size_t left = laps.start();
+    for (auto &entry : map) {
+        sum = sum * 31 + entry.second;
         left = laps.step(left);
     }
     return sum;
@@ -104,14 +137,7 @@ static uint64_t pass(Laps &laps, const std::string &operation, size_t len, size_
             return value;
         });
     }
-    if (operation == "walk" && steps > 0) {
-        size_t left = laps.start();
-        for (auto &entry : entries.map) {
-            sum = sum * 31 + entry.second;
-            left = laps.step(left);
-        }
-    }
-    return sum;
+    return operation == "walk" && steps > 0 ? walk(laps, entries.map) : sum;
 }
 
 int main(int count, char **words) {

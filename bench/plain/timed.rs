@@ -156,17 +156,50 @@ fn go<T: Entries, const OPERATION: usize>(
     len: usize,
     steps: usize,
 ) -> u64 {
-    let stride = if len == 0 { 0 } else { FAR % len };
-    let mut far = 0;
-    let mut sequence = Sequence::new();
+    let mut pace = Pace {
+        len,
+        stride: if len == 0 { 0 } else { FAR % len },
+        far: 0,
+        sequence: Sequence::new(),
+    };
     let mut sum = 0;
-    let mut left = laps.start();
-    for n in 0..steps {
+    let mut done = 0;
+    while done < steps {
+        let end = steps.min(done + PIECE);
+        laps.start();
+        sum = piece::<T, OPERATION>(entries, &mut pace, done, end, sum);
+        laps.lap();
+        done = end;
+    }
+    sum
+}
+
+/// What goes from step to step.
+struct Pace {
+    len: usize,
+    stride: usize,
+    far: usize,
+    sequence: Sequence,
+}
+
+/// The steps between two looks at the clock. They are a function of their own, so that what they
+/// count stays in registers.
+#[inline(never)]
+fn piece<T: Entries, const OPERATION: usize>(
+    entries: &mut T,
+    pace: &mut Pace,
+    start: usize,
+    end: usize,
+    sum: u64,
+) -> u64 {
+    let Pace { len, stride, mut far, .. } = *pace;
+    let mut sum = sum;
+    for n in start..end {
         let value = match OPERATION {
             INSERT => entries.put(n),
             FIND => entries.read(far),
             REMOVE => entries.take(far),
-            _ => churn(entries, &mut sequence, len),
+            _ => churn(entries, &mut pace.sequence, len),
         };
         if let Some(value) = value {
             sum = with(sum, value);
@@ -175,8 +208,8 @@ fn go<T: Entries, const OPERATION: usize>(
         if far >= len {
             far -= len;
         }
-        left = laps.step(left);
     }
+    pace.far = far;
     sum
 }
 
@@ -193,6 +226,7 @@ fn churn<T: Entries>(entries: &mut T, sequence: &mut Sequence, len: usize) -> Op
 }
 
 /// The checksum of values that are gone over.
+#[inline(never)]
 pub fn walk(values: impl Iterator<Item = u64>, laps: &mut Laps) -> u64 {
     let mut sum = 0;
     let mut left = laps.start();
