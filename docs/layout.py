@@ -16,7 +16,7 @@ ARENA = (
     [],
 )
 CHAIN = (
-    '`ChainArena`: a value with the indexes of its neighbors; here the list elm, fir, oak and a ring',
+    '`ChainArena`: a value with the indexes of its neighbors: the list elm, fir, oak and a ring',
     ['generation', 'value', 'previous, next'],
     [
         ('2', '"fir"', '4, 3'),
@@ -29,7 +29,7 @@ CHAIN = (
     [(3, 0), (0, 2), (1, 1)],
 )
 TREE = (
-    '`SimpleOrdArena`: a chain in the order of the keys, whose values are the nodes of a tree over it',
+    '`SimpleOrdArena`: a chain in the order of the keys, with the nodes of a tree over it',
     ['generation', 'previous, next', 'parent, rank', 'children', 'key, value'],
     [
         ('2', '3, 2', 'none, 2', '3, 2', '20, "elm"'),
