@@ -41,3 +41,8 @@ option_items items (Some x) = items x
 abbrev pub option_recasted : {X : Type 0} → (X → X) → Option X → Option X
 option_recasted recasted None = None
 option_recasted recasted (Some x) = Some (recasted x)
+
+-- the image of an item that there may be, and none where it has none
+abbrev pub image_of : {I : Type 0} → (I → Option I) → Option I → Option I
+image_of f None = None
+image_of f (Some x) = f x

@@ -17,7 +17,8 @@
 //!   removals there are.
 //! - [`Advancer`] goes over a collection that may change on the way; [`nzusize_iter`] goes over
 //!   indexes.
-//! - [`Recast`] renames the pointers that a value holds, by a [`Recaster`].
+//! - [`Recast`] renames the pointers that a value holds, by a [`Recaster`]. A [`PtrOrNone`] is one
+//!   that a recast makes none if it has ended.
 //! - [`at_index_of`] gives the pointer of another type with the same index.
 //! - [`Probes`] counts, as comparisons; contracts see a number without bound.
 //! - [`InvalidationOption`], [`InvalidationResult`] and the error types are what the arenas' calls
@@ -69,6 +70,7 @@ mod pointer_text;
 mod probes;
 mod ptr;
 mod ptr_no_gen;
+mod ptr_or_none;
 mod ptr_types;
 mod recast;
 mod same_index;
@@ -87,6 +89,7 @@ pub use pointer_text::fmt_pointer;
 pub use probes::Probes;
 pub use ptr::{Ptr, PtrCore, PtrGen, PtrGenCore, PtrInx, PtrInxCore};
 pub use ptr_no_gen::PtrNoGen;
+pub use ptr_or_none::PtrOrNone;
 pub use ptr_types::{P0, P1, P2, P3, P4, P5, Q2};
 pub use recast::{Recast, Recaster};
 pub use same_index::at_index_of;

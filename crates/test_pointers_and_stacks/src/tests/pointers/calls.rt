@@ -5,8 +5,8 @@ ghost use Rattle.triple_arena_ptr.specs.Recast.{renamed};
 use std::num::NonZeroUsize;
 use std::test::Fail;
 use triple_arena_ptr::{
-    Advancer, InvalidationOption, InvalidationResult, P0, PtrCore, PtrGenCore, PtrInxCore, Recast,
-    Recaster, nzusize_iter,
+    Advancer, InvalidationOption, InvalidationResult, P0, PtrCore, PtrGenCore, PtrInxCore,
+    PtrOrNone, Recast, Recaster, nzusize_iter,
 };
 
 // The items that generic code finds after a recast.
@@ -52,6 +52,18 @@ fn recasts_up_to_the_first_that_is_missing(rt: HostRuntime) -> Result<(), Fail> 
     let mut value = ((old, new), old);
     assert!(rt; value.recast(&renaming) == Err(new));
     assert!(rt; value == ((new, new), old));
+    Ok(())
+}
+
+#[test]
+fn forgets_what_has_no_image(rt: HostRuntime) -> Result<(), Fail> {
+    let old = P0::invalid();
+    let new = P0::_from_raw(NonZeroUsize::MIN, PtrGenCore::two());
+    let renaming = Renaming { from: old, to: new };
+    let held = |ptr| PtrOrNone { ptr };
+    let mut value = (held(Some(old)), (held(Some(new)), (held(None), old)));
+    assert!(rt; value.recast(&renaming) == Ok(()));
+    assert!(rt; value == (held(Some(new)), (held(None), (held(None), new))));
     Ok(())
 }
 
