@@ -1,21 +1,23 @@
 //! Tables that follow an arena through a compression.
 ghost use Rattle.std.specs.Prelude.{◌≡◌, ◌≤◌, ◌↔◌, ℕ, IsOk, IsSome, IfSome, OnOk, OnErr, IsErrOf};
 ghost use Rattle.std.specs.Prelude.{IsTrue, Some, ⊤};
-ghost use Rattle.triple_arena_stack.specs.Room.{capacity, IsBeyond};
-ghost use Rattle.triple_arena.specs.ArenaRoom.{room_of};
+ghost use Rattle.triple_arena_stack.specs.Room.{IsBeyond};
+ghost use Rattle.triple_arena.specs.ArenaRoom.{room_with};
 ghost use Rattle.triple_arena.specs.Changes.{IsCompressed};
 ghost use Rattle.triple_arena.specs.Compression.{live_values};
 ghost use Rattle.triple_arena.specs.Content.{entry_at as arena_at, get, live_count, some_counter};
 ghost use Rattle.triple_arena.specs.Content.{last_index, IsWellFormed as IsArenaFormed};
-ghost use Rattle.triple_arena.specs.DirectContent.{entry_at, IsWellFormed};
+ghost use Rattle.triple_arena.specs.DirectContent.{entry_at, arena_capacity, IsWellFormed};
+ghost use Rattle.triple_arena.specs.DirectContent.{live_entries as entries_of};
 ghost use Rattle.triple_arena.specs.Entries.{value_if};
 ghost use Rattle.triple_arena.specs.LiveEntries.{live_entries};
+ghost use Rattle.triple_arena.specs.Recaster.{IsRecaster};
 ghost use Rattle.side_table.specs.SideTable.{Rises, NeverGoesUp, IsCarried, with_moved, beside};
 
 use crate::storing::put;
 use triple_arena::{
     Advancer, Arena, ArenaSlots, ArenaTrait, DirectArena, DirectSlots, PtrCore, ReallocationError,
-    compress_recaster,
+    compress_recaster_into,
 };
 
 // Moves the value under `old`, if there is one, to the pointer that `map` has for `old`. If the map
@@ -73,14 +75,15 @@ where
 /// Moves the entries of `arena` to the first indexes, as `compress` does, and has `table` follow:
 /// beside each entry stands what stood beside it before. A value beside no entry is dropped.
 ///
-/// The memory for the new pointers is taken from `alloc` before, for as many slots as the last live
-/// index says. It returns `BeyondMaxCapacity` if there can't be so many, and `AllocError` if the
-/// memory was refused. An error leaves the arena and the table as they were.
+/// `map` is where the new pointers go, under the old ones, in place of what it had. If it is kept
+/// for the next compression, it grows only where the last live index is past its capacity. It
+/// returns `BeyondMaxCapacity` if the map cannot have so many slots, and `AllocError` if the memory
+/// was refused. An error leaves the arena, the table and the map as they were.
 pub fn compress_beside<P, T, U, S, R, M>(
     arena: &mut Arena<P, T, S>,
     table: &mut DirectArena<P, U, R>,
+    map: &mut DirectArena<P, P, M>,
     reset: bool,
-    alloc: M::Alloc,
 ) -> Result<(), ReallocationError>
 where
     P: PtrCore,
@@ -96,21 +99,23 @@ where
     ensures values { OnOk result (live_values arena.new ≡ live_values arena.old) }
     ensures compressed { OnOk result (IsCompressed arena_at live_count some_counter (λ c. c.room)
         P.Gen.last live_entries reset arena.old arena.new) }
+    ensures renamed { OnOk result (IsRecaster P.index P.generation (live_entries arena.old)
+        (live_entries arena.new) (entries_of map.new)) }
     ensures room { table.new.room ≡ table.old.room }
+    ensures map_room { OnOk result (map.new.room
+        ≡ room_with (last_index arena.old) map.old.room) }
     ensures arena_formed { OnOk result (IsArenaFormed arena.new) }
     ensures formed { OnOk result (IsWellFormed table.new) }
-
-    // No memory is asked for if new pointers have the room already.
-    ensures succeeds { last_index arena.old ≤ capacity (room_of P.Inx.greatest (M.room_at 0))
-        → IsOk result }
+    ensures map_formed { IsWellFormed map.new }
+    ensures succeeds { last_index arena.old ≤ arena_capacity map.old → IsOk result }
     ensures beyond { IsErrOf result ReallocationError.BeyondMaxCapacity
-        ↔ IsBeyond (room_of P.Inx.greatest (M.room_at (last_index arena.old))).limit
-        (last_index arena.old) }
+        ↔ IsBeyond map.old.room.limit (last_index arena.old) }
     ensures memory { IsErrOf result ReallocationError.AllocError → IsTrue M.takes_memory }
     ensures err { OnErr result (arena.new ≡ arena.old) }
     ensures table_err { OnErr result (table.new ≡ table.old) }
+    ensures map_err { OnErr result (map.new ≡ map.old) }
 {
-    let map = compress_recaster::<P, T, S, M>(arena, reset, alloc)?;
-    follow_compression(table, &map);
+    compress_recaster_into(arena, reset, map)?;
+    follow_compression(table, map);
     Ok(())
 }

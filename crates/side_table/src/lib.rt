@@ -4,9 +4,7 @@
 //! ```rust
 //! use side_table::{compress_beside, put_beside};
 //! use std::alloc::Global;
-//! use triple_arena::{
-//!     ArenaInsertTrait, ArenaTrait, DirectSlot, HeapArena, HeapDirectArena, NonZeroInxVec, P0,
-//! };
+//! use triple_arena::{ArenaInsertTrait, ArenaTrait, HeapArena, HeapDirectArena, P0};
 //!
 //! fn main(rt: HostRuntime) -> anyhow::Result<()> {
 //!     let mut trees: HeapArena<P0, &str, Global> = HeapArena::new(rt.alloc());
@@ -15,12 +13,8 @@
 //!     let elm = trees.insert("elm")?;
 //!     let _ = put_beside(&mut heights, elm, trees.capacity(), 30)?;
 //!     drop(trees.remove(oak));
-//!     compress_beside::<_, _, _, _, _, NonZeroInxVec<DirectSlot<P0, P0>, Global>>(
-//!         &mut trees,
-//!         &mut heights,
-//!         false,
-//!         rt.alloc(),
-//!     )?;
+//!     let mut map = HeapDirectArena::new(rt.alloc());
+//!     compress_beside(&mut trees, &mut heights, &mut map, false)?;
 //!     if let Some(elm) = trees.find_first_inx_ptr() {
 //!         println!(rt; "{elm} {:?}", heights.get(elm))?; // P0[1](4) Some(30)
 //!     }

@@ -35,7 +35,7 @@ pub(crate) use compression::{compact, keep_first, take_entry};
 pub use entry::{ArenaInsertEntries, ArenaInsertEntry, ArenaInsertEntryTrait};
 pub(crate) use reading::ValueAtMut;
 pub(crate) use recast::{RecastByIndex, recast_values};
-pub use recaster::compress_recaster;
+pub use recaster::{compress_recaster, compress_recaster_into};
 pub(crate) use removal::equal_uncounted;
 use std::marker::{Model, PhantomData};
 use std::num::NonZeroUsize;

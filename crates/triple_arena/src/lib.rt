@@ -128,7 +128,7 @@ pub mod direct_iterators {
 
 pub use arena::{
     Arena, ArenaInsertEntries, ArenaInsertEntry, ArenaInsertEntryTrait, ArrayArena, BoxedArena,
-    HeapArena, LimitedArena, compress_recaster,
+    HeapArena, LimitedArena, compress_recaster, compress_recaster_into,
 };
 pub use arena_trait::{ArenaTrait, CompactArenaTrait};
 pub use capacity_drain::CapacityDrain;
@@ -149,8 +149,8 @@ pub use transfer::{ArenaTransferSource, ArenaTransferTrait};
 pub use triple_arena_ptr::{
     Advancer, AllocError, DirectInsertionError, GetDisjointMutError, InvalidationOption,
     InvalidationResult, MaxCapacityReductionError, NotWithinCapacityError, P0, P1, P2, P3, P4, P5,
-    Pointer, Ptr, PtrCore, PtrGen, PtrGenCore, PtrInx, PtrInxCore, PtrKind, PtrNoGen, Q2,
-    ReallocationError, Recast, Recaster,
+    Pointer, Ptr, PtrCore, PtrGen, PtrGenCore, PtrInx, PtrInxCore, PtrKind, PtrNoGen, PtrOrNone,
+    Q2, ReallocationError, Recast, Recaster,
 };
 pub use triple_arena_stack::{
     NonZeroInxArray, NonZeroInxBoxedSlice, NonZeroInxGenericStack, NonZeroInxLimitedStack,

@@ -2,14 +2,15 @@
 ghost use Rattle.std.specs.Prelude.{◌≡◌, ◌≤◌, ◌↔◌, ℕ, [], Some, IsOk, IfOk, OnOk, OnErr, IsErrOf};
 ghost use Rattle.std.specs.Prelude.{IsTrue, length, map as list_map, slice_get};
 ghost use Rattle.triple_arena_stack.specs.Room.{capacity, IsBeyond};
-ghost use Rattle.triple_arena.specs.ArenaRoom.{room_of};
+ghost use Rattle.triple_arena.specs.ArenaRoom.{room_of, room_with};
 ghost use Rattle.triple_arena.specs.Changes.{IsCompressed};
 ghost use Rattle.triple_arena.specs.Compression.{renewed, compacted, index_of, live_values};
 ghost use Rattle.triple_arena.specs.Content.{entry_at, live_count, some_counter, last_index};
 ghost use Rattle.triple_arena.specs.Content.{IsWellFormed};
 ghost use Rattle.triple_arena.specs.Copy.{last_listed, directly_copied};
 ghost use Rattle.triple_arena.specs.DirectContent.{live_entries as entries_of, empty};
-ghost use Rattle.triple_arena.specs.DirectContent.{arena_capacity, IsWellFormed as IsFormed};
+ghost use Rattle.triple_arena.specs.DirectContent.{arena_capacity, cleared, reallocated};
+ghost use Rattle.triple_arena.specs.DirectContent.{IsWellFormed as IsFormed};
 ghost use Rattle.triple_arena.specs.LiveEntries.{listed_from, live_entries};
 ghost use Rattle.triple_arena.specs.Recaster.{IsRecaster};
 ghost use Rattle.triple_arena.specs.Slot.{entry_of};
@@ -64,6 +65,47 @@ pub fn compress_recaster<P: PtrCore, T: Drop, S: ArenaSlots<P, T>, R: DirectSlot
     Ok(map)
 }
 
+/// Does what `compress_recaster` does with a map that is handed in, whose entries are dropped. A map
+/// that is kept for it takes memory only where the last live index is past its capacity.
+///
+/// It returns `BeyondMaxCapacity` if the map cannot have so many slots, and `AllocError` if the
+/// memory was refused. An error leaves the arena and the map as they were.
+pub fn compress_recaster_into<P: PtrCore, T: Drop, S, R>(
+    arena: &mut Arena<P, T, S>,
+    reset: bool,
+    map: &mut DirectArena<P, P, R>,
+) -> Result<(), ReallocationError>
+where
+    S: ArenaSlots<P, T>,
+    R: DirectSlots<P, P>,
+    ensures recaster { OnOk result (IsRecaster P.index P.generation (live_entries arena.old)
+        (live_entries arena.new) (entries_of map.new)) }
+    ensures values { OnOk result (live_values arena.new ≡ live_values arena.old) }
+    ensures compressed { OnOk result (IsCompressed entry_at live_count some_counter (λ c. c.room)
+        P.Gen.last live_entries reset arena.old arena.new) }
+    ensures exact { OnOk result (arena.new ≡ compacted
+        (renewed P.Gen.last reset arena.old.counter) (live_values arena.old) arena.old) }
+    ensures formed { IsFormed map.new }
+    ensures arena_formed { IsWellFormed arena.new }
+    ensures map_exact { OnOk result (map.new ≡ directly_copied
+        (cleared (reallocated map.old (last_index arena.old))) (entries_of map.new)) }
+    ensures map_room { OnOk result (map.new.room
+        ≡ room_with (last_index arena.old) map.old.room) }
+    ensures succeeds { last_index arena.old ≤ arena_capacity map.old → IsOk result }
+    ensures beyond { IsErrOf result ReallocationError.BeyondMaxCapacity
+        ↔ IsBeyond map.old.room.limit (last_index arena.old) }
+    ensures memory { IsErrOf result ReallocationError.AllocError → IsTrue R.takes_memory }
+    ensures err { OnErr result (arena.new ≡ arena.old) }
+    ensures map_err { OnErr result (map.new ≡ map.old) }
+{
+    // The arena is well-formed, also if the map cannot grow.
+    arena.recall_formed();
+    map.reallocate_min_capacity(arena.last_index())?;
+    let _ = map.clear();
+    arena.compress_noting(reset, map);
+    Ok(())
+}
+
 impl<P: PtrCore, T: Drop, S: ArenaSlots<P, T>> Arena<P, T, S> {
     // Compresses the arena, and stores each new pointer under the old one in `map`, which is empty
     // and has the room.
@@ -79,6 +121,7 @@ impl<P: PtrCore, T: Drop, S: ArenaSlots<P, T>> Arena<P, T, S> {
             (live_values self.old) self.old }
         ensures formed { IsWellFormed self.new }
         ensures map_exact { map.new ≡ directly_copied map.old (entries_of map.new) }
+        ensures map_room { map.new.room ≡ map.old.room }
         ensures map_formed { IsFormed map.new }
     {
         // The slots are within the capacity, and so are their indexes.
