@@ -175,8 +175,8 @@ impl<P: PtrCore, T: Drop, S: ArenaSlots<P, T>> ArenaTrait<P, T> for Arena<P, T, 
         // The arena is well-formed before.
         self.recall_formed();
         match self.live_inx(i) {
-            Some(i) => {
-                let (entry, wrapped) = self.remove_at(i);
+            Some(_) => {
+                let (entry, wrapped) = self.take_inx_unwrap(i);
                 valid(answer(wrapped, entry))
             }
             None => InvalidationResult::InvalidPtr,
