@@ -10,7 +10,7 @@ use Rattle.std.proofs.lemmas.Option.{slice_get_within, get_or_from_slice_get}
 use Rattle.triple_arena.specs.FreeLinks.{Ends, first_or, Stands, with_prev_at}
 use Rattle.triple_arena.specs.Slot.{Slot, free, used, entry_of, links_of, value_of, with_slot_value}
 use Rattle.triple_arena.specs.Slot.{with_slot_generation}
-use Rattle.std.proofs.Common.{IsSome, Bor, option_copied, option_to_list, true, false, true≢false, eqb}
+use Rattle.std.proofs.Common.{IsSome, IfSome, Bor, option_copied, option_to_list, true, false, true≢false, eqb}
 use Rattle.std.specs.Option.{option_map}
 use Rattle.std.proofs.lemmas.Bool.{eq-eqb, ne_eqb}
 use Rattle.std.proofs.lemmas.Bool.Decides.{eqb_tells}
@@ -270,6 +270,22 @@ module _ {T : Type 0} where
   pub head_within : {es : List (Slot T)} {len i : ℕ} {head : Option ℕ} {room : Room} → head ≡ Some i
       → IsSound es len head room → i ≤ length es
   head_within {es} {len} {i} {room} is s = (head_of es len i room (rw is at s)).slot.within
+
+  -- an index of a free slot is within what the number of slots is within
+  pub place_fits : {I : Type 0} (number : I → ℕ) (o : Option I) (es : List (Slot T)) {n m : ℕ}
+      → n ≡ length es → n < m
+      → ((i : ℕ) → option_map number o ≡ Some i → IsSome (links_at es i))
+      → IfSome o (λ i. number i < m)
+  place_fits number None es count small vacant = tt
+  place_fits number (Some i) es count small vacant =
+      omega (arith, free_within es (number i) (vacant (number i) refl), count, small)
+
+  pub head_fits : {I : Type 0} (number : I → ℕ) (o : Option I) {es : List (Slot T)}
+      {len n m : ℕ} {room : Room} → n ≡ length es → n < m → IsSound es len (option_map number o) room
+      → IfSome o (λ i. number i < m)
+  head_fits number None count small sound = tt
+  head_fits number (Some i) count small sound =
+      omega (arith, head_within refl sound, count, small)
 
   -- its slot is free, and what follows it is one of the slots
   pub head_links : {es : List (Slot T)} {len i : ℕ} {head : Option ℕ} {room : Room} {old : Slot T}

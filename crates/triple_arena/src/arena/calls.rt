@@ -21,10 +21,10 @@ use crate::arena::compression::{compact, renewal};
 use crate::arena::reading::ValueAtMut;
 use crate::arena::removal::equal_uncounted;
 use crate::arena::{Arena, max_index};
-use crate::optional_inx::OptionalInx;
 use crate::{ArenaSlot, ArenaSlots, ArenaTrait, CompactArenaTrait};
 use triple_arena_ptr::{
-    InvalidationOption, InvalidationResult, PtrCore, PtrGenCore, PtrInxCore, ReallocationError,
+    InvalidationOption, InvalidationResult, OptionalInx, PtrCore, PtrGenCore, PtrInxCore,
+    ReallocationError,
 };
 use triple_arena_stack::NonZeroInxArray;
 use unreached::unreached;

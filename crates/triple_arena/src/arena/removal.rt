@@ -8,11 +8,11 @@ ghost use Rattle.triple_arena.specs.Content.{vacated, removed, emptied, IsWellFo
 
 use crate::arena::free_slots::set_prev_at;
 use crate::arena::{Arena, pointer_at};
-use crate::optional_inx::OptionalInx;
+use crate::free_inx::free_at;
 use crate::{ArenaSlot, ArenaSlots};
 use std::mem;
 use std::num::NonZeroUsize;
-use triple_arena_ptr::{PtrCore, PtrGenCore, PtrInxCore};
+use triple_arena_ptr::{OptionalInx, PtrCore, PtrGenCore, PtrInxCore};
 use unreached::unreached;
 
 impl<P: PtrCore, T: Drop, S: ArenaSlots<P, T>> Arena<P, T, S> {
@@ -77,8 +77,8 @@ impl<P: PtrCore, T: Drop, S: ArenaSlots<P, T>> Arena<P, T, S> {
         if i.get() == self.slots.len() {
             drop(self.slots.pop());
         } else {
-            let first = OptionalInx::some(i);
-            set_prev_at(&mut self.slots, head, first);
+            let first = free_at::<P>(i);
+            set_prev_at::<P, T, S>(&mut self.slots, head, first);
             self.head = first;
         }
         self.len -= 1;
