@@ -8,11 +8,11 @@ ghost use Rattle.triple_arena.specs.ContentLaws.{next-with_value};
 
 use crate::arena::free_slots::set_prev_at;
 use crate::arena::{Arena, pointer_at};
-use crate::optional_inx::OptionalInx;
+use crate::free_inx::place_of;
 use crate::{ArenaInsertTrait, ArenaSlot, ArenaSlots};
 use std::mem;
 use std::num::NonZeroUsize;
-use triple_arena_ptr::{NotWithinCapacityError, PtrCore, ReallocationError};
+use triple_arena_ptr::{NotWithinCapacityError, OptionalInx, PtrCore, ReallocationError};
 use unreached::unreached;
 
 impl<P: PtrCore, T: Drop, S: ArenaSlots<P, T>> ArenaInsertTrait<P, T> for Arena<P, T, S> {
@@ -31,7 +31,7 @@ impl<P: PtrCore, T: Drop, S: ArenaSlots<P, T>> ArenaInsertTrait<P, T> for Arena<
         if self.live() == self.own_capacity() {
             return Err(NotWithinCapacityError);
         }
-        Ok(self.insert_entry(t))
+        Ok(self.insert_unwrap(t))
     }
 
     #[inline]
@@ -39,7 +39,7 @@ impl<P: PtrCore, T: Drop, S: ArenaSlots<P, T>> ArenaInsertTrait<P, T> for Arena<
         // The arena is well-formed before.
         self.recall_formed();
         self.make_room()?;
-        Ok(self.insert_entry(t))
+        Ok(self.insert_unwrap(t))
     }
 }
 
@@ -52,10 +52,11 @@ impl<P: PtrCore, T: Drop, S: ArenaSlots<P, T>> Arena<P, T, S> {
     {
         // The slots are within the capacity, and that is a `usize`.
         let _ = self.slots.capacity();
-        if let Some(index) = self.head.get() {
+        let count = self.slots.len();
+        if let Some(index) = place_of::<P>(self.head) {
             return pointer_at(index, self.counter);
         }
-        match NonZeroUsize::new(self.slots.len() + 1) {
+        match NonZeroUsize::new(count + 1) {
             Some(index) => pointer_at(index, self.counter),
             None => unreached!(),
         }
@@ -72,11 +73,11 @@ impl<P: PtrCore, T: Drop, S: ArenaSlots<P, T>> Arena<P, T, S> {
         // The slots are within the capacity, so one more can be counted.
         let _ = self.slots.len();
         let slot = ArenaSlot::used(self.counter, t);
-        match self.head.get() {
+        match place_of::<P>(self.head) {
             Some(index) => {
                 let old = mem::replace(self.slots.item_mut(index), slot);
                 let next = old.into_next();
-                set_prev_at(&mut self.slots, next, OptionalInx::none());
+                set_prev_at::<P, T, S>(&mut self.slots, next, OptionalInx::none());
                 self.head = next;
                 self.len += 1;
                 pointer_at(index, self.counter)
@@ -91,13 +92,14 @@ impl<P: PtrCore, T: Drop, S: ArenaSlots<P, T>> Arena<P, T, S> {
         }
     }
 
-    // Stores `t` as `insert_in_room` does, and says what is at each index then.
+    /// Stores `t`, and returns its pointer, which `next_ptr` told. The caller owes that there is
+    /// room: the call makes no test, takes no memory and cannot fail.
     #[inline]
-    pub(crate) fn insert_entry(&mut self, t: T) -> P
+    pub fn insert_unwrap(&mut self, t: T) -> P
         requires { live_count self.old < arena_capacity self.old }
-        ensures value { self.new ≡ inserted_of self.old t }
         ensures inserted { IsInserted entry_at live_count some_counter (next_of self.old)
             (P.index result) (P.generation result) t self.old self.new }
+        ensures exact { self.new ≡ inserted_of self.old t }
         ensures room { self.new.room ≡ self.old.room }
         ensures formed { IsWellFormed self.new }
     {
