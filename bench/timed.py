@@ -3,8 +3,8 @@
 `time` runs a layer's programs in turn. Each prints what every thousand steps took; of each thousand
 the least of all passes is taken, and the sum is shared among the steps. A program over the store is
 timed as a whole, by its processor time. What it prints are tables of Markdown, one for each peer.
-`leaps` reads the trace of each program, of one size. `plot` times some operations of each layer,
-whose programs lie in a folder of BUILD, for plot.py. A different checksum or reply ends it.
+`leaps` counts what the trace of each program has, of one size. `plot` times some operations of each
+layer, whose programs lie in a folder of BUILD, for plot.py. A different checksum or reply ends it.
 """
 import os
 import pathlib
@@ -68,11 +68,12 @@ DRAWN = {
 }
 # What is traced: a trace is slow, and these wait for memory most.
 TRACES = {
-    'arena': ['insert', 'find', 'churn'],
-    'chains': ['insert', 'walk', 'canonical_walk'],
-    'ord': ['insert', 'find', 'walk', 'canonical_walk'],
-    'store': ['places', 'all'],
+    'arena': ['insert', 'find', 'remove', 'churn'],
+    'chains': ['insert', 'remove', 'walk'],
+    'ord': ['insert', 'find', 'remove', 'cancel'],
+    'store': ['places', 'all', 'churn'],
 }
+COUNTS = ['instructions', 'stores', 'misses of the second cache', 'leaps']
 # The nodes of a `std::map` stay where they are. A `BTreeMap` has no other reference to an entry
 # than its key, and so `cancel` has a slab beside it, which is there for that alone.
 NEVER = {('`BTreeMap`', 'cancel')}
@@ -241,7 +242,7 @@ class Store(Layer):
 
 
 class Traces:
-    """The instructions and the leaps of runs, each of which is traced once."""
+    """What leaps.rs counts of runs, each of which is traced once."""
 
     def __init__(self, layer):
         self.layer, self.known = layer, {}
@@ -264,9 +265,10 @@ class Traces:
         return self.known[key]
 
     def row(self, operation):
-        """What a step or a line takes over `P3`, over `P0` and in the first peer."""
+        """What a step or a line takes over `P3`, over `P0` and in a peer."""
         layer, row = self.layer, []
-        for program in layer.programs[:3]:
+        peer = layer.programs[-1 if layer.name == 'ord' else 2]
+        for program in (*layer.programs[:2], peer):
             if isinstance(layer, Store):
                 command = layer.command(program, TRACED)
                 whole, less = self.of(command, layer.lines(operation, TRACED)), self.of(command)
@@ -280,13 +282,15 @@ class Traces:
         return row
 
     def show(self):
-        titles = [f'{what}, {it.strip("`")}' for what in ('instructions', 'leaps')
-                  for it in ('P3', 'P0', self.layer.titles[2])]
-        print(f'{f"a step, of {TRACED:,}":<20}', *(f'{it:>26}' for it in titles), sep='')
-        for operation in TRACES[self.layer.name]:
-            row = self.row(operation)
-            cells = [f'{it[0]:>26.1f}' for it in row] + [f'{it[1]:>26.2f}' for it in row]
-            print(f'{operation:<20}', *cells, sep='', flush=True)
+        """A table: of each count what a step takes over `P3`, over `P0`, in the peer."""
+        layer = self.layer
+        head = [f'`{OURS[layer.name]}`, a step of {TRACED:,}', *COUNTS]
+        print('|', ' | '.join(head), '|')
+        print('|' + '---|' * len(head))
+        for operation in TRACES[layer.name]:
+            cells = ['; '.join(f'{it:.{digits}f}' for it in counts)
+                     for counts, digits in zip(zip(*self.row(operation)), (0, 1, 2, 2))]
+            print('|', ' | '.join([NAMES.get(operation, operation), *cells]), '|', flush=True)
 
 
 def plot(build):
