@@ -93,15 +93,14 @@ put_at e e' n OwnRing vacant is agreed same = is_own_ring e e' n vacant same
 
 module _ {I T : Type 0} (number : I → ℕ) where
   -- what the neighbors are after they name one more
-  ends-joined : (c d : Content (IndexLink I T)) (gap : Gap I) (i : I) (t : T)
+  pub ends-joined : (e : ℕ → Option Ends) (d : Content (IndexLink I T)) (gap : Gap I) (i : I) (t : T)
       → ((k : ℕ) → ends_in number d k
-      ≡ added (ends_in number c) (number i) (link_ends number (link_for number gap i t)) k)
+      ≡ added e (number i) (link_ends number (link_for number gap i t)) k)
       → (k : ℕ) → ends_in number (joined_to number d gap i) k
-      ≡ put_in (ends_in number c) (number i) (gap_by number gap) k
-  ends-joined c d (Between before after) i t ends k =
+      ≡ put_in e (number i) (gap_by number gap) k
+  ends-joined e d (Between before after) i t ends k =
       let one = with_next_of number d before (Some i) in
-      let old = added (ends_in number c) (number i)
-      (option_map number before, option_map number after) in
+      let old = added e (number i) (option_map number before, option_map number after) in
       ends-with_prev_of number one after (Some i) k
       ∙ with_prev_if-same (with_next_if old (option_map number before) (Some (number i)))
       (ends_in number one) (option_map number after) (Some (number i))
@@ -109,16 +108,16 @@ module _ {I T : Type 0} (number : I → ℕ) where
       ∙ with_next_if-same old (ends_in number d) (option_map number before) (Some (number i)) ends
       j)
       k
-  ends-joined c d OwnRing i t ends k = ends k
+  ends-joined e d OwnRing i t ends k = ends k
 
-  values-joined : (d : Content (IndexLink I T)) (gap : Gap I) (i : I) (k : ℕ)
+  pub values-joined : (d : Content (IndexLink I T)) (gap : Gap I) (i : I) (k : ℕ)
       → values_in (joined_to number d gap i) k ≡ values_in d k
   values-joined d (Between before after) i k =
       values-with_prev_of number (with_next_of number d before (Some i)) after (Some i) k
       ∙ values-with_next_of number d before (Some i) k
   values-joined d OwnRing i k = refl
 
-  kept-joined : (d : Content (IndexLink I T)) (gap : Gap I) (i : I)
+  pub kept-joined : (d : Content (IndexLink I T)) (gap : Gap I) (i : I)
       → IsKept d (joined_to number d gap i)
   kept-joined d (Between before after) i =
       kept_on d (with_next_of number d before (Some i))
@@ -127,7 +126,7 @@ module _ {I T : Type 0} (number : I → ℕ) where
   kept-joined d OwnRing i =
       record { live = refl; slots = refl; free = refl; counter = refl; room = refl }
 
-  formed-joined : (d : Content (IndexLink I T)) (gap : Gap I) (i : I) → IsWellFormed d
+  pub formed-joined : (d : Content (IndexLink I T)) (gap : Gap I) (i : I) → IsWellFormed d
       → IsWellFormed (joined_to number d gap i)
   formed-joined d (Between before after) i formed =
       formed-with_prev_of number (with_next_of number d before (Some i)) after (Some i)
@@ -167,7 +166,7 @@ module _ {I T : Type 0} (number : I → ℕ) where
         | inl same ↦ rw same.0 refl
         | inr differs ↦ rw differs.0 refl
       ] in
-      let ends = ends-joined c d gap i t added_ends in
+      let ends = ends-joined (ends_in number c) d gap i t added_ends in
       let kept = kept-joined d gap i in
       rw is
       (record {

@@ -32,7 +32,7 @@ IsSome-next (Some v) p h = refl
 
 module _ (e : ℕ → Option Ends) (agreed : IsAgreed e) where
   -- directly after a link
-  gap_after : (i : ℕ) (v : Ends) → e i ≡ Some v → IsBetween e (Some i, v.1)
+  pub gap_after : (i : ℕ) (v : Ends) → e i ≡ Some v → IsBetween e (Some i, v.1)
   gap_after i v at =
       record {
         before =
@@ -46,7 +46,7 @@ module _ (e : ℕ → Option Ends) (agreed : IsAgreed e) where
       }
 
   -- directly before a link
-  gap_before : (i : ℕ) (v : Ends) → e i ≡ Some v → IsBetween e (v.0, Some i)
+  pub gap_before : (i : ℕ) (v : Ends) → e i ≡ Some v → IsBetween e (v.0, Some i)
   gap_before i v at =
       record {
         before =

@@ -16,6 +16,7 @@ pub mod WalkLemmas
 pub mod ReversalLemmas
 pub mod RestoredLemmas
 pub mod RemovalLemmas
+pub mod MoveLemmas
 pub mod LawLemmas
 pub mod IterChainLemmas
 pub mod TakenWalkLemmas

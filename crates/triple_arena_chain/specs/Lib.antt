@@ -8,6 +8,7 @@ pub mod AllChainsLaws
 pub mod Kinds
 pub mod Links
 pub mod LinkLaws
+pub mod Moves
 pub mod Values
 pub mod KindLaws
 pub mod InsertionListLaws

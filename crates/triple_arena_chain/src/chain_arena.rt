@@ -25,6 +25,7 @@ mod iterators;
 mod link_copies;
 mod mapping;
 mod max_capacity;
+mod moves;
 mod neighbors;
 mod recast;
 mod removal;
