@@ -12,6 +12,7 @@ AT_INDEX = '''
     remove_inx remove_inx_link_no_gen
 '''.split()
 AT_TWO = ['are_neighbors', 'connect', 'connect', 'exchange_next', 'exchange_next', 'exchange_next']
+AT_TWO += ['move_next_to', 'move_prev_to']
 FORMS = '''
     insert insert_reallocating insert_within_capacity
     entry_insert entry_insert_reallocating entry_insert_within_capacity meets

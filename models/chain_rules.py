@@ -3,6 +3,7 @@
 Chains are Python lists, each with a mark for a ring. The model knows nothing of how the crates keep
 their links: interlinks are read off the lists.
 """
+from functools import partial
 
 WORD = 2**64 - 1
 LAST = {'P0': WORD, 'P1': 255, 'P3': 2**32 - 1, 'P5': None, 'N3': 3}
@@ -279,6 +280,17 @@ class Chains(Arena):
         self.replace([first, second], new)
         return True
 
+    def move(self, p, q, is_behind):
+        if p == q:
+            return False
+        own = self.list_of(p)
+        own[1].remove(p)
+        if not own[1]:
+            self.replace([own], [])
+        other = self.list_of(q)[1]
+        other.insert(other.index(q) + is_behind, p)
+        return True
+
     def take_out(self, i):
         own = self.list_of(i)
         own[1].remove(i)
@@ -501,14 +513,16 @@ class Chains(Arena):
         return told + [str(left)]
 
     def changes_links(self, verb, x, y, z, u):
-        if verb not in ('connect', 'break_next', 'break_prev', 'exchange_next', 'drain_chain'):
+        both = dict(connect=self.connect, exchange_next=self.exchange_next)
+        both |= {f'move_{it}_to': partial(self.move, is_behind=it == 'next')
+                 for it in ('next', 'prev')}
+        if verb not in ('break_next', 'break_prev', 'drain_chain', *both):
             return None
         if verb == 'drain_chain':
             return self.drain_chain(x, z) if self.live(x, y) else ['"no chain"']
-        both = verb in ('connect', 'exchange_next')
-        is_done = self.live(x, y) and (not both or self.live(z, u))
-        if is_done and both:
-            is_done = self.connect(x, z) if verb == 'connect' else self.exchange_next(x, z)
+        is_done = self.live(x, y) and (verb not in both or self.live(z, u))
+        if is_done and verb in both:
+            is_done = both[verb](x, z)
         elif is_done:
             p = x if verb == 'break_next' else self.prev(x)
             is_done = p is not None and self.break_next(p)

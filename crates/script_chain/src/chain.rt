@@ -157,6 +157,14 @@ fn changes<P: ShownPtr, S: ChainSlots<P, u64>>(
             &chains.compress_canonical(call.first == 1),
         ),
         "drain_chain" => drain_chain(chains, transcript, call),
+        "move_next_to" => {
+            let (p, q) = links::pointers(call);
+            transcript.answer(line, &chains.move_next_to(p, q))
+        }
+        "move_prev_to" => {
+            let (p, q) = links::pointers(call);
+            transcript.answer(line, &chains.move_prev_to(p, q))
+        }
         _ => return false,
     }
     true

@@ -43,7 +43,7 @@ fn reads<P: ShownPtr, A: ChainArenaTrait<P, u64>>(
 }
 
 // The pointers of the first two numbers and of the next two.
-fn pointers<P: ShownPtr>(call: &Call<'_>) -> (P, P) {
+pub fn pointers<P: ShownPtr>(call: &Call<'_>) -> (P, P) {
     (call.pointer(), pointer(call.third, call.fourth))
 }
 

@@ -93,8 +93,8 @@ put_at e e' n OwnRing vacant is agreed same = is_own_ring e e' n vacant same
 
 module _ {I T : Type 0} (number : I → ℕ) where
   -- what the neighbors are after they name one more
-  pub ends-joined : (e : ℕ → Option Ends) (d : Content (IndexLink I T)) (gap : Gap I) (i : I) (t : T)
-      → ((k : ℕ) → ends_in number d k
+  pub ends-joined : (e : ℕ → Option Ends) (d : Content (IndexLink I T)) (gap : Gap I) (i : I)
+      (t : T) → ((k : ℕ) → ends_in number d k
       ≡ added e (number i) (link_ends number (link_for number gap i t)) k)
       → (k : ℕ) → ends_in number (joined_to number d gap i) k
       ≡ put_in e (number i) (gap_by number gap) k
