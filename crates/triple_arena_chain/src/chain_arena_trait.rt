@@ -290,8 +290,8 @@ pub trait ChainArenaTrait<P: PtrCore, T: Drop>: ArenaTrait<P, T> {
         self.insert_lent_reallocating(&kind, t)
     }
 
-    /// Stores `t` in a link where the kind says. The links must be as the kind requires. If there is
-    /// no room, the arena grows; the growth and the errors are those of `insert_reallocating`.
+    /// Stores `t` in a link where the kind says. The links must be as the kind requires. If there
+    /// is no room, the arena grows; the growth and the errors are those of `insert_reallocating`.
     #[inline(always)]
     final fn insert(&mut self, kind: LinkInsertKind<P>, t: T) -> Result<P, ChainInsertionError>
         requires { IsSome (gap_among P.index P.generation P.Inx.number (links self.old) kind) }
