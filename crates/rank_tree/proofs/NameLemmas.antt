@@ -1,5 +1,6 @@
 -- Links by index, and their numbers.
 use Rattle.std.proofs.Common.{◌≡◌, ℕ, Option, Some, None, IsSome, IfSome, option_map, refl}
+use Rattle.std.proofs.Common.{Bool, true, false, not, is_some}
 use Rattle.rank_tree.specs.Store.{Store}
 
 module _ {I : Type 0} (number : I → ℕ) where
@@ -23,3 +24,16 @@ module _ {I : Type 0} (number : I → ℕ) where
       → IfSome (option_map number o) Q
   if_numbered Q None h = tt
   if_numbered Q (Some x) h = h
+
+  -- what a test for an absent link found
+  pub none_tested : (o : Option I) (b : Bool) → is_some o ≡ not b → b ≡ true
+      → option_map number o ≡ None
+  none_tested None b e t = refl
+  none_tested (Some x) true e t = absurd (cc)
+  none_tested (Some x) false e t = absurd (cc)
+
+  pub some_tested : (o : Option I) (b : Bool) → is_some o ≡ not b → b ≡ false
+      → option_map number o ≡ None → ⊥
+  some_tested None true e f none = cc
+  some_tested None false e f none = cc
+  some_tested (Some x) b e f none = cc

@@ -328,12 +328,12 @@ climb_kept n m root low high v w h written =
     let f = one-same high in
     write_kept n m high v (plug h.context t) w written (omega arith) h.is_walk
 
--- what the code of the climb reads: the ranks of the parent's children
-pub record ClimbReads (n : Store) (root : Option ℕ) (low high : ℕ) (w : List ℕ)
-    (h : Climbing n root low w high) (below above : Knot) (l r : ℕ) : Type 0 where
-  pub rank_is : below.rank ≡ h.rank
-  pub high_rank_is : above.rank ≡ h.high_rank
-  pub lower_is : min l r ≡ min h.rank (rank_of h.far)
+-- the parent's node, which is no higher than the subtree that has grown to this rank
+pub record IsLevel (n : Store) (root : Option ℕ) (low : ℕ) (w : List ℕ) (high : ℕ)
+    (h : Climbing n root low w high) (above : Knot) (rank : ℕ) : Type 0 where
+  pub at_high : n high ≡ Some above
+  pub rank_is : rank ≡ h.rank
+  pub no_higher : h.high_rank ≤ h.rank
 
 -- the parent's node
 pub climb_knot : (n : Store) (root : Option ℕ) (low high : ℕ) (above : Knot)
@@ -354,21 +354,64 @@ climb_ranks n root low high below above eb ea w h =
     (root_of h.far) = cc f.at_high in
     (ap (λ v. v.rank) b ∙ knot_rank h.side _ _ _ _, ap (λ v. v.rank) a ∙ knot_rank h.side _ _ _ _)
 
-pub climb_reads : (n : Store) (root : Option ℕ) (low high : ℕ) (below above : Knot) (l r : ℕ)
-    → n low ≡ Some below → n high ≡ Some above
+-- the lower of the two ranks that the code reads
+pub level_lower : (n : Store) (root : Option ℕ) (low high : ℕ) (above : Knot) (l r rank : ℕ)
     → ((j : ℕ) → above.left ≡ Some j → IfSome (n j) (λ x. l ≡ x.rank)) → (above.left ≡ None → l ≡ 0)
     → ((j : ℕ) → above.right ≡ Some j → IfSome (n j) (λ x. r ≡ x.rank))
     → (above.right ≡ None → r ≡ 0)
-    → (w : List ℕ) (h : Climbing n root low w high) → ClimbReads n root low high w h below above l r
-climb_reads n root low high below above l r eb ea ls ln rs rn w h =
+    → (w : List ℕ) (h : Climbing n root low w high) → IsLevel n root low w high h above rank
+    → min l r ≡ min rank (rank_of h.far)
+level_lower n root low high above l r rank ls ln rs rn w h level =
     let t = make h.side h.outer low h.rank h.inner in
-    let ranks = climb_ranks n root low high below above eb ea w h in
     let parts = plug-opens n root h.context (make h.side t high h.high_rank h.far) h.stands in
     let low_is = make-rank h.side h.outer low h.rank h.inner in
-    let read = both_ranks h.side n (holder h.context) t high h.high_rank h.far above l r ea ls ln
-    rs rn
-    parts.1 in
-    record { rank_is = ranks.0; high_rank_is = ranks.1; lower_is = omega arith }
+    let rank_is = level.rank_is in
+    let read = both_ranks h.side n (holder h.context) t high h.high_rank h.far above l r
+    level.at_high ls ln rs rn parts.1 in
+    omega arith
+
+some_node : (t : Tree) → IsRanked t → (root_of t ≡ None → ⊥) → 0 < rank_of t
+some_node leaf h there = absurd (there refl)
+some_node (node l i k r) h there = let f = h.0 in omega arith
+
+none_node : (t : Tree) → root_of t ≡ None → rank_of t ≡ 0
+none_node leaf e = refl
+none_node (node l i k r) e = absurd (cc)
+
+-- the child beside the one that has grown
+sibling_none : (s z : Side) (p : Option ℕ) (low k : ℕ) (far : Tree)
+    → child_of z (knot s p (Some low) k (root_of far)) ≡ None → rank_of far ≡ 0
+sibling_none Left Left p low k far e = absurd (cc)
+sibling_none Left Right p low k far e = none_node far e
+sibling_none Right Left p low k far e = none_node far e
+sibling_none Right Right p low k far e = absurd (cc)
+
+sibling_some : (s : Side) (p : Option ℕ) (low k : ℕ) (far : Tree) → IsRanked far
+    → (child_of Left (knot s p (Some low) k (root_of far)) ≡ None → ⊥)
+    → (child_of Right (knot s p (Some low) k (root_of far)) ≡ None → ⊥) → 0 < rank_of far
+sibling_some Left p low k far h left right = some_node far h right
+sibling_some Right p low k far h left right = some_node far h left
+
+module _ (n : Store) (root : Option ℕ) (low high : ℕ) (above : Knot) (rank : ℕ) (w : List ℕ)
+    (h : Climbing n root low w high) (level : IsLevel n root low w high h above rank) where
+  level_knot : above ≡ knot h.side (holder h.context) (Some low) h.high_rank (root_of h.far)
+  level_knot = climb_knot n root low high above level.at_high w h
+
+  -- at rank 2 a child that is absent is two lower
+  pub level_none : (z : Side) → rank ≡ 2 → child_of z above ≡ None → rank_of h.far + 1 < rank
+  level_none z two none =
+      let e = sibling_none h.side z (holder h.context) low h.high_rank h.far
+      (ap (child_of z) (sym level_knot) ∙ none) in
+      omega arith
+
+  -- and if none is, the one that has not grown is one lower
+  pub level_some : rank ≡ 2 → (child_of Left above ≡ None → ⊥)
+      → (child_of Right above ≡ None → ⊥) → rank_of h.far + 1 < rank → ⊥
+  level_some two left right less =
+      let e = sibling_some h.side (holder h.context) low h.high_rank h.far h.far_ranked
+      (λ none. left (ap (child_of Left) level_knot ∙ none))
+      (λ none. right (ap (child_of Right) level_knot ∙ none)) in
+      omega arith
 
 pub climb_write : (n m : Store) (root : Option ℕ) (low high : ℕ) (above : Knot) → n high
     ≡ Some above

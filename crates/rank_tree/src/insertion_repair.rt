@@ -1,13 +1,15 @@
 //! The rank rules are restored after an insertion.
-ghost use Rattle.std.specs.Prelude.{◌≡◌, ℕ, ◌+◌, ◌<◌, List, Some, ⊤};
+ghost use Rattle.std.specs.Prelude.{◌≡◌, ℕ, ◌+◌, ◌<◌, List, Some, Option, IsTrue, ◌↔◌, ⊤};
 ghost use Rattle.std.specs.Option.{option_map};
-ghost use Rattle.rank_tree.specs.Tree.{walk};
+ghost use Rattle.rank_tree.specs.Tree.{walk, rank_of};
+ghost use Rattle.rank_tree.specs.Named.{named};
 ghost use Rattle.rank_tree.specs.Repair.{Leaning, Grown, Restored, Gap, filled, new_below, KeptOff};
+ghost use Rattle.rank_tree.specs.ClimbLaws.{Climbing, IsLevel};
 
 use crate::edges::attach;
 use crate::knots::rank_at;
 use crate::turn::turn;
-use crate::{Knots, Side, side_of};
+use crate::{Knots, Side, TreeLinks, side_of};
 use triple_arena_ptr::PtrCore;
 use unreached::unreached;
 
@@ -41,6 +43,31 @@ fn lean<N, P: PtrCore, K: Knots<N, P>>(knots: &mut K, root: &mut Option<P::Inx>,
     }
 }
 
+/// Whether the sibling of the node that has grown to this rank, which is its parent's, has two
+/// ranks less. At rank 2 a sibling that is there has one less, and is not read.
+fn is_two_lower<N, P: PtrCore, K: Knots<N, P>>(
+    knots: &K,
+    above: TreeLinks<P::Inx>,
+    rank: u8,
+) -> bool
+    requires level { (root : Option ℕ) × (low : ℕ) × (w : List ℕ) × (high : ℕ)
+        × (h : Climbing (K.knots knots.now) root low w high)
+        × IsLevel _ _ _ _ _ h (named P.Inx.number above) rank }
+    requires no_more { ⊤ }
+    ensures { (root : Option ℕ) (low : ℕ) (w : List ℕ) (high : ℕ)
+        (h : Climbing (K.knots knots.now) root low w high)
+        → IsLevel _ _ _ _ _ h (named P.Inx.number above) rank
+        → (IsTrue result ↔ (rank_of h.far + 1 < rank)) }
+{
+    if rank == 2 {
+        return above.left.is_none() || above.right.is_none();
+    }
+    // One of these is that rank: which of them does not matter.
+    let left = rank_at(knots, above.left);
+    let right = rank_at(knots, above.right);
+    left.min(right) + 1 < rank
+}
+
 /// From one subtree that has grown in rank to a tree that keeps the rules.
 pub(crate) fn repair_inserted<N, P: PtrCore, K: Knots<N, P>>(
     knots: &mut K,
@@ -66,10 +93,7 @@ pub(crate) fn repair_inserted<N, P: PtrCore, K: Knots<N, P>>(
         if below.rank < above.rank {
             return;
         }
-        // One of these is the rank of `low`: which of them does not matter.
-        let left = rank_at(knots, above.left);
-        let right = rank_at(knots, above.right);
-        if left.min(right) + 1 < below.rank {
+        if is_two_lower(knots, above, below.rank) {
             lean(knots, root, low);
             return;
         }

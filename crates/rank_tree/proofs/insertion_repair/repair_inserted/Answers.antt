@@ -1,15 +1,15 @@
-use Rattle.std.proofs.Common.{List, ℕ, ◌∙◌, ap, arith}
+use Rattle.std.proofs.Common.{◌≡◌, true, ◌≤◌, ◌+◌, List, ℕ, false, inl, inr, sym, ◌∙◌, ap, arith}
+use Rattle.std.proofs.lemmas.Bool.{cases_lt, false≢true}
 use Rattle.std.specs.Option.{option_map}
-use Rattle.rank_tree.proofs.NameLemmas.{if_live}
 use Rattle.rank_tree.specs.Named.{named}
-use Rattle.rank_tree.specs.Repair.{Grown}
-use Rattle.rank_tree.specs.declared.side.Side.TheVariants.{Left, Right}
-use Rattle.rank_tree.specs.ClimbLaws.{Climbing, ClimbReads, grown_under, grown_ends, grown_lives}
-use Rattle.rank_tree.specs.ClimbLaws.{parent_lives, children_live, climb_reads, climb_write}
+use Rattle.rank_tree.specs.Tree.{rank_of}
+use Rattle.rank_tree.specs.Repair.{Grown, Leaning}
+use Rattle.rank_tree.specs.ClimbLaws.{Climbing, IsLevel, grown_under, grown_ends, grown_lives}
+use Rattle.rank_tree.specs.ClimbLaws.{parent_lives, climb_write}
 use Rattle.rank_tree.specs.ClimbLaws.{climb_small, climb_ends, climb_leans, climb_up, climb_kept}
 use Rattle.rank_tree.specs.ClimbLaws.{climb_ranks, climb_falls}
 use Rattle.rank_tree.specs.FrameLaws.{both_kept}
-use Rattle.rank_tree.proofs.insertion_repair.repair_inserted.Goals.{In-Some, After-rank_at-right}
+use Rattle.rank_tree.proofs.insertion_repair.repair_inserted.Goals.{In-Some, After-is_two_lower}
 use Rattle.rank_tree.proofs.insertion_repair.repair_inserted.Goals as goal
 
 -- the node that has grown, below its parent
@@ -24,18 +24,45 @@ under g c w grown =
     (option_map g.P.Inx.PtrInxCore.number) c.in-Some.is)
     (c.climb.invariant.0 w grown)
 
--- what was read is what stands there
-read : (g : _) (c : After-rank_at-right g) (w : List ℕ)
+-- the parent, where it is no higher than the node that has grown
+level : (g : _) (c : After-is_two_lower g) (w : List ℕ)
     (h : Climbing (g.K.Knots.knots c.climb.knots) (option_map g.P.Inx.PtrInxCore.number
     c.climb.root)
     (g.P.Inx.PtrInxCore.number c.climb.low) w (g.P.Inx.PtrInxCore.number c.in-Some.high))
-    → ClimbReads _ _ _ _ w h (named g.P.Inx.PtrInxCore.number c.read-below.result)
-    (named g.P.Inx.PtrInxCore.number c.read-above.result) c.rank_at-left.result
-    c.rank_at-right.result
-read g c w h =
-    climb_reads _ _ _ _ _ _ _ _ c.read-below.ensures c.read-above.ensures
-    c.rank_at-left.ensures.some
-    c.rank_at-left.ensures.none c.rank_at-right.ensures.some c.rank_at-right.ensures.none w h
+    → IsLevel _ _ _ _ _ h (named g.P.Inx.PtrInxCore.number c.read-above.result)
+    c.read-below.result.rank
+level g c w h =
+    let at = goal.at.After-is_two_lower g c in
+    let e = climb_ranks _ _ _ _ _ _ c.read-below.ensures c.read-above.ensures w h in
+    record { at_high = c.read-above.ensures; rank_is = e.0; no_higher = omega arith }
+
+-- its other child is two lower
+leans : (g : _) (c : After-is_two_lower g) → c.is_two_lower.result ≡ true → (w : List ℕ)
+    → Climbing (g.K.Knots.knots c.climb.knots) (option_map g.P.Inx.PtrInxCore.number
+    c.climb.root)
+    (g.P.Inx.PtrInxCore.number c.climb.low) w (g.P.Inx.PtrInxCore.number c.in-Some.high)
+    → Leaning (g.K.Knots.knots c.climb.knots) (option_map g.P.Inx.PtrInxCore.number c.climb.root)
+    (g.P.Inx.PtrInxCore.number c.climb.low) w
+leans g c said w h =
+    let l = level g c w h in
+    let rank_is = l.rank_is in
+    let less = (c.is_two_lower.ensures _ _ w _ h l).0 said in
+    climb_leans _ _ _ _ w h l.no_higher (omega arith)
+
+-- or one lower
+rises : (g : _) (c : After-is_two_lower g) → c.is_two_lower.result ≡ false → (w : List ℕ)
+    (h : Climbing (g.K.Knots.knots c.climb.knots) (option_map g.P.Inx.PtrInxCore.number
+    c.climb.root)
+    (g.P.Inx.PtrInxCore.number c.climb.low) w (g.P.Inx.PtrInxCore.number c.in-Some.high))
+    → h.rank ≤ rank_of h.far + 1
+rises g c denied w h =
+    let l = level g c w h in
+    let rank_is = l.rank_is in
+    let tested = c.is_two_lower.ensures _ _ w _ h l in
+    elim (cases_lt (rank_of h.far + 1) c.read-below.result.rank) [
+      | inl less ↦ absurd (false≢true (sym denied ∙ tested.1 less))
+      | inr more ↦ omega arith
+    ]
 
 pub read-below-requires-clause-live : goal.read-below-requires-clause-live
 read-below-requires-clause-live g c =
@@ -52,37 +79,33 @@ returns-then-below-above-clause-does g c = λ w grown.
     let e = climb_ranks _ _ _ _ _ _ c.read-below.ensures c.read-above.ensures w h in
     climb_ends _ _ _ _ w h (omega arith)
 
-pub rank_at-left-requires-clause-live : goal.rank_at-left-requires-clause-live
-rank_at-left-requires-clause-live g c =
-    let h = under g (goal.at.rank_at-left-requires-clause-live g c).In-Some _ c.requires.grown.1 in
-    if_live g.P.Inx.PtrInxCore.number (g.K.Knots.knots c.climb.knots) c.read-above.result.left
-    (children_live _ _ _ _ _ Left c.read-above.ensures _ h)
-
-pub rank_at-right-requires-clause-live : goal.rank_at-right-requires-clause-live
-rank_at-right-requires-clause-live g c =
-    let h = under g (goal.at.rank_at-right-requires-clause-live g c).In-Some _ c.requires.grown.1 in
-    if_live g.P.Inx.PtrInxCore.number (g.K.Knots.knots c.climb.knots) c.read-above.result.right
-    (children_live _ _ _ _ _ Right c.read-above.ensures _ h)
-
-pub overflow_add-min : goal.overflow_add-min
-overflow_add-min g c =
-    let at = goal.at.overflow_add-min g c in
-    let h = under g at.In-Some _ c.requires.grown.1 in
-    let r = read g at.After-rank_at-right _ h in
-    let b = climb_small _ _ _ _ _ h in omega arith
+pub is_two_lower-requires-clause-level : goal.is_two_lower-requires-clause-level
+is_two_lower-requires-clause-level g c =
+    let h = under g (goal.at.is_two_lower-requires-clause-level g c).In-Some _ c.requires.grown.1 in
+    let e = climb_ranks _ _ _ _ _ _ c.read-below.ensures c.read-above.ensures _ h in (
+      _,
+      _,
+      _,
+      _,
+      h,
+      record { at_high = c.read-above.ensures; rank_is = e.0; no_higher = omega arith },
+    )
 
 pub lean-requires-clause-leaning : goal.lean-requires-clause-leaning
 lean-requires-clause-leaning g c =
-    let at = goal.at.lean-requires-clause-leaning g c in
-    let h = under g at.In-Some _ c.requires.grown.1 in
-    let r = read g at.After-rank_at-right _ h in
-    (c.requires.grown.0, climb_leans _ _ _ _ _ h (omega arith) (omega arith))
+    let at = goal.at.lean-requires-clause-leaning g c in (
+      c.requires.grown.0,
+      leans g at.After-is_two_lower c.if-is_two_lower.true _
+          (under g at.In-Some _ c.requires.grown.1),
+    )
 
 pub overflow_add-above : goal.overflow_add-above
 overflow_add-above g c =
     let at = goal.at.overflow_add-above g c in
     let h = under g at.In-Some _ c.requires.grown.1 in
-    let r = read g at.After-rank_at-right _ h in
+    let l = level g at.After-is_two_lower _ h in
+    let e = climb_ranks _ _ _ _ _ _ c.read-below.ensures c.read-above.ensures _ h in
+    let no_higher = l.no_higher in
     let b = climb_small _ _ _ _ _ h in omega arith
 
 pub returns-in_default-clause-does : goal.returns-in_default-clause-does
@@ -91,18 +114,20 @@ returns-in_default-clause-does g c = λ w grown.
     c.in_default.is)
     (c.climb.invariant.0 w grown)
 
-pub returns-then-min-below-clause-does : goal.returns-then-min-below-clause-does
-returns-then-min-below-clause-does g c = λ w grown.
-    let at = goal.at.returns-then-min-below-clause-does g c in
-    let h = under g at.In-Some w grown in
-    let r = read g at.After-rank_at-right w h in
-    c.lean.ensures.does w (climb_leans _ _ _ _ w h (omega arith) (omega arith))
+pub returns-then-is_two_lower-clause-does : goal.returns-then-is_two_lower-clause-does
+returns-then-is_two_lower-clause-does g c = λ w grown.
+    let at = goal.at.returns-then-is_two_lower-clause-does g c in
+    c.lean.ensures.does w (leans g at.After-is_two_lower c.if-is_two_lower.true w
+    (under g at.In-Some w grown))
 
 pub climb-smaller : goal.climb-smaller
 climb-smaller g c =
     let at = goal.at.climb-smaller g c in
     let h = under g at.In-Some _ c.requires.grown.1 in
-    let r = read g at.After-rank_at-right _ h in
+    let rank_is = (level g at.After-is_two_lower _ h).rank_is in
+    let one_more = h.one_more in
+    let f = h.high_fits in
+    let e = climb_ranks _ _ _ _ _ _ c.read-below.ensures c.read-above.ensures _ h in
     let b = climb_small _ _ _ _ _ h in
     climb_falls _ _ _ _ _ _ c.read-below.ensures (c.set_rank.ensures.does _ c.read-above.ensures)
     (omega arith) (omega arith)
@@ -113,8 +138,8 @@ climb-preserved g c =
     let written = c.set_rank.ensures.does _ c.read-above.ensures in (
       λ w grown.
           let h = under g at.In-Some w grown in
-          let r = read g at.After-rank_at-right w h in
-          climb_up _ _ _ _ _ w h (omega arith) (omega arith)
+          climb_up _ _ _ _ _ w h (level g at.After-is_two_lower w h).no_higher
+          (rises g at.After-is_two_lower c.if-is_two_lower.false w h)
           (climb_write _ _ _ _ _ _ c.read-above.ensures written w h),
       c.set_rank.ensures.keeps ∙ c.climb.invariant.1,
       λ w grown.
@@ -128,10 +153,9 @@ returns-in_default-clause-elsewhere g c = c.climb.invariant.2
 pub returns-then-below-above-clause-elsewhere : goal.returns-then-below-above-clause-elsewhere
 returns-then-below-above-clause-elsewhere g c = c.climb.invariant.2
 
-pub returns-then-min-below-clause-elsewhere : goal.returns-then-min-below-clause-elsewhere
-returns-then-min-below-clause-elsewhere g c = λ w grown.
-    let at = goal.at.returns-then-min-below-clause-elsewhere g c in
-    let h = under g at.In-Some w grown in
-    let r = read g at.After-rank_at-right w h in
+pub returns-then-is_two_lower-clause-elsewhere : goal.returns-then-is_two_lower-clause-elsewhere
+returns-then-is_two_lower-clause-elsewhere g c = λ w grown.
+    let at = goal.at.returns-then-is_two_lower-clause-elsewhere g c in
     both_kept w _ _ _ (c.climb.invariant.2 w grown)
-    (c.lean.ensures.elsewhere w (climb_leans _ _ _ _ w h (omega arith) (omega arith)))
+    (c.lean.ensures.elsewhere w (leans g at.After-is_two_lower c.if-is_two_lower.true w
+    (under g at.In-Some w grown)))
