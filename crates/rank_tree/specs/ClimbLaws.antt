@@ -8,8 +8,8 @@ use Rattle.rank_tree.specs.declared.side.Side.TheVariants.{Left, Right}
 use Rattle.rank_tree.specs.Store.{Store, other_side, child_of, Written, with_rank, rank_in}
 use Rattle.rank_tree.specs.Store.{rank_or_zero}
 use Rattle.rank_tree.specs.Tree.{Tree, leaf, node, walk, size, rank_of, IsRanked, Fits}
-use Rattle.rank_tree.specs.Shape.{make, knot, root_of, Context, top, under, plug, holder, Hangs}
-use Rattle.rank_tree.specs.Shape.{Stands, one, count, count_round, IsDistinct}
+use Rattle.rank_tree.specs.Shape.{make, near_of, knot, root_of, Context, top, under, plug}
+use Rattle.rank_tree.specs.Shape.{holder, Hangs, Stands, one, count, count_round, IsDistinct}
 use Rattle.rank_tree.specs.Repair.{Spot, IsRankedRound, Restored, Grown, Leaning, KeptOff}
 use Rattle.rank_tree.specs.BoundLaws.{small_rank}
 use Rattle.rank_tree.specs.FrameLaws.{one-same, Represents-keep, Hangs-keep, make-count, make-root}
@@ -46,11 +46,6 @@ pub same-walk-rank : (s : Side) (t : Tree) (y k j : ℕ) (far : Tree)
     → walk (make s t y k far) ≡ walk (make s t y j far)
 same-walk-rank Left t y k j far = refl
 same-walk-rank Right t y k j far = refl
-
--- the side of a node
-abbrev pub near_of : Side → Tree → Tree → Tree
-near_of Left l r = l
-near_of Right l r = r
 
 pub as_make : (s : Side) (l : Tree) (i k : ℕ) (r : Tree)
     → node l i k r ≡ make s (near_of s l r) i k (near_of (other_side s) l r)
@@ -374,16 +369,16 @@ some_node : (t : Tree) → IsRanked t → (root_of t ≡ None → ⊥) → 0 < r
 some_node leaf h there = absurd (there refl)
 some_node (node l i k r) h there = let f = h.0 in omega arith
 
-none_node : (t : Tree) → root_of t ≡ None → rank_of t ≡ 0
-none_node leaf e = refl
-none_node (node l i k r) e = absurd (cc)
+pub none_rank : (t : Tree) → root_of t ≡ None → rank_of t ≡ 0
+none_rank leaf e = refl
+none_rank (node l i k r) e = absurd (cc)
 
 -- the child beside the one that has grown
 sibling_none : (s z : Side) (p : Option ℕ) (low k : ℕ) (far : Tree)
     → child_of z (knot s p (Some low) k (root_of far)) ≡ None → rank_of far ≡ 0
 sibling_none Left Left p low k far e = absurd (cc)
-sibling_none Left Right p low k far e = none_node far e
-sibling_none Right Left p low k far e = none_node far e
+sibling_none Left Right p low k far e = none_rank far e
+sibling_none Right Left p low k far e = none_rank far e
 sibling_none Right Right p low k far e = absurd (cc)
 
 sibling_some : (s : Side) (p : Option ℕ) (low k : ℕ) (far : Tree) → IsRanked far

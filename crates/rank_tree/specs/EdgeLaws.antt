@@ -146,7 +146,7 @@ attached_kept n m root at_holder side new v g w = λ j off.
 pub detached : (n n1 n2 : Store) (root new_root : Option ℕ) (gone : ℕ) (h : Loose n root gone)
     → Reparented n n1 (root_of h.sub) (holder h.context)
     → Relinked n1 n2 root new_root (holder h.context) gone (root_of h.sub)
-    → Pending n2 new_root (holder h.context) (walk (plug h.context h.sub))
+    → Pending n2 new_root (holder h.context) (root_of h.sub) (walk (plug h.context h.sub))
 detached n n1 n2 root new_root gone h w1 w2 =
     let c = h.context in
     let s = h.side in
@@ -284,14 +284,16 @@ pub detach_works : (n n1 n2 : Store) (root new_root : Option ℕ) (gone : ℕ) (
     (link : Option ℕ)
     → Reparented n n1 link value.parent → Relinked n1 n2 root new_root value.parent gone link
     → (h : Loose n root gone) → LooseReads n root gone h value link
-    → Pending n2 new_root value.parent (walk (plug h.context h.sub))
+    → Pending n2 new_root value.parent link (walk (plug h.context h.sub))
     × KeptOff (walk (plug h.context h.sub)) n n2
 detach_works n n1 n2 root new_root gone value link w1 w2 h r =
     let moved = subst (λ l. Reparented n n1 l (holder h.context)) r.link_is
     (subst (λ p. Reparented n n1 link p) r.parent_is w1) in
     let hung = subst (λ l. Relinked n1 n2 root new_root (holder h.context) gone l) r.link_is
     (subst (λ p. Relinked n1 n2 root new_root p gone link) r.parent_is w2) in (
-      subst (λ p. Pending n2 new_root p (walk (plug h.context h.sub))) (sym r.parent_is)
-          (detached n n1 n2 root new_root gone h moved hung),
+      subst (λ l. Pending n2 new_root value.parent l (walk (plug h.context h.sub)))
+          (sym r.link_is)
+          (subst (λ p. Pending n2 new_root p (root_of h.sub) (walk (plug h.context h.sub)))
+          (sym r.parent_is) (detached n n1 n2 root new_root gone h moved hung)),
       detached_kept n n1 n2 root new_root gone h moved hung,
     )

@@ -9,11 +9,11 @@ use Rattle.rank_tree.specs.declared.side.Side.{Side}
 use Rattle.rank_tree.specs.declared.side.Side.TheVariants.{Left, Right}
 use Rattle.rank_tree.specs.Store.{Store, other_side, child_of, Written, with_rank, rank_in}
 use Rattle.rank_tree.specs.Store.{rank_or_zero, ahead}
-use Rattle.rank_tree.specs.Tree.{Tree, node, walk, rank_of, IsRanked, Fits}
-use Rattle.rank_tree.specs.Shape.{make, knot, root_of, Context, top, under, plug, holder}
-use Rattle.rank_tree.specs.Shape.{Represents, Hangs, Stands, IsDistinct, one, count}
+use Rattle.rank_tree.specs.Tree.{Tree, leaf, node, walk, rank_of, IsRanked, Fits}
+use Rattle.rank_tree.specs.Shape.{make, near_of, knot, root_of, Context, top, under, plug}
+use Rattle.rank_tree.specs.Shape.{holder, Represents, Hangs, Stands, IsDistinct, one, count}
 use Rattle.rank_tree.specs.Repair.{Spot, IsRankedRound, Restored, Broken, Nearly, Pending, Short}
-use Rattle.rank_tree.specs.Repair.{KeptOff}
+use Rattle.rank_tree.specs.Repair.{KeptOff, IsFitAbove}
 use Rattle.rank_tree.specs.FrameLaws.{one-same, make-count, plug-count, make-rank, make-root}
 use Rattle.rank_tree.specs.FrameLaws.{make-walk, make-closes, plug-opens, plug-walk}
 use Rattle.rank_tree.specs.FrameLaws.{IsDistinct-walk, write_kept, both_kept}
@@ -21,25 +21,40 @@ use Rattle.rank_tree.specs.SpotLaws.{is_some, if_some, root-lives, spotted, knot
 use Rattle.rank_tree.specs.SpotLaws.{knot_parent, rank_read, both_ranks, write-lives}
 use Rattle.rank_tree.specs.TurningLaws.{make-ranked, make-ranked-opens, plug-ranked, open_tree}
 use Rattle.rank_tree.specs.TurningLaws.{root-some}
-use Rattle.rank_tree.specs.ClimbLaws.{ranked-write, same-walk-rank, near_of, as_make, as_node}
-use Rattle.rank_tree.specs.ClimbLaws.{near_ranks, plug-small}
+use Rattle.rank_tree.specs.ClimbLaws.{ranked-write, same-walk-rank, as_make, as_node}
+use Rattle.rank_tree.specs.ClimbLaws.{near_ranks, plug-small, none_rank}
 
--- the child that a side names keeps what both keep
-near_ranked : (s : Side) (a b : Tree) → IsRanked a → IsRanked b → IsRanked (near_of s a b)
-near_ranked Left a b p q = p
-near_ranked Right a b p q = q
+-- what holds of both children holds of the one that a side names
+near_holds : (P : Tree → Type 0) (s : Side) (a b : Tree) → P a → P b → P (near_of s a b)
+near_holds P Left a b p q = p
+near_holds P Right a b p q = q
+
+-- and the other way round
+near_tells : (P : Tree → Type 0) (s : Side) (a b : Tree) → P (near_of s a b)
+    → P (near_of (other_side s) a b) → P a × P b
+near_tells P Left a b p q = (p, q)
+near_tells P Right a b p q = (q, p)
 
 near_nearly : (s : Side) (a b : Tree) (k : ℕ) → Nearly (rank_of a) k (rank_of b)
     → Nearly (rank_of (near_of s a b)) k (rank_of (near_of (other_side s) a b))
 near_nearly Left a b k f = f
 near_nearly Right a b k f = omega arith
 
--- a subtree has lost one rank
+near_first : (s : Side) (a b : Tree) → a ≡ near_of s (near_of s a b) (near_of (other_side s) a b)
+near_first Left a b = refl
+near_first Right a b = refl
+
+near_second : (s : Side) (a b : Tree)
+    → b ≡ near_of (other_side s) (near_of s a b) (near_of (other_side s) a b)
+near_second Left a b = refl
+near_second Right a b = refl
+
+-- a subtree has lost one rank, and is the child that may be too low
 pub pending_up : (m : Store) (root : Option ℕ) (c : Context) (t : Tree) (k : ℕ) (w : List ℕ)
     → IsDistinct (plug c t)
     → Stands m root (plug c t) → IsRanked t → rank_of t + 1 ≡ k → IsRankedRound c k
     → walk (plug c t) ≡ w → length w < 2 ^ 64
-    → Pending m root (holder c) w
+    → Pending m root (holder c) (root_of t) w
 pending_up m root top t k w d h r e round q small
     = record { tree = t; stands = h; ranked = r; is_walk = q }
 pending_up m root (under c s i j far) t k w d h r e round q small =
@@ -53,22 +68,27 @@ pending_up m root (under c s i j far) t k w d h r e round q small =
       right = near_of (other_side s) t far;
       distinct = subst (λ z. IsDistinct (plug c z)) is d;
       stands = subst (λ z. Stands m root (plug c z)) is h;
-      left_ranked = near_ranked s t far r round.1;
-      right_ranked = near_ranked (other_side s) t far r round.1;
+      left_ranked = near_holds IsRanked s t far r round.1;
+      right_ranked = near_holds IsRanked (other_side s) t far r round.1;
       nearly = near_nearly s t far j o;
+      side = s;
+      near_is = ap root_of (near_first s t far);
+      far_near = subst (λ z. j ≤ rank_of z + 2) (near_second s t far) f.near_right;
       round = round.2;
       is_walk = ap (λ z. walk (plug c z)) (sym is) ∙ q;
       small = small;
     }
 
-pub broken_knot : (n : Store) (root : Option ℕ) (high : ℕ) (w : List ℕ) (h : Broken n root high w)
+pub broken_knot : (n : Store) (root : Option ℕ) (high : ℕ) (near : Option ℕ) (w : List ℕ)
+    (h : Broken n root high near w)
     → n high ≡ Some (knot Left (holder h.context) (root_of h.left) h.rank (root_of h.right))
-broken_knot n root high w h
+broken_knot n root high near w h
     = (plug-opens n root h.context (node h.left high h.rank h.right) h.stands).1.0
 
-pub broken_lives : (n : Store) (root : Option ℕ) (high : ℕ) (w : List ℕ) → Broken n root high w
+pub broken_lives : (n : Store) (root : Option ℕ) (high : ℕ) (near : Option ℕ) (w : List ℕ)
+    → Broken n root high near w
     → IsSome (n high)
-broken_lives n root high w h = is_some (n high) _ (broken_knot n root high w h)
+broken_lives n root high near w h = is_some (n high) _ (broken_knot n root high near w h)
 
 link_lives : (n : Store) (p : Option ℕ) (t : Tree) (link : Option ℕ) → link ≡ root_of t
     → Represents n p t
@@ -77,8 +97,8 @@ link_lives n p t link e h
     = if_some link (λ i. IsSome (n i)) (λ i u. root-lives n p t i h (sym e ∙ u))
 
 -- what the code reads of the broken node
-pub record BrokenReads (n : Store) (root : Option ℕ) (high : ℕ) (w : List ℕ)
-    (h : Broken n root high w) (above : Knot) : Type 0 where
+pub record BrokenReads (n : Store) (root : Option ℕ) (high : ℕ) (near : Option ℕ) (w : List ℕ)
+    (h : Broken n root high near w) (above : Knot) : Type 0 where
   pub knot_is : above ≡ knot Left (holder h.context) (root_of h.left) h.rank (root_of h.right)
   pub left_is : above.left ≡ root_of h.left
   pub right_is : above.right ≡ root_of h.right
@@ -92,11 +112,12 @@ pub record BrokenReads (n : Store) (root : Option ℕ) (high : ℕ) (w : List �
   pub right_small : rank_of h.right ≤ 127
 
 pub broken_reads : (n : Store) (root : Option ℕ) (high : ℕ) (above : Knot) → n high ≡ Some above
-    → (w : List ℕ) (h : Broken n root high w) → BrokenReads n root high w h above
-broken_reads n root high above e w h =
+    → (near : Option ℕ) (w : List ℕ) (h : Broken n root high near w)
+    → BrokenReads n root high near w h above
+broken_reads n root high above e near w h =
     let o = plug-opens n root h.context (node h.left high h.rank h.right) h.stands in
     let is : above ≡ knot Left (holder h.context) (root_of h.left) h.rank (root_of h.right) =
-    cc (broken_knot n root high w h) in
+    cc (broken_knot n root high near w h) in
     let left_is : above.left ≡ root_of h.left = ap (λ v. v.left) is in
     let right_is : above.right ≡ root_of h.right = ap (λ v. v.right) is in
     record {
@@ -115,21 +136,81 @@ broken_reads n root high above e w h =
           h.is_walk h.small;
     }
 
--- its rule holds after all
-pub broken_ends : (n : Store) (root : Option ℕ) (high : ℕ) (w : List ℕ) (h : Broken n root high w)
-    → h.rank ≤ rank_of h.left + 2
-    → h.rank ≤ rank_of h.right + 2 → h.rank ≤ rank_of h.left + rank_of h.right + 1
-    → Restored n root w
-broken_ends n root high w h p q r =
-    let f = h.nearly in
-    let fits : Fits (rank_of h.left) h.rank (rank_of h.right) = omega arith in
-    record {
-      tree = plug h.context (node h.left high h.rank h.right);
-      stands = h.stands;
-      ranked = plug-ranked h.context (node h.left high h.rank h.right) h.round
-          (fits, h.left_ranked, h.right_ranked);
-      is_walk = h.is_walk;
-    }
+-- a node's rule fails: a child is too low, or a node without children too high
+abbrev pub IsUnfit : ℕ → ℕ → ℕ → Type 0
+IsUnfit a k b = k ≤ a + 2 → k ≤ b + 2 → a + b + 2 ≤ k
+
+zero_root : (t : Tree) → IsRanked t → rank_of t ≡ 0 → root_of t ≡ None
+zero_root leaf h e = refl
+zero_root (node l i k r) h e = let f = h.0 in absurd (omega arith)
+
+module _ (n : Store) (root : Option ℕ) (high : ℕ) (above : Knot) (e : n high ≡ Some above)
+    (near : Option ℕ) (w : List ℕ) (h : Broken n root high near w) where
+  abbrev pub near_tree : Tree
+  near_tree = near_of h.side h.left h.right
+
+  near_stands : Represents n (Some high) near_tree
+  near_stands =
+      let r = broken_reads n root high above e near w h in
+      near_holds (Represents n (Some high)) h.side h.left h.right r.left_stands r.right_stands
+
+  -- the near child, as the code reads it
+  pub near_lives : IfSome near (λ i. IsSome (n i))
+  near_lives = link_lives n (Some high) near_tree near h.near_is near_stands
+
+  pub near_small : rank_of near_tree ≤ 127
+  near_small =
+      let r = broken_reads n root high above e near w h in
+      near_holds (λ t. rank_of t ≤ 127) h.side h.left h.right r.left_small r.right_small
+
+  module _ (k : ℕ) (some : (i : ℕ) → near ≡ Some i → IfSome (n i) (λ v. k ≡ v.rank))
+      (none : near ≡ None → k ≡ 0) where
+    pub near_rank : k ≡ rank_of near_tree
+    near_rank = rank_read n (Some high) near_tree near k h.near_is near_stands some none
+
+    -- the node's rule holds after all, since the far child keeps it
+    pub broken_ends : IsFitAbove above k → Restored n root w
+    broken_ends fit =
+        let r = broken_reads n root high above e near w h in
+        let f = h.nearly in
+        let near_is = near_rank in
+        let rank_is = r.rank_is in
+        let both = near_tells (λ t. h.rank ≤ rank_of t + 2) h.side h.left h.right
+        (omega arith) h.far_near in
+        let childless : h.rank ≤ rank_of h.left + rank_of h.right + 1 =
+        elim (cases_lt (rank_of h.left + rank_of h.right + 1) h.rank) [
+          | inl less ↦ absurd (fit.1 (omega arith)
+              (r.left_is ∙ zero_root h.left h.left_ranked (omega arith))
+              (r.right_is ∙ zero_root h.right h.right_ranked (omega arith)))
+          | inr more ↦ omega arith
+        ] in
+        let fits : Fits (rank_of h.left) h.rank (rank_of h.right) = omega arith in
+        record {
+          tree = plug h.context (node h.left high h.rank h.right);
+          stands = h.stands;
+          ranked = plug-ranked h.context (node h.left high h.rank h.right) h.round
+              (fits, h.left_ranked, h.right_ranked);
+          is_walk = h.is_walk;
+        }
+
+    -- or it does not
+    pub broken_unfit : (b : Bool) → (IsTrue b ↔ IsFitAbove above k) → b ≡ false
+        → IsUnfit (rank_of h.left) h.rank (rank_of h.right)
+    broken_unfit b tested denied p q =
+        let r = broken_reads n root high above e near w h in
+        let near_is = near_rank in
+        let rank_is = r.rank_is in
+        let low = near_holds (λ t. h.rank ≤ rank_of t + 2) h.side h.left h.right p q in
+        elim (cases_lt (rank_of h.left + rank_of h.right + 1) h.rank) [
+          | inl less ↦ omega arith
+          | inr more ↦ absurd (false≢true (sym denied ∙ tested.1 (
+            omega arith,
+            λ two left right.
+                let a = none_rank h.left (sym r.left_is ∙ left) in
+                let b = none_rank h.right (sym r.right_is ∙ right) in
+                omega arith,
+          )))
+        ]
 
 -- the parent of a broken node is higher, and what is written below leaves it alone
 pub round_rises : (n : Store) (root : Option ℕ) (c : Context) (link : Option ℕ) (k : ℕ)
@@ -141,24 +222,21 @@ round_rises n root (under c Left i j far) link k r h = let f = r.0 in let e =
 round_rises n root (under c Right i j far) link k r h = let f = r.0 in let e =
     ap rank_or_zero h.0 in omega arith
 
--- a node's rule fails: a child is too low, or a node without children too high
-abbrev pub IsUnfit : ℕ → ℕ → ℕ → Type 0
-IsUnfit a k b = k ≤ a + 2 → k ≤ b + 2 → a + b + 2 ≤ k
-
 -- the node loses one rank
 pub record Lowered (m : Store) (root : Option ℕ) (high : ℕ) (old : Store) (parent : Option ℕ)
     (w : List ℕ) : Type 0 where
-  pub pending : Pending m root parent w
+  pub pending : Pending m root parent (Some high) w
   pub rises : IfSome parent (λ i. rank_in old high < rank_in m i)
   pub kept : KeptOff w old m
 
 -- a node whose children are both two lower may lose one
 pub broken_lower : (n m : Store) (root : Option ℕ) (high : ℕ) (above : Knot) → n high ≡ Some above
-    → Written n m high (with_rank (above.rank - 1) above) → (w : List ℕ) (h : Broken n root high w)
+    → Written n m high (with_rank (above.rank - 1) above)
+    → (near : Option ℕ) (w : List ℕ) (h : Broken n root high near w)
     → rank_of h.left + 2 ≤ h.rank → rank_of h.right + 2 ≤ h.rank
     → Lowered m root high n above.parent w
-broken_lower n m root high above e written w h p q =
-    let r = broken_reads n root high above e w h in
+broken_lower n m root high above e written near w h p q =
+    let r = broken_reads n root high above e near w h in
     let f = h.nearly in
     let old = node h.left high h.rank h.right in
     let new = node h.left high (h.rank - 1) h.right in
@@ -171,13 +249,13 @@ broken_lower n m root high above e written w h p q =
     let distinct = IsDistinct-walk (plug h.context old) (plug h.context new) same h.distinct in
     let fits : Fits (rank_of h.left) (h.rank - 1) (rank_of h.right) = omega arith in
     let o = plug-opens m root h.context new stands in
-    let old_rank : rank_in n high ≡ h.rank = ap rank_or_zero (broken_knot n root high w h) in
+    let old_rank : rank_in n high ≡ h.rank = ap rank_or_zero (broken_knot n root high near w h) in
     let pending = pending_up m root h.context new h.rank w distinct stands
     (fits, h.left_ranked, h.right_ranked) (omega arith) h.round
     (sym same ∙ h.is_walk) h.small in
     let rises = round_rises m root h.context (Some high) h.rank h.round o.0 in
     record {
-      pending = subst (λ l. Pending m root l w) (sym r.holder_is) pending;
+      pending = subst (λ l. Pending m root l (Some high) w) (sym r.holder_is) pending;
       rises =
           subst (λ l. IfSome l (λ i. rank_in n high < rank_in m i)) (sym r.holder_is)
           (subst (λ k. IfSome (holder h.context) (λ i. k < rank_in m i)) (sym old_rank) rises);
@@ -185,12 +263,6 @@ broken_lower n m root high above e written w h p q =
           one-same high in write_kept n m high _ (plug h.context old) w written
           (omega arith) h.is_walk;
     }
-
-pub no_fit : (a k b : ℕ) → ((k ≤ a + 2) × (k ≤ b + 2) × (k ≤ a + b + 1) → ⊥) → IsUnfit a k b
-no_fit a k b f p q = elim (cases_lt (a + b + 1) k) [
-  | inl h ↦ omega arith
-  | inr h ↦ absurd (f (p, q, h))
-]
 
 -- the sibling of the lower child
 pub record Sibling (n : Store) (root : Option ℕ) (low : ℕ) (w : List ℕ) (high : ℕ) : Type 0 where
@@ -258,8 +330,8 @@ child_near Left p a b k = refl
 child_near Right p a b k = refl
 
 -- the higher child, and what holds of the ranks
-pub record Higher (n : Store) (root : Option ℕ) (high : ℕ) (w : List ℕ)
-    (h : Broken n root high w) (z : Side)
+pub record Higher (n : Store) (root : Option ℕ) (high : ℕ) (near : Option ℕ) (w : List ℕ)
+    (h : Broken n root high near w) (z : Side)
     (link : Option ℕ) : Type 0 where
   pub link_is : link ≡ root_of (near_of z h.left h.right)
   pub one_less : rank_of (near_of z h.left h.right) + 1 ≡ h.rank
@@ -267,13 +339,13 @@ pub record Higher (n : Store) (root : Option ℕ) (high : ℕ) (w : List ℕ)
 
 pub broken_higher : (n : Store) (root : Option ℕ) (high : ℕ) (above : Knot) (z : Side)
     → n high ≡ Some above
-    → (w : List ℕ) (h : Broken n root high w)
+    → (near : Option ℕ) (w : List ℕ) (h : Broken n root high near w)
     → (rank_of h.left < rank_of h.right → z ≡ Right) → (rank_of h.right ≤ rank_of h.left → z ≡ Left)
     → IsUnfit (rank_of h.left) h.rank (rank_of h.right)
     → h.rank < max (rank_of h.left) (rank_of h.right) + 2
-    → Higher n root high w h z (child_of z above)
-broken_higher n root high above z e w h right left not_fits tight =
-    let r = broken_reads n root high above e w h in
+    → Higher n root high near w h z (child_of z above)
+broken_higher n root high above z e near w h right left not_fits tight =
+    let r = broken_reads n root high above e near w h in
     let o = near_nearly z h.left h.right h.rank h.nearly in
     let more = higher_side z h.left h.right right left in
     let sum = near_ranks z h.left h.right in
@@ -286,16 +358,17 @@ broken_higher n root high above z e w h right left not_fits tight =
     }
 
 pub broken_sibling : (n : Store) (root : Option ℕ) (high low : ℕ) (z : Side) (link : Option ℕ)
-    (w : List ℕ) (h : Broken n root high w)
-    → Higher n root high w h z link → link ≡ Some low → Sibling n root low w high
-broken_sibling n root high low z link w h up e =
+    (near : Option ℕ) (w : List ℕ) (h : Broken n root high near w)
+    → Higher n root high near w h z link → link ≡ Some low → Sibling n root low w high
+broken_sibling n root high low z link near w h up e =
     let near = near_of z h.left h.right in
     let far = near_of (other_side z) h.left h.right in
     let v = open_tree z near low (sym up.link_is ∙ e) in
     let is : node h.left high h.rank h.right
     ≡ make z (make z v.near low v.rank v.far) high h.rank far =
     as_make z h.left high h.rank h.right ∙ ap (λ t. make z t high h.rank far) v.is in
-    let near_is = subst IsRanked v.is (near_ranked z h.left h.right h.left_ranked h.right_ranked) in
+    let near_is = subst IsRanked v.is
+    (near_holds IsRanked z h.left h.right h.left_ranked h.right_ranked) in
     let parts = make-ranked-opens z v.near low v.rank v.far near_is in
     let rank_is : rank_of near ≡ v.rank = ap rank_of v.is ∙ make-rank z v.near low v.rank v.far in
     let one_less = up.one_less in
@@ -316,7 +389,7 @@ broken_sibling n root high low z link w h up e =
       fits = parts.fits;
       outer_ranked = parts.near;
       inner_ranked = parts.far;
-      far_ranked = near_ranked (other_side z) h.left h.right h.left_ranked h.right_ranked;
+      far_ranked = near_holds IsRanked (other_side z) h.left h.right h.left_ranked h.right_ranked;
       one_less = omega arith;
       three_less = up.three_less;
       round = h.round;
@@ -325,10 +398,10 @@ broken_sibling n root high low z link w h up e =
     }
 
 -- it is there
-pub higher_some : (n : Store) (root : Option ℕ) (high : ℕ) (z : Side) (link : Option ℕ) (w : List ℕ)
-    (h : Broken n root high w)
-    → Higher n root high w h z link → link ≡ None → ⊥
-higher_some n root high z link w h up none =
+pub higher_some : (n : Store) (root : Option ℕ) (high : ℕ) (z : Side) (link near : Option ℕ)
+    (w : List ℕ) (h : Broken n root high near w)
+    → Higher n root high near w h z link → link ≡ None → ⊥
+higher_some n root high z link near w h up none =
     let one_less = up.one_less in
     let three_less = up.three_less in
     root-some (near_of z h.left h.right) (omega arith) (sym up.link_is ∙ none)
@@ -379,9 +452,10 @@ sibling_lower n m m' root low high j k w h p q ej ek written written' =
     ap rank_or_zero f2.at_high ∙ knot_rank s _ _ _ _ in
     record {
       pending =
-          pending_up m' root c new x.high_rank w (IsDistinct-walk _ _ new_walk half_distinct) done
+          subst (λ l. Pending m' root (holder c) l w) (make-root s new_low x.high k x.far)
+          (pending_up m' root c new x.high_rank w (IsDistinct-walk _ _ new_walk half_distinct) done
           ranked (omega arith) h.round
-          (sym new_walk ∙ sym same_whole ∙ h.is_walk) h.small;
+          (sym new_walk ∙ sym same_whole ∙ h.is_walk) h.small);
       rises =
           subst (λ z. IfSome (holder c) (λ i. z < rank_in m' i)) (sym old_rank)
           (round_rises m' root c (root_of new) x.high_rank h.round o.0);
@@ -417,17 +491,18 @@ pub mend_falls : (n m : Store) (high : ℕ) (link next : Option ℕ) → link �
 mend_falls n m high link None e h small = rw e (omega arith)
 mend_falls n m high link (Some i) e h small = rw e (omega arith)
 
-pub broken_small : (n : Store) (root : Option ℕ) (high : ℕ) (w : List ℕ) → Broken n root high w
+pub broken_small : (n : Store) (root : Option ℕ) (high : ℕ) (near : Option ℕ) (w : List ℕ)
+    → Broken n root high near w
     → rank_in n high < 256
-broken_small n root high w h =
-    let r = broken_reads n root high _ (broken_knot n root high w h) w h in
-    let e = ap rank_or_zero (broken_knot n root high w h) in
+broken_small n root high near w h =
+    let r = broken_reads n root high _ (broken_knot n root high near w h) near w h in
+    let e = ap rank_or_zero (broken_knot n root high near w h) in
     let f = h.nearly in
     omega arith
 
 -- what the code of a step reads
-pub record MendReads (n : Store) (root : Option ℕ) (high : ℕ) (w : List ℕ)
-    (h : Broken n root high w) (above : Knot)
+pub record MendReads (n : Store) (root : Option ℕ) (high : ℕ) (near : Option ℕ) (w : List ℕ)
+    (h : Broken n root high near w) (above : Knot)
     (l r : ℕ) : Type 0 where
   pub rank_is : above.rank ≡ h.rank
   pub left_is : l ≡ rank_of h.left
@@ -440,9 +515,10 @@ pub mend_reads : (n : Store) (root : Option ℕ) (high : ℕ) (above : Knot) (l 
     → ((i : ℕ) → above.left ≡ Some i → IfSome (n i) (λ v. l ≡ v.rank)) → (above.left ≡ None → l ≡ 0)
     → ((i : ℕ) → above.right ≡ Some i → IfSome (n i) (λ v. r ≡ v.rank))
     → (above.right ≡ None → r ≡ 0)
-    → (w : List ℕ) (h : Broken n root high w) → MendReads n root high w h above l r
-mend_reads n root high above l r e ls ln rs rn w h =
-    let b = broken_reads n root high above e w h in
+    → (near : Option ℕ) (w : List ℕ) (h : Broken n root high near w)
+    → MendReads n root high near w h above l r
+mend_reads n root high above l r e ls ln rs rn near w h =
+    let b = broken_reads n root high above e near w h in
     record {
       rank_is = b.rank_is;
       left_is = rank_read n (Some high) h.left above.left l b.left_is b.left_stands ls ln;
@@ -451,27 +527,16 @@ mend_reads n root high above l r e ls ln rs rn w h =
       right_small = b.right_small;
     }
 
--- what the code found about the rule
-pub not_fit : (b : Bool) (l k r : ℕ) → (IsTrue b ↔ ((k ≤ l + 2) × (k ≤ r + 2) × (k ≤ l + r + 1)))
-    → b ≡ false → IsUnfit l k r
-not_fit b l k r f e = no_fit l k r (λ q. false≢true (sym e ∙ f.1 q))
-
-not_fit_at : (n : Store) (root : Option ℕ) (high : ℕ) (w : List ℕ) (h : Broken n root high w)
-    (above : Knot) (l r : ℕ)
-    → MendReads n root high w h above l r → IsUnfit l above.rank r
-    → IsUnfit (rank_of h.left) h.rank (rank_of h.right)
-not_fit_at n root high w h above l r m f p q = let g = f (omega arith) (omega arith) in omega arith
-
 pub mend_higher : (n : Store) (root : Option ℕ) (high : ℕ) (above : Knot) (l r : ℕ) (z : Side)
-    (link : Option ℕ) (w : List ℕ)
-    (h : Broken n root high w) → MendReads n root high w h above l r → n high ≡ Some above
-    → IsUnfit l above.rank r → above.rank < max l r + 2 → (l < r → z ≡ Right) → (r ≤ l → z ≡ Left)
-    → link ≡ child_of z above → Higher n root high w h z link
-mend_higher n root high above l r z link w h m e not_fits tight right left is =
-    let not_fits_at = not_fit_at n root high w h above l r m not_fits in
-    subst (Higher n root high w h z) (sym is)
-    (broken_higher n root high above z e w h (λ p. right (omega arith))
-    (λ p. left (omega arith)) not_fits_at (omega arith))
+    (link near : Option ℕ) (w : List ℕ) (h : Broken n root high near w)
+    → MendReads n root high near w h above l r → n high ≡ Some above
+    → IsUnfit (rank_of h.left) h.rank (rank_of h.right)
+    → above.rank < max l r + 2 → (l < r → z ≡ Right) → (r ≤ l → z ≡ Left)
+    → link ≡ child_of z above → Higher n root high near w h z link
+mend_higher n root high above l r z link near w h m e not_fits tight right left is =
+    subst (Higher n root high near w h z) (sym is)
+    (broken_higher n root high above z e near w h (λ p. right (omega arith))
+    (λ p. left (omega arith)) not_fits (omega arith))
 
 -- what the code reads of the sibling: its rank, and those of its children
 pub record SiblingReads (n : Store) (root : Option ℕ) (low high : ℕ) (w : List ℕ)

@@ -37,17 +37,19 @@ pub(crate) fn attach<N, P: PtrCore, K: Knots<N, P>>(
     knots.set_child(holder, side, &Some(new));
 }
 
-/// A node with at most one child leaves the tree; the answer is where the rules may be broken.
+/// A node with at most one child leaves the tree; the answer is where the rules may be broken, and
+/// the child there that may be too low.
 pub(crate) fn detach<N, P: PtrCore, K: Knots<N, P>>(
     knots: &mut K,
     root: &mut Option<P::Inx>,
     gone: P::Inx,
-) -> Option<P::Inx>
+) -> (Option<P::Inx>, Option<P::Inx>)
     requires { Loose (K.knots knots.old) (option_map P.Inx.number root.old) (P.Inx.number gone) }
     ensures does { (loose : Loose (K.knots knots.old) (option_map P.Inx.number root.old)
         (P.Inx.number gone))
         → Pending (K.knots knots.new) (option_map P.Inx.number root.new)
-        (option_map P.Inx.number result) (walk (plug loose.context loose.sub)) }
+        (option_map P.Inx.number result.0) (option_map P.Inx.number result.1)
+        (walk (plug loose.context loose.sub)) }
     ensures elsewhere { (loose : Loose (K.knots knots.old) (option_map P.Inx.number root.old)
         (P.Inx.number gone))
         → KeptOff (walk (plug loose.context loose.sub)) (K.knots knots.old) (K.knots knots.new) }
@@ -57,7 +59,7 @@ pub(crate) fn detach<N, P: PtrCore, K: Knots<N, P>>(
     let child = first_child(knot);
     reparent(knots, child, knot.parent);
     relink(knots, root, knot.parent, gone, child);
-    knot.parent
+    (knot.parent, child)
 }
 
 /// `new`, which is not in the tree, takes the place and the rank of `old`.

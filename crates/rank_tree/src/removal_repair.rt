@@ -1,17 +1,19 @@
 //! The rank rules are restored after a removal.
-ghost use Rattle.std.specs.Prelude.{◌≡◌, ℕ, ◌+◌, ◌<◌, ◌≤◌, List, IfSome, IsTrue, ◌↔◌, ⊤};
+ghost use Rattle.std.specs.Prelude.{◌≡◌, ℕ, ◌<◌, ◌≤◌, List, Some, IfSome, IsTrue, ◌↔◌, ⊤};
 ghost use Rattle.std.specs.Option.{option_map};
 ghost use Rattle.rank_tree.specs.Store.{rank_in};
 ghost use Rattle.rank_tree.specs.Tree.{walk};
 ghost use Rattle.rank_tree.specs.Shape.{plug};
+ghost use Rattle.rank_tree.specs.Named.{named};
 ghost use Rattle.rank_tree.specs.Repair.{Short, Broken, Pending, Restored, Loose, KeptOff};
+ghost use Rattle.rank_tree.specs.Repair.{IsFitAbove};
 
 use crate::around::look_around;
 use crate::edges::detach;
 use crate::knots::rank_at;
 use crate::turn::turn;
-use crate::{Knots, Side};
-use triple_arena_ptr::PtrCore;
+use crate::{Knots, Side, TreeLinks};
+use triple_arena_ptr::{PtrCore, PtrInxCore};
 use unreached::unreached;
 
 /// The higher child `low` turns up, or its inner child does, twice.
@@ -51,13 +53,14 @@ fn higher(left: u8, right: u8) -> Side
     }
 }
 
-/// Whether the rule of a node over two children that are lower holds.
-fn is_fit(left: u8, rank: u8, right: u8) -> bool
-    requires low_left { left ≤ 127 }
-    requires low_right { right ≤ 127 }
-    ensures { IsTrue result ↔ ((rank ≤ left + 2) × (rank ≤ right + 2) × (rank ≤ left + right + 1)) }
+/// Whether the rule of a node holds, of which one child has this rank, and the other keeps the
+/// rule.
+fn is_fit_above<I: PtrInxCore>(above: TreeLinks<I>, near_rank: u8) -> bool
+    requires { near_rank ≤ 127 }
+    ensures { IsTrue result ↔ IsFitAbove (named I.number above) near_rank }
 {
-    rank <= left + 2 && rank <= right + 2 && rank <= left + right + 1
+    above.rank <= near_rank + 2
+        && (above.rank != 2 || above.left.is_some() || above.right.is_some())
 }
 
 /// One step: the rules are restored, or are broken at most at the parent.
@@ -65,27 +68,33 @@ fn mend<N, P: PtrCore, K: Knots<N, P>>(
     knots: &mut K,
     root: &mut Option<P::Inx>,
     high: P::Inx,
+    near: Option<P::Inx>,
 ) -> Option<P::Inx>
     requires { (w : List ℕ)
-        × Broken (K.knots knots.old) (option_map P.Inx.number root.old) (P.Inx.number high) w }
+        × Broken (K.knots knots.old) (option_map P.Inx.number root.old) (P.Inx.number high)
+        (option_map P.Inx.number near) w }
     ensures pending { (w : List ℕ)
-        → Broken (K.knots knots.old) (option_map P.Inx.number root.old) (P.Inx.number high) w
+        → Broken (K.knots knots.old) (option_map P.Inx.number root.old) (P.Inx.number high)
+        (option_map P.Inx.number near) w
         → Pending (K.knots knots.new) (option_map P.Inx.number root.new)
-        (option_map P.Inx.number result) w }
+        (option_map P.Inx.number result) (Some (P.Inx.number high)) w }
     ensures rises { IfSome result (λ i. rank_in (K.knots knots.old) (P.Inx.number high)
         < rank_in (K.knots knots.new) (P.Inx.number i)) }
     ensures elsewhere { (w : List ℕ)
-        → Broken (K.knots knots.old) (option_map P.Inx.number root.old) (P.Inx.number high) w
+        → Broken (K.knots knots.old) (option_map P.Inx.number root.old) (P.Inx.number high)
+        (option_map P.Inx.number near) w
         → KeptOff w (K.knots knots.old) (K.knots knots.new) }
     ensures keeps { K.rest knots.new ≡ K.rest knots.old }
 {
     let above = knots.read(high);
-    let left = rank_at(knots, above.left);
-    let right = rank_at(knots, above.right);
     let rank = above.rank;
-    if is_fit(left, rank, right) {
+    let near_rank = rank_at(knots, near);
+    // The other child keeps the rule, and is not read if this one does too.
+    if is_fit_above(above, near_rank) {
         return None;
     }
+    let left = rank_at(knots, above.left);
+    let right = rank_at(knots, above.right);
     if left.max(right) + 2 <= rank {
         knots.set_rank(high, rank - 1);
         return above.parent;
@@ -110,24 +119,27 @@ pub(crate) fn repair_removed<N, P: PtrCore, K: Knots<N, P>>(
     knots: &mut K,
     root: &mut Option<P::Inx>,
     start: Option<P::Inx>,
+    child: Option<P::Inx>,
 )
     requires pending { (w : List ℕ)
         × Pending (K.knots knots.old) (option_map P.Inx.number root.old)
-        (option_map P.Inx.number start) w }
+        (option_map P.Inx.number start) (option_map P.Inx.number child) w }
     requires no_more { ⊤ }
     ensures does { (w : List ℕ)
         → Pending (K.knots knots.old) (option_map P.Inx.number root.old)
-        (option_map P.Inx.number start) w
+        (option_map P.Inx.number start) (option_map P.Inx.number child) w
         → Restored (K.knots knots.new) (option_map P.Inx.number root.new) w }
     ensures elsewhere { (w : List ℕ)
         → Pending (K.knots knots.old) (option_map P.Inx.number root.old)
-        (option_map P.Inx.number start) w
+        (option_map P.Inx.number start) (option_map P.Inx.number child) w
         → KeptOff w (K.knots knots.old) (K.knots knots.new) }
     ensures keeps { K.rest knots.new ≡ K.rest knots.old }
 {
     let mut at = start;
+    let mut near = child;
     'climb: while let Some(high) = at {
-        at = mend(knots, root, high);
+        at = mend(knots, root, high, near);
+        near = Some(high);
     }
 }
 
@@ -150,6 +162,6 @@ pub fn bring_out<N, P: PtrCore, K: Knots<N, P>>(
         → KeptOff (walk (plug loose.context loose.sub)) (K.knots knots.old) (K.knots knots.new) }
     ensures keeps { K.rest knots.new ≡ K.rest knots.old }
 {
-    let pending = detach(knots, root, gone);
-    repair_removed(knots, root, pending);
+    let (pending, child) = detach(knots, root, gone);
+    repair_removed(knots, root, pending, child);
 }

@@ -8,7 +8,8 @@ use Rattle.rank_tree.specs.SpotLaws.{spot_low, spot_child}
 use Rattle.rank_tree.specs.declared.side.Side.TheVariants.{Left, Right}
 use Rattle.rank_tree.specs.MendLaws.{MendReads, SiblingReads, Lowered, Higher, Sibling}
 use Rattle.rank_tree.specs.MendLaws.{broken_lives, broken_reads, broken_ends, broken_lower}
-use Rattle.rank_tree.specs.MendLaws.{broken_sibling, mend_reads, not_fit, mend_higher, higher_some}
+use Rattle.rank_tree.specs.MendLaws.{broken_unfit, near_lives, near_rank, near_small}
+use Rattle.rank_tree.specs.MendLaws.{broken_sibling, mend_reads, mend_higher, higher_some}
 use Rattle.rank_tree.specs.MendLaws.{mend_lower, sibling_reads, sibling_short, sets_lives}
 use Rattle.rank_tree.proofs.removal_repair.mend.Goals.{After-rank_at-right, After-set_rank}
 use Rattle.rank_tree.proofs.removal_repair.mend.Goals.{After-child, In-Some}
@@ -19,49 +20,54 @@ use Rattle.rank_tree.proofs.removal_repair.mend.Goals as goal
 read : (g : _) (c : After-rank_at-right g) (w : List ℕ)
     (h : Broken (g.K.Knots.knots c.args.knots.now)
     (option_map g.P.Inx.PtrInxCore.number c.args.root.now)
-    (g.P.Inx.PtrInxCore.number c.args.high) w)
-    → MendReads _ _ _ w h (named g.P.Inx.PtrInxCore.number c.read-above.result)
+    (g.P.Inx.PtrInxCore.number c.args.high)
+    (option_map g.P.Inx.PtrInxCore.number c.args.near) w)
+    → MendReads _ _ _ _ w h (named g.P.Inx.PtrInxCore.number c.read-above.result)
     c.rank_at-left.result c.rank_at-right.result
 read g c w h =
     mend_reads _ _ _ _ _ _ c.read-above.ensures c.rank_at-left.ensures.some
     c.rank_at-left.ensures.none
-    c.rank_at-right.ensures.some c.rank_at-right.ensures.none w h
+    c.rank_at-right.ensures.some c.rank_at-right.ensures.none _ w h
 
 -- both children are two lower, and the node loses one rank
 falls : (g : _) (c : After-set_rank g) (w : List ℕ)
     → Broken (g.K.Knots.knots c.args.knots.now)
     (option_map g.P.Inx.PtrInxCore.number c.args.root.now)
-    (g.P.Inx.PtrInxCore.number c.args.high) w
+    (g.P.Inx.PtrInxCore.number c.args.high)
+    (option_map g.P.Inx.PtrInxCore.number c.args.near) w
     → Lowered (g.K.Knots.knots c.set_rank.new.self)
     (option_map g.P.Inx.PtrInxCore.number c.args.root.now)
     (g.P.Inx.PtrInxCore.number c.args.high) (g.K.Knots.knots c.args.knots.now)
     (option_map g.P.Inx.PtrInxCore.number c.read-above.result.parent) w
 falls g c w h =
     let m = read g (goal.at.After-set_rank g c).After-rank_at-right w h in
-    broken_lower _ _ _ _ _ c.read-above.ensures (c.set_rank.ensures.does _ c.read-above.ensures) w h
-    (omega arith) (omega arith)
+    broken_lower _ _ _ _ _ c.read-above.ensures (c.set_rank.ensures.does _ c.read-above.ensures) _
+    w h (omega arith) (omega arith)
 
 -- the higher child is one lower, and the other three
 higher : (g : _) (c : After-child g) (w : List ℕ)
     (h : Broken (g.K.Knots.knots c.args.knots.now)
     (option_map g.P.Inx.PtrInxCore.number c.args.root.now)
-    (g.P.Inx.PtrInxCore.number c.args.high) w)
-    → Higher _ _ _ w h c.higher.result (option_map g.P.Inx.PtrInxCore.number c.child.result)
+    (g.P.Inx.PtrInxCore.number c.args.high)
+    (option_map g.P.Inx.PtrInxCore.number c.args.near) w)
+    → Higher _ _ _ _ w h c.higher.result (option_map g.P.Inx.PtrInxCore.number c.child.result)
 higher g c w h =
     let m = read g (goal.at.After-child g c).After-rank_at-right w h in
-    mend_higher _ _ _ _ _ _ _ _ w h m c.read-above.ensures
-    (not_fit _ _ _ _ c.is_fit.ensures c.if-is_fit.false) (omega arith)
+    mend_higher _ _ _ _ _ _ _ _ _ w h m c.read-above.ensures
+    (broken_unfit _ _ _ _ c.read-above.ensures _ w h _ c.rank_at-near_rank.ensures.some
+    c.rank_at-near_rank.ensures.none _ c.is_fit_above.ensures c.if-is_fit_above.false) (omega arith)
     c.higher.ensures.right c.higher.ensures.left c.child.ensures
 
 sibling : (g : _) (c : In-Some g) (w : List ℕ)
     → Broken (g.K.Knots.knots c.args.knots.now)
     (option_map g.P.Inx.PtrInxCore.number c.args.root.now)
-    (g.P.Inx.PtrInxCore.number c.args.high) w
+    (g.P.Inx.PtrInxCore.number c.args.high)
+    (option_map g.P.Inx.PtrInxCore.number c.args.near) w
     → Sibling (g.K.Knots.knots c.args.knots.now)
     (option_map g.P.Inx.PtrInxCore.number c.args.root.now)
     (g.P.Inx.PtrInxCore.number c.in-Some.low) w (g.P.Inx.PtrInxCore.number c.args.high)
 sibling g c w h =
-    broken_sibling _ _ _ _ _ _ w h (higher g (goal.at.In-Some g c).After-child w h)
+    broken_sibling _ _ _ _ _ _ _ w h (higher g (goal.at.In-Some g c).After-child w h)
     (ap (option_map g.P.Inx.PtrInxCore.number) c.in-Some.is)
 
 -- what was read of the sibling is what stands there
@@ -80,7 +86,8 @@ read_low g c w s =
 both_fall : (g : _) (c : After-set_rank-3 g) (w : List ℕ)
     → Broken (g.K.Knots.knots c.args.knots.now)
     (option_map g.P.Inx.PtrInxCore.number c.args.root.now)
-    (g.P.Inx.PtrInxCore.number c.args.high) w
+    (g.P.Inx.PtrInxCore.number c.args.high)
+    (option_map g.P.Inx.PtrInxCore.number c.args.near) w
     → Lowered (g.K.Knots.knots c.set_rank-3.new.self)
     (option_map g.P.Inx.PtrInxCore.number c.args.root.now)
     (g.P.Inx.PtrInxCore.number c.args.high) (g.K.Knots.knots c.args.knots.now)
@@ -93,39 +100,36 @@ both_fall g c w h =
     (ap (λ z. z - 1) r.rank_is) refl c.set_rank-2.ensures.does c.set_rank-3.ensures.does
 
 pub read-above-requires-clause-live : goal.read-above-requires-clause-live
-read-above-requires-clause-live g c = broken_lives _ _ _ _ c.requires.1
+read-above-requires-clause-live g c = broken_lives _ _ _ _ _ c.requires.1
 
 pub rank_at-left-requires-clause-live : goal.rank_at-left-requires-clause-live
 rank_at-left-requires-clause-live g c =
     if_named g.P.Inx.PtrInxCore.number (λ i. IsSome (g.K.Knots.knots c.args.knots.now i))
     c.read-above.result.left
-    (broken_reads _ _ _ _ c.read-above.ensures _ c.requires.1).left_lives
+    (broken_reads _ _ _ _ c.read-above.ensures _ _ c.requires.1).left_lives
 
 pub rank_at-right-requires-clause-live : goal.rank_at-right-requires-clause-live
 rank_at-right-requires-clause-live g c =
     if_named g.P.Inx.PtrInxCore.number (λ i. IsSome (g.K.Knots.knots c.args.knots.now i))
     c.read-above.result.right
-    (broken_reads _ _ _ _ c.read-above.ensures _ c.requires.1).right_lives
+    (broken_reads _ _ _ _ c.read-above.ensures _ _ c.requires.1).right_lives
 
-pub is_fit-requires-clause-low_left : goal.is_fit-requires-clause-low_left
-is_fit-requires-clause-low_left g c =
-    omega (
-      arith,
-      read g (goal.at.is_fit-requires-clause-low_left g c).After-rank_at-right _ c.requires.1,
-    )
+pub rank_at-near_rank-requires-clause-live : goal.rank_at-near_rank-requires-clause-live
+rank_at-near_rank-requires-clause-live g c =
+    if_named g.P.Inx.PtrInxCore.number (λ i. IsSome (g.K.Knots.knots c.args.knots.now i))
+    c.args.near (near_lives _ _ _ _ c.read-above.ensures _ _ c.requires.1)
 
-pub is_fit-requires-clause-low_right : goal.is_fit-requires-clause-low_right
-is_fit-requires-clause-low_right g c =
-    omega (
-      arith,
-      read g (goal.at.is_fit-requires-clause-low_right g c).After-rank_at-right _ c.requires.1,
-    )
+pub is_fit_above-requires : goal.is_fit_above-requires
+is_fit_above-requires g c =
+    let e = near_rank _ _ _ _ c.read-above.ensures _ _ c.requires.1 _
+    c.rank_at-near_rank.ensures.some c.rank_at-near_rank.ensures.none in
+    let small = near_small _ _ _ _ c.read-above.ensures _ _ c.requires.1 in
+    omega arith
 
-pub returns-then-is_fit-clause-pending : goal.returns-then-is_fit-clause-pending
-returns-then-is_fit-clause-pending g c = λ w h.
-    let m = read g (goal.at.returns-then-is_fit-clause-pending g c).After-rank_at-right w h in
-    let f = c.is_fit.ensures.0 c.if-is_fit.true in
-    broken_ends _ _ _ w h (omega arith) (omega arith) (omega arith)
+pub returns-then-is_fit_above-clause-pending : goal.returns-then-is_fit_above-clause-pending
+returns-then-is_fit_above-clause-pending g c = λ w h.
+    broken_ends _ _ _ _ c.read-above.ensures _ w h _ c.rank_at-near_rank.ensures.some
+    c.rank_at-near_rank.ensures.none (c.is_fit_above.ensures.0 c.if-is_fit_above.true)
 
 pub overflow_add-max : goal.overflow_add-max
 overflow_add-max g c =
@@ -146,7 +150,7 @@ returns-then-max-rank-clause-rises g c =
 pub unreached-unreachable-requires : goal.unreached-unreachable-requires
 unreached-unreachable-requires g c =
     let h = c.requires.1 in
-    higher_some _ _ _ _ _ _ h
+    higher_some _ _ _ _ _ _ _ h
     (higher g (goal.at.unreached-unreachable-requires g c).After-child _ h)
     (ap (option_map g.P.Inx.PtrInxCore.number) c.in_default.is)
 
@@ -208,7 +212,7 @@ pub set_rank-requires-3-clause-live : goal.set_rank-requires-3-clause-live
 set_rank-requires-3-clause-live g c =
     let s = sibling g (goal.at.set_rank-requires-3-clause-live g c).In-Some _ c.requires.1 in
     sets_lives _ _ _ _ (spot_low _ _ _ s.spot) c.set_rank-2.ensures.does _
-    (broken_lives _ _ _ _ c.requires.1)
+    (broken_lives _ _ _ _ _ c.requires.1)
 
 pub returns-clause-pending : goal.returns-clause-pending
 returns-clause-pending g c =

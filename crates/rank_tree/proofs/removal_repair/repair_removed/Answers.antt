@@ -15,18 +15,19 @@ climb-smaller g c =
     let at_is = ap (option_map number) c.in-Some.is in
     let rises = if_numbered number (λ i. rank_in old (number c.in-Some.high) < rank_in new i)
     c.mend-at.result c.mend-at.ensures.rises in
-    let broken = subst (λ l. Pending old (option_map number c.climb.root) l c.requires.pending.0)
+    let broken = subst (λ l. Pending old (option_map number c.climb.root) l
+    (option_map number c.climb.near) c.requires.pending.0)
     at_is
     (c.climb.invariant.0 c.requires.pending.0 c.requires.pending.1) in
     mend_falls old new _ _ (option_map number c.mend-at.result) at_is rises
-    (broken_small _ (option_map number c.climb.root) _ _ broken)
+    (broken_small _ (option_map number c.climb.root) _ _ _ broken)
 
 pub climb-preserved : goal.climb-preserved
 climb-preserved g c =
     let number = g.P.Inx.PtrInxCore.number in
     let now : List ℕ → Option ℕ
     → Type 0 = λ w l. Pending (g.K.Knots.knots c.climb.knots) (option_map number c.climb.root) l
-    w in
+    (option_map number c.climb.near) w in
     let at_is = ap (option_map number) c.in-Some.is in (
       λ w pending. c.mend-at.ensures.pending w
           (subst (now w) at_is (c.climb.invariant.0 w pending)),

@@ -9,14 +9,16 @@ invariant-climb g l =
     ((w : List ℕ)
     → Pending (g.K.Knots.knots l.initial.knots)
     (option_map g.P.Inx.PtrInxCore.number l.initial.root)
-    (option_map g.P.Inx.PtrInxCore.number l.initial.at) w
+    (option_map g.P.Inx.PtrInxCore.number l.initial.at)
+    (option_map g.P.Inx.PtrInxCore.number l.initial.near) w
     → Pending (g.K.Knots.knots l.knots) (option_map g.P.Inx.PtrInxCore.number l.root)
-    (option_map g.P.Inx.PtrInxCore.number l.at) w)
+    (option_map g.P.Inx.PtrInxCore.number l.at) (option_map g.P.Inx.PtrInxCore.number l.near) w)
     × (g.K.Knots.rest l.knots ≡ g.K.Knots.rest l.initial.knots)
     × ((w : List ℕ)
     → Pending (g.K.Knots.knots l.initial.knots)
     (option_map g.P.Inx.PtrInxCore.number l.initial.root)
-    (option_map g.P.Inx.PtrInxCore.number l.initial.at) w
+    (option_map g.P.Inx.PtrInxCore.number l.initial.at)
+    (option_map g.P.Inx.PtrInxCore.number l.initial.near) w
     → KeptOff w (g.K.Knots.knots l.initial.knots) (g.K.Knots.knots l.knots))
 
 abbrev pub decreases-climb : goal.decreases-climb
