@@ -31,7 +31,7 @@ impl<I: PtrInxCore> TreeLinks<I> {
         }
     }
 
-    /// The same with another child on a side.
+    /// These links, with another child on a side.
     pub fn with_child(self, side: Side, child: Option<I>) -> TreeLinks<I>
         ensures { named I.number result ≡ with_child side (option_map I.number child)
             (named I.number self) }
