@@ -4,13 +4,13 @@ use Rattle.std.proofs.Common.{◌≤◌, List, [], ◌∷◌, ◌++◌, map, len
 use Rattle.std.proofs.Common.{Some, None, is_some, count_by, cond, slice_get, refl, sym, ap, subst}
 use Rattle.std.proofs.Common.{◌∙◌, arith, length-set}
 use Rattle.std.proofs.lemmas.List.{map-set, map_push, length-map, length_push, get_or-map}
-use Rattle.std.proofs.lemmas.List.{get_or-set_same, get_or-set_other}
+use Rattle.std.proofs.lemmas.List.{get_or-set_same, get_or-set_other, set-set, set-get_or, set_at}
 use Rattle.std.proofs.lemmas.List.Sums.{sum_by-set, sum_by_push}
 use Rattle.std.proofs.lemmas.Option.{slice_get_within, get_or_from_slice_get}
 use Rattle.triple_arena.specs.FreeLinks.{Ends, first_or, Stands, with_prev_at}
 use Rattle.triple_arena.specs.Slot.{Slot, free, used, entry_of, links_of, value_of, with_slot_value}
 use Rattle.triple_arena.specs.Slot.{with_slot_generation}
-use Rattle.std.proofs.Common.{IsSome, Bor, option_copied, true, false, true≢false, eqb}
+use Rattle.std.proofs.Common.{IsSome, IfSome, Bor, option_copied, option_to_list, true, false, true≢false, eqb}
 use Rattle.std.specs.Option.{option_map}
 use Rattle.std.proofs.lemmas.Bool.{eq-eqb, ne_eqb}
 use Rattle.std.proofs.lemmas.Bool.Decides.{eqb_tells}
@@ -271,6 +271,22 @@ module _ {T : Type 0} where
       → IsSound es len head room → i ≤ length es
   head_within {es} {len} {i} {room} is s = (head_of es len i room (rw is at s)).slot.within
 
+  -- an index of a free slot is within what the number of slots is within
+  pub place_fits : {I : Type 0} (number : I → ℕ) (o : Option I) (es : List (Slot T)) {n m : ℕ}
+      → n ≡ length es → n < m
+      → ((i : ℕ) → option_map number o ≡ Some i → IsSome (links_at es i))
+      → IfSome o (λ i. number i < m)
+  place_fits number None es count small vacant = tt
+  place_fits number (Some i) es count small vacant =
+      omega (arith, free_within es (number i) (vacant (number i) refl), count, small)
+
+  pub head_fits : {I : Type 0} (number : I → ℕ) (o : Option I) {es : List (Slot T)}
+      {len n m : ℕ} {room : Room} → n ≡ length es → n < m → IsSound es len (option_map number o) room
+      → IfSome o (λ i. number i < m)
+  head_fits number None count small sound = tt
+  head_fits number (Some i) count small sound =
+      omega (arith, head_within refl sound, count, small)
+
   -- its slot is free, and what follows it is one of the slots
   pub head_links : {es : List (Slot T)} {len i : ℕ} {head : Option ℕ} {room : Room} {old : Slot T}
       → head ≡ Some i → IsSound es len head room
@@ -441,40 +457,42 @@ module _ {T : Type 0} where
       {i : ℕ} → content_of es room g head ≡ c → IsSome (entry_at c i) → i ≤ length es
   live_within es head seen some = (finds head seen (the_some _ some).1).within
 
-  get_at_end : (es : List (Slot T)) (x : Slot T) → slice_get (es ++ x ∷ []) (length es) ≡ Some x
-  get_at_end [] x = refl
-  get_at_end (e ∷ es) x = get_at_end es x
+  -- the slot at the end before a write there
+  end_before : (es es1 es' : List (Slot T)) (k : ℕ) (new end x : Slot T) → es1 ≡ set es k new
+      → es1 ≡ es' ++ end ∷ [] → k ≡ length es' → slice_get es k ≡ Some x → es ≡ es' ++ x ∷ []
+  end_before es es1 es' k new end x put split at found =
+      sym (set-get_or es k x) ∙ ap (set es k) (get_or_from_slice_get es k x x found)
+      ∙ sym (set-set es k new x) ∙ ap (λ xs. set xs k x) (sym put ∙ split)
+      ∙ set_at es' end [] x k (sym at)
 
-  end_is : (es es' : List (Slot T)) (k : ℕ) (slot x : Slot T) → es ≡ es' ++ slot ∷ []
-      → k ≡ length es' → slice_get es k ≡ Some x → slot ≡ x
-  end_is es es' k slot x split at found =
-      let there = rw (split, at) at found in
-      let end = get_at_end es' slot in
-      cc
-
-  -- the slots are sound, this is what they are seen as, and the slot that was there had the entry
+  -- the slots are sound, and this is what they are seen as
   pub record Leaves (es : List (Slot T)) (len : ℕ) (head : Option ℕ) (room : Room) (g : ℕ)
-      (c : Content T) (slot : Slot T) (e : ℕ × T) : Type 0 where
+      (c : Content T) : Type 0 where
     pub sound : IsSound es len head room
     pub content : content_of es room g head ≡ c
-    pub entry_is : slot ≡ used e.0 e.1
 
-  -- the last slot goes
-  pub popped : {es es' : List (Slot T)} {len i : ℕ} {head : Option ℕ} {room room' : Room} {g : ℕ}
-      {slot : Slot T} {e : ℕ × T} {c : Content T}
+  -- the last slot goes, after a write
+  pub popped : {es es1 es' : List (Slot T)} {len i : ℕ} {head : Option ℕ} {room room' : Room}
+      {g : ℕ} {e : ℕ × T} {c : Content T} (new : Slot T) (end : Option (Slot T))
       → IsSound es len head room → i ≡ length es → content_of es room g head ≡ c
-      → entry_at c i ≡ Some e → es ≡ es' ++ slot ∷ [] → room' ≡ room
-      → Leaves es' (len - 1) head room' g (vacated c i) slot e
-  popped {es} {es'} {len} {i} {head} {room} {slot} {e} sound last seen is split kept =
+      → entry_at c i ≡ Some e → es1 ≡ set es (i - 1) new → es1 ≡ es' ++ option_to_list end
+      → (0 < length es1 → IsSome end) → room' ≡ room
+      → Leaves es' (len - 1) head room' g (vacated c i)
+  popped {es} {es1} {es'} {len} {i} {head} {room} {e = e} new end sound last seen is written split
+      some kept =
       let f = finds head seen is in
       let positive = f.positive in
       let total = sound.total in
-      let longer = length_push es' slot in
-      let sizes = ap length split in
+      let same_size = ap length written ∙ length-set es (i - 1) new in
+      let there = the_some end (some (omega arith)) in
+      let whole1 : es1 ≡ es' ++ there.0 ∷ [] =
+      split ∙ ap (λ o. es' ++ option_to_list o) there.1 in
+      let longer = length_push es' there.0 in
+      let sizes = ap length whole1 in
       let fits = sound.fits in
       let at : i - 1 ≡ length es' = omega arith in
-      let same : slot ≡ used e.0 e.1 = end_is es es' (i - 1) slot (used e.0 e.1) split at f.found in
-      let whole : es ≡ es' ++ used e.0 e.1 ∷ [] = rw (← same) split in
+      let whole = end_before es es1 es' (i - 1) new there.0 (used e.0 e.1) written whole1 at f.found
+      in
       let counted = sound.counted ∙ ap (λ xs. count_by is_some (map entry_of xs)) whole
       ∙ count_push es' e.0 e.1 in
       let l = links es (length es) head in
@@ -496,7 +514,6 @@ module _ {T : Type 0} where
       record {
         sound = left.sound;
         content = rw (← seen, test, front, left.free_is);
-        entry_is = same;
       }
 
   -- the head is free after a write of a live slot
@@ -516,19 +533,17 @@ module _ {T : Type 0} where
 
   -- a slot becomes the next one to be taken, and the first free one stands behind it
   pub freed : {es es1 es' : List (Slot T)} {len i : ℕ} {head head' : Option ℕ} {room room' : Room}
-      {g : ℕ} {old new : Slot T} {e : ℕ × T} {c : Content T}
+      {g : ℕ} {new : Slot T} {e : ℕ × T} {c : Content T}
       → IsSound es len head room → (i ≡ length es → ⊥) → content_of es room g head ≡ c
-      → entry_at c i ≡ Some e → slice_get es (i - 1) ≡ Some old
-      → es1 ≡ set es (i - 1) new → new ≡ free None head → head' ≡ Some i
+      → entry_at c i ≡ Some e → es1 ≡ set es (i - 1) new → new ≡ free None head → head' ≡ Some i
       → ((j : ℕ) → links_at es' j ≡ with_prev_at (links_at es1) head head' j)
       → map entry_of es' ≡ map entry_of es1 → room' ≡ room
-      → Leaves es' (len - 1) head' room' g (vacated c i) old e
-  freed {es} {es1} {es'} {len} {i} {head} {head'} {room} {old = old} {e = e} sound inner seen is was
-      written emptied first linked entries kept =
+      → Leaves es' (len - 1) head' room' g (vacated c i)
+  freed {es} {es1} {es'} {len} {i} {head} {head'} {room} {e = e} sound inner seen is written emptied
+      first linked entries kept =
       let f = finds head seen is in
       let found = f.found in
       let positive = f.positive in
-      let same : old ≡ used e.0 e.1 = cc in
       let l = links es (length es) head in
       let total = sound.total in
       let fits = sound.fits in
@@ -562,7 +577,6 @@ module _ {T : Type 0} where
       record {
         sound = left.sound;
         content = rw (← seen, test, left.free_is, slots) refl;
-        entry_is = same;
       }
 
   -- a live slot that stays live keeps the list
@@ -587,7 +601,7 @@ module _ {T : Type 0} where
       → IsSound es len head room → content_of es room g head ≡ c → entry_at c i ≡ Some e
       → slice_get es (i - 1) ≡ Some old
       → es' ≡ set es (i - 1) (with_slot_value old w) → room' ≡ room
-      → Leaves es' len head room' g (with_value c i w) old e
+      → Leaves es' len head room' g (with_value c i w)
   rewritten {es} {len} i {head} {room} w {old} {e} sound seen is was written kept =
       let f = finds head seen is in
       let found = f.found in
@@ -605,7 +619,6 @@ module _ {T : Type 0} where
       record {
         sound = left.sound;
         content = rw (is, ← seen, left.free_is, map-set entry_of es (i - 1) (used e.0 w));
-        entry_is = refl;
       }
 
   -- a live slot has another generation
@@ -614,7 +627,7 @@ module _ {T : Type 0} where
       → IsSound es len head room → content_of es room g head ≡ c → entry_at c i ≡ Some e
       → Some old ≡ slice_get es (i - 1)
       → new ≡ with_slot_generation old h → es' ≡ set es (i - 1) new → room' ≡ room
-      → Leaves es' len head room' g (with_generation c i h) old e
+      → Leaves es' len head room' g (with_generation c i h)
   renewed {es} {len} i {head} {room} h {old} {e} sound seen is was changed written kept =
       let f = finds head seen is in
       let found = f.found in
@@ -632,7 +645,6 @@ module _ {T : Type 0} where
       record {
         sound = left.sound;
         content = rw (is, ← seen, left.free_is, map-set entry_of es (i - 1) (used h e.1));
-        entry_is = refl;
       }
 
   all_vacant : (es : List (Slot T)) (c : Content T) (b : Option ℕ) (l : List ℕ)

@@ -147,6 +147,19 @@ module _ {T : Type 0} where
     pub within : left ≤ length es
     pub listed : IsFreeList es head (vacant_from (left + 1) (drop left (map entry_of old)))
 
+  -- what is left is within what the slots are within
+  pub risen_within : {old es : List (Slot T)} {head : Option ℕ} {left n : ℕ}
+      → Risen old es head left → length old ≤ n → left ≤ n
+  risen_within {old} {es} r fits =
+      omega (
+        arith,
+        r.within,
+        ap length r.entries,
+        length-map es entry_of,
+        length-map old entry_of,
+        fits,
+      )
+
   pub risen_none : {es : List (Slot T)} {n : ℕ} → n ≡ length es → Risen es es None n
   risen_none {es} {n} all =
       let sizes = length-map es entry_of in

@@ -1,5 +1,4 @@
 pub mod ArenaRoom
-pub mod OptionalInx
 pub mod FreeLinks
 pub mod Slot
 pub mod SlotState

@@ -29,7 +29,7 @@ mod room;
 mod text;
 mod transfer;
 
-use crate::optional_inx::OptionalInx;
+use crate::free_inx::FreeInx;
 use crate::{ArenaSlot, ArenaSlots};
 pub(crate) use compression::{compact, keep_first, take_entry};
 pub use entry::{ArenaInsertEntries, ArenaInsertEntry, ArenaInsertEntryTrait};
@@ -40,7 +40,7 @@ pub(crate) use removal::equal_uncounted;
 use std::marker::{Model, PhantomData};
 use std::num::NonZeroUsize;
 pub(crate) use text::write_entries;
-use triple_arena_ptr::{PtrCore, PtrGenCore, PtrInxCore};
+use triple_arena_ptr::{OptionalInx, PtrCore, PtrGenCore, PtrInxCore};
 use triple_arena_stack::{
     NonZeroInxArray, NonZeroInxBoxedSlice, NonZeroInxLimitedVec, NonZeroInxVec,
 };
@@ -57,13 +57,14 @@ pub struct Arena<P: PtrCore, T: Drop, S: ArenaSlots<P, T>> {
     slots: S,
     counter: P::Gen,
     // The first free index.
-    head: OptionalInx,
+    head: FreeInx<P>,
     // How many slots are live.
     len: usize,
     values: PhantomData<T>,
 }
 
 impl<P: PtrCore, T: Drop, S: ArenaSlots<P, T>> Model for Arena<P, T, S> {
+    ghost use Rattle.std.specs.Option.{option_map};
     ghost use Rattle.triple_arena.specs.ArenaRoom.{room_of};
     ghost use Rattle.triple_arena.specs.Content.{Content, content_code};
     ghost use Rattle.triple_arena.specs.Layout.{content_of, IsSound};
@@ -73,10 +74,10 @@ impl<P: PtrCore, T: Drop, S: ArenaSlots<P, T>> Model for Arena<P, T, S> {
     ghost coded = { content_code T.code };
 
     ghost view = { λ a. content_of (S.items a.slots) (room_of P.Inx.greatest (S.room a.slots))
-        (P.Gen.number a.counter) a.head };
+        (P.Gen.number a.counter) (option_map P.Inx.number a.head) };
 
-    ghost invariant = { λ a. IsSound (S.items a.slots) a.len a.head
-        (room_of P.Inx.greatest (S.room a.slots)) };
+    ghost invariant = { λ a. IsSound (S.items a.slots) a.len
+        (option_map P.Inx.number a.head) (room_of P.Inx.greatest (S.room a.slots)) };
 }
 
 /// An arena in a vector, which grows without a limit of its own.

@@ -4,6 +4,7 @@ ghost use Rattle.std.specs.Prelude.{IsTrue, ◌↔◌, IsSome, ⊤};
 ghost use Rattle.std.specs.Borrow.{Lends, sem};
 ghost use Rattle.std.specs.Int.NonZero.{non_zero_usize_get};
 ghost use Rattle.std.specs.Option.{option_map};
+ghost use Rattle.triple_arena.specs.FreeLinks.{numbered};
 ghost use Rattle.triple_arena.specs.Slot.{Slot, entry_of, free, used, value_of, links_of};
 ghost use Rattle.triple_arena.specs.Slot.{index_up_to, free_links as free_links_of, with_links};
 ghost use Rattle.triple_arena.specs.Slot.{with_prev, with_next, with_slot_value};
@@ -11,12 +12,12 @@ ghost use Rattle.triple_arena.specs.Slot.{with_slot_generation};
 ghost use Rattle.triple_arena_stack.specs.Stack.{item_at, with_item};
 ghost use Rattle.triple_arena.specs.Entries.{value_if};
 
+use crate::free_inx::FreeInx;
 use crate::lent_slots::{LentValue, SlotKey};
-use crate::optional_inx::OptionalInx;
 use std::marker::Model;
 use std::mem;
 use std::num::NonZeroUsize;
-use triple_arena_ptr::{PtrCore, PtrGenCore, PtrInxCore};
+use triple_arena_ptr::{OptionalInx, PtrCore, PtrGenCore, PtrInxCore};
 use triple_arena_stack::{NonZeroInxGenericStack, get_disjoint_mut};
 use unreached::unreached;
 
@@ -24,13 +25,13 @@ use unreached::unreached;
 /// generation and a value.
 #[derive(Drop)]
 pub struct ArenaSlot<P: PtrCore, T> {
-    state: SlotState<P::Gen, T>,
+    state: SlotState<FreeInx<P>, P::Gen, T>,
 }
 
 #[derive(Drop)]
-enum SlotState<G, T> {
+enum SlotState<O, G, T> {
     // The free index after it, and the one before it: in this order a removal's writes are fewest.
-    Free(OptionalInx, OptionalInx),
+    Free(O, O),
     Used(G, T),
 }
 
@@ -47,7 +48,7 @@ pub(crate) trait ValueMut<T> {
         ensures value { held self.old ≡ Some result.now };
 }
 
-impl<G, T> ValueMut<T> for SlotState<G, T> {
+impl<O, G, T> ValueMut<T> for SlotState<O, G, T> {
     ghost use Rattle.triple_arena.specs.SlotState.{state_value, with_state_value};
 
     ghost held = { state_value };
@@ -62,7 +63,7 @@ impl<G, T> ValueMut<T> for SlotState<G, T> {
     }
 }
 
-impl<G, T> LentValue<T> for SlotState<G, T> {
+impl<O, G, T> LentValue<T> for SlotState<O, G, T> {
     ghost use Rattle.triple_arena.specs.SlotState.{state_value, with_state_value};
 
     ghost held = { state_value };
@@ -93,17 +94,18 @@ pub(crate) trait EntrySlot<P: PtrCore, T> {
 }
 
 impl<P: PtrCore, T> Model for ArenaSlot<P, T> {
+    ghost use Rattle.std.specs.Option.{option_map};
     ghost use Rattle.triple_arena.specs.Slot.{Slot};
     ghost use Rattle.triple_arena.specs.SlotState.{slot_of};
 
     ghost Value = { Slot T };
 
-    ghost view = { λ s. slot_of P.Gen.number s.state };
+    ghost view = { λ s. slot_of (option_map P.Inx.number) P.Gen.number s.state };
 }
 
 impl<P: PtrCore, T> ArenaSlot<P, T> {
-    pub(crate) fn free(prev: OptionalInx, next: OptionalInx) -> Self
-        ensures { result ≡ free prev next }
+    pub(crate) fn free(prev: FreeInx<P>, next: FreeInx<P>) -> Self
+        ensures { result ≡ free (option_map P.Inx.number prev) (option_map P.Inx.number next) }
     {
         ArenaSlot {
             state: SlotState::Free(next, prev),
@@ -165,8 +167,8 @@ impl<P: PtrCore, T> ArenaSlot<P, T> {
     }
 
     // The links, if the slot is free.
-    pub(crate) fn links(&self) -> Option<(OptionalInx, OptionalInx)>
-        ensures { result ≡ links_of self.now }
+    pub(crate) fn links(&self) -> Option<(FreeInx<P>, FreeInx<P>)>
+        ensures { option_map (numbered P.Inx.number) result ≡ links_of self.now }
     {
         match &self.state {
             SlotState::Used(_, _) => None,
@@ -188,8 +190,8 @@ impl<P: PtrCore, T> ArenaSlot<P, T> {
     }
 
     // Links a free slot to the next one, with none before it, and says whether the slot is free.
-    pub(crate) fn relink(&mut self, next: OptionalInx) -> bool
-        ensures value { self.new ≡ with_links self.old None next }
+    pub(crate) fn relink(&mut self, next: FreeInx<P>) -> bool
+        ensures value { self.new ≡ with_links self.old None (option_map P.Inx.number next) }
         ensures free { IsTrue result ↔ (value_of self.old ≡ None) }
     {
         match &mut self.state {
@@ -203,10 +205,10 @@ impl<P: PtrCore, T> ArenaSlot<P, T> {
     }
 
     // Gives the slot, which must be free, another link to the one before.
-    pub(crate) fn set_prev(&mut self, prev: OptionalInx)
+    pub(crate) fn set_prev(&mut self, prev: FreeInx<P>)
         requires free { IsSome (links_of self.old) }
         requires no_more { ⊤ }
-        ensures { self.new ≡ with_prev self.old prev }
+        ensures { self.new ≡ with_prev self.old (option_map P.Inx.number prev) }
     {
         match &mut self.state {
             SlotState::Used(_, _) => unreached!(),
@@ -215,10 +217,10 @@ impl<P: PtrCore, T> ArenaSlot<P, T> {
     }
 
     // Gives the slot, which must be free, another link to the one after.
-    pub(crate) fn set_next(&mut self, next: OptionalInx)
+    pub(crate) fn set_next(&mut self, next: FreeInx<P>)
         requires free { IsSome (links_of self.old) }
         requires no_more { ⊤ }
-        ensures { self.new ≡ with_next self.old next }
+        ensures { self.new ≡ with_next self.old (option_map P.Inx.number next) }
     {
         match &mut self.state {
             SlotState::Used(_, _) => unreached!(),
@@ -227,12 +229,12 @@ impl<P: PtrCore, T> ArenaSlot<P, T> {
     }
 
     // The link to the next one. The slot must be free.
-    pub(crate) fn into_next(self) -> OptionalInx
+    pub(crate) fn into_next(self) -> FreeInx<P>
     where
         T: Drop,
         requires free { IsSome (links_of self) }
         requires no_more { ⊤ }
-        ensures { option_map (λ l. l.1) (links_of self) ≡ Some result }
+        ensures { option_map (λ l. l.1) (links_of self) ≡ Some (option_map P.Inx.number result) }
     {
         let ArenaSlot { state } = self;
         match state {
@@ -255,12 +257,17 @@ impl<P: PtrCore, T> ArenaSlot<P, T> {
     }
 }
 
-// The index with this number, if the pointer type has it.
-fn index_of<P: PtrCore>(i: OptionalInx) -> Option<P::Inx>
-    ensures { option_map P.Inx.number result ≡ index_up_to P.Inx.greatest i }
+// The index, which is at most the greatest one of the pointer type.
+fn index_of<P: PtrCore>(i: FreeInx<P>) -> Option<P::Inx>
+    ensures { option_map P.Inx.number result
+        ≡ index_up_to P.Inx.greatest (option_map P.Inx.number i) }
 {
     match i.get() {
-        Some(i) => P::Inx::try_from_usize(i),
+        Some(i) => {
+            // No index is past the greatest one.
+            let _ = i.try_into_usize();
+            Some(i)
+        }
         None => None,
     }
 }

@@ -1,14 +1,10 @@
 -- A link that is taken out of its chain.
 use Rattle.std.proofs.Common.{◌≡◌, ◌==◌, if◌then◌else◌, ℕ, ◌-◌, ◌∷◌, length, Option, Some, None}
 use Rattle.std.proofs.Common.{IsSome}
-use Rattle.std.proofs.Common.{IfSome, IfNone, OnSome, is_some, option_map, refl, sym, ap, ◌∙◌, inl}
-use Rattle.std.proofs.Common.{inr}
-use Rattle.std.proofs.lemmas.Bool.{eq-eqb}
+use Rattle.std.proofs.Common.{IfSome, is_some, option_map, refl, sym, ap, ◌∙◌, inl, inr}
 use Rattle.std.proofs.lemmas.Bool.Decides.{eqb_tells}
 use Rattle.triple_arena_ptr.specs.Generation.{next_generation}
-use Rattle.triple_arena.specs.Entries.{value_if}
 use Rattle.triple_arena.specs.Content.{Content, entry_at, removed}
-use Rattle.triple_arena.specs.ContentLaws.{entry_seen}
 use Rattle.triple_arena.specs.RemovalLaws.{entry-removed, live-removed, counter-removed}
 use Rattle.triple_arena.specs.RemovalLaws.{free-removed, slots-removed, room-removed}
 use Rattle.triple_arena.specs.RemovalLaws.{formed-removed}
@@ -16,7 +12,7 @@ use Rattle.triple_arena_chain.specs.LinkShape.{IndexLink}
 use Rattle.triple_arena_chain.specs.Chains.{dropped, bridged, taken_from, next_in, prev_in}
 use Rattle.triple_arena_chain.specs.declared.gap.Gap.TheVariants.{Between}
 use Rattle.triple_arena_chain.specs.Links.{valued, entry_ends, ends_in, with_next_of, with_prev_of}
-use Rattle.triple_arena_chain.specs.Links.{bridged_over, link_removed, link_removed_of}
+use Rattle.triple_arena_chain.specs.Links.{bridged_over}
 use Rattle.triple_arena_chain.specs.Links.{AreNeighborsLive, IsChained, IsTakenOut}
 use Rattle.triple_arena_chain.specs.LinkLaws.{entry-with_link}
 use Rattle.triple_arena_chain.specs.TakenLaws.{is_taken}
@@ -28,15 +24,22 @@ use Rattle.triple_arena_chain.proofs.TakeOutLemmas.{IsAgreed-taken}
 some_is : {A : Type 0} {a b : A} → Some a ≡ Some b → a ≡ b
 some_is h = cc
 
+-- an entry of which the value is known
+entry_of_value : {T : Type 0} (o : Option (ℕ × T)) (t : T)
+    → option_map (λ (e : ℕ × T). e.1) o ≡ Some t → (g : ℕ) × (o ≡ Some (g, t))
+entry_of_value None t is = absurd (let no : None ≡ Some t = is in cc)
+entry_of_value (Some e) t is = (e.0, ap (λ x. Some (e.0, x)) (some_is is))
+
 module _ {I T : Type 0} (number : I → ℕ) where
   -- what a link names is live
-  pub neighbors_live : (c : Content (IndexLink I T)) (p g : ℕ) (l : IndexLink I T)
-      → IsChained number c → entry_at c p ≡ Some (g, l)
+  pub neighbors_live : (c : Content (IndexLink I T)) (p : ℕ) (l : IndexLink I T)
+      → IsChained number c → option_map (λ (e : ℕ × IndexLink I T). e.1) (entry_at c p) ≡ Some l
       → AreNeighborsLive number c (Between l.prev l.next)
-  neighbors_live c p g l chained at = (
-    by_prev l.prev (ap (λ o. prev_in (option_map (entry_ends number) o)) at),
-    by_next l.next (ap (λ o. next_in (option_map (entry_ends number) o)) at),
-  )
+  neighbors_live c p l chained seen =
+      let at = (entry_of_value (entry_at c p) l seen).1 in (
+        by_prev l.prev (ap (λ o. prev_in (option_map (entry_ends number) o)) at),
+        by_next l.next (ap (λ o. next_in (option_map (entry_ends number) o)) at),
+      )
     where
       by_prev : (o : Option I) → prev_in (ends_in number c p) ≡ option_map number o
           → IfSome o (λ i. IsSome (entry_at c (number i)))
@@ -141,53 +144,37 @@ module _ {I T : Type 0} (number : I → ℕ) where
         };
       })
 
-  -- a removal, of which the answer tells what is seen of the entry
-  pub record Removed {A V : Type 0} (f : A → V) (r : Option A) (link_of : A → IndexLink I T)
-      (seen : Option (ℕ × IndexLink I T) → Option V)
-      (last : Option ℕ) (p : ℕ) (c new : Content (IndexLink I T)) : Type 0 where
-    pub value : option_map f r ≡ seen (entry_at c p)
-    pub taken : OnSome r (IsTakenOut number last p c new)
-    pub exact : IfSome r (λ a. new ≡ removed last (bridged_over number c (link_of a)) p)
-    pub none : IfNone r (new ≡ c)
+  -- a link that is live is so once its neighbors are joined
+  pub live_bridged : (c d : Content (IndexLink I T)) (p : ℕ) (l : IndexLink I T)
+      → option_map (λ (e : ℕ × IndexLink I T). e.1) (entry_at c p) ≡ Some l
+      → d ≡ bridged_over number c l → IsSome (entry_at d p)
+  live_bridged c d p l seen join =
+      let found = entry_of_value (entry_at c p) l seen in
+      ap (λ x. is_some (entry_at x p)) join
+      ∙ ap is_some (entry-bridged c p found.0 l found.1)
+
+  -- the entry of a link that is taken out once its neighbors are joined
+  pub record TakenLive (last : Option ℕ) (p g : ℕ) (link : IndexLink I T)
+      (c new : Content (IndexLink I T)) : Type 0 where
+    pub value : Some (g, link) ≡ entry_at c p
+    pub taken : IsTakenOut number last p c new
+    pub exact : new ≡ removed last (bridged_over number c link) p
     pub chained : IsChained number new
 
-  pub removed_by : {A V : Type 0} (f : A → V) (r : Option A) (link_of : A → IndexLink I T)
-      (seen : Option (ℕ × IndexLink I T) → Option V) (last : Option ℕ)
-      (c d new : Content (IndexLink I T)) (p g : ℕ) (l : IndexLink I T) (v : V) → IsChained number c
-      → entry_at c p ≡ Some (g, l)
-      → seen (Some (g, l)) ≡ Some v → d ≡ bridged_over number c l
-      → option_map f r ≡ seen (entry_at d p) → OnSome r (new ≡ removed last d p)
-      → ((a : A) → f a ≡ v → link_of a ≡ l) → Removed f r link_of seen last p c new
-  removed_by f r link_of seen last c d new p g l v chained at shown join value remove told =
-      by r value remove
-    where
-      same : entry_at d p ≡ entry_at c p
-      same = ap (λ x. entry_at x p) join ∙ entry-bridged c p g l at ∙ sym at
-
-      by : (o : Option _) → option_map f o ≡ seen (entry_at d p) → OnSome o (new ≡ removed last d p)
-          → Removed f o link_of seen last p c new
-      by None is gone = absurd (let no : None ≡ Some v = is ∙ ap seen (same ∙ at) ∙ shown in cc)
-      by (Some a) is gone =
-          let t = taken_out_by last c d new p g l chained at join gone in
-          let given : Some (f a) ≡ Some v = is ∙ ap seen (same ∙ at) ∙ shown in
-          let link_is = told a (some_is given) in
-          record {
-            value = is ∙ ap seen same;
-            taken = t.taken;
-            exact = gone ∙ ap (λ x. removed last x p)
-                (join ∙ ap (bridged_over number c) (sym link_is));
-            none = tt;
-            chained = t.chained;
-          }
-
-module _ {T : Type 0} where
-  pub entry_shows : (g : ℕ) (t : T) → value_if g (Some (g, t)) ≡ Some t
-  entry_shows g t = rw (eq-eqb g g refl) refl
-
-module _ {I T : Type 0} (number : I → ℕ) where
-  -- a removal of the link that a pointer finds is the removal at its index
-  pub removed_by_link : (last : Option ℕ) (c d : Content (IndexLink I T)) (i g : ℕ)
-      (l : IndexLink I T) → d ≡ removed last (bridged_over number c l) i
-      → Some l ≡ value_if g (entry_at c i) → d ≡ link_removed number last c i
-  removed_by_link last c d i g l is found = is
-      ∙ sym (ap (link_removed_of number last c i) (entry_seen g (entry_at c i) l (sym found)))
+  pub taken_live : (last : Option ℕ) (c d new : Content (IndexLink I T)) (p g : ℕ)
+      (l link : IndexLink I T) → IsChained number c
+      → option_map (λ (e : ℕ × IndexLink I T). e.1) (entry_at c p) ≡ Some l
+      → d ≡ bridged_over number c l → Some (g, link) ≡ entry_at d p → new ≡ removed last d p
+      → TakenLive last p g link c new
+  taken_live last c d new p g l link chained seen join value remove =
+      let found = entry_of_value (entry_at c p) l seen in
+      let t = taken_out_by last c d new p found.0 l chained found.1 join remove in
+      let given = value ∙ ap (λ x. entry_at x p) join ∙ entry-bridged c p found.0 l found.1 in
+      let same = ap (λ (e : ℕ × IndexLink I T). e.1) (some_is given) in
+      record {
+        value = given ∙ sym found.1;
+        taken = t.taken;
+        exact = remove ∙ ap (λ x. removed last x p)
+            (join ∙ ap (bridged_over number c) (sym same));
+        chained = t.chained;
+      }

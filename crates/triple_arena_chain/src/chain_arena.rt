@@ -27,6 +27,7 @@ mod mapping;
 mod max_capacity;
 mod neighbors;
 mod recast;
+mod removal;
 mod text;
 pub(crate) mod walk;
 

@@ -21,10 +21,10 @@ use crate::arena::compression::{compact, renewal};
 use crate::arena::reading::ValueAtMut;
 use crate::arena::removal::equal_uncounted;
 use crate::arena::{Arena, max_index};
-use crate::optional_inx::OptionalInx;
 use crate::{ArenaSlot, ArenaSlots, ArenaTrait, CompactArenaTrait};
 use triple_arena_ptr::{
-    InvalidationOption, InvalidationResult, PtrCore, PtrGenCore, PtrInxCore, ReallocationError,
+    InvalidationOption, InvalidationResult, OptionalInx, PtrCore, PtrGenCore, PtrInxCore,
+    ReallocationError,
 };
 use triple_arena_stack::NonZeroInxArray;
 use unreached::unreached;
@@ -175,8 +175,8 @@ impl<P: PtrCore, T: Drop, S: ArenaSlots<P, T>> ArenaTrait<P, T> for Arena<P, T, 
         // The arena is well-formed before.
         self.recall_formed();
         match self.live_inx(i) {
-            Some(i) => {
-                let (entry, wrapped) = self.remove_at(i);
+            Some(_) => {
+                let (entry, wrapped) = self.take_inx_unwrap(i);
                 valid(answer(wrapped, entry))
             }
             None => InvalidationResult::InvalidPtr,

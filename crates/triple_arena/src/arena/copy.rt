@@ -17,11 +17,11 @@ ghost use Rattle.triple_arena.specs.Slot.{entry_of};
 use crate::arena::Arena;
 use crate::arena::free_slots::link_rising;
 use crate::copy::{append_copies, up_to_last};
+use crate::free_inx::FreeInx;
 use crate::iterators::LentEntry;
-use crate::optional_inx::OptionalInx;
 use crate::{ArenaCloneFromWith, ArenaCloneSource, ArenaSlot, ArenaSlots, ArenaTrait};
 use std::num::NonZeroUsize;
-use triple_arena_ptr::{AllocError, PtrCore, ReallocationError};
+use triple_arena_ptr::{AllocError, OptionalInx, PtrCore, ReallocationError};
 
 impl<P: PtrCore, T: Drop, S: ArenaSlots<P, T>> ArenaCloneSource<P, T> for Arena<P, T, S> {
     type Slot = ArenaSlot<P, T>;
@@ -143,7 +143,7 @@ impl<P: PtrCore, T: Drop, S: ArenaSlots<P, T>> Arena<P, T, S> {
         self.empty();
         match append_copies::<P, T, U, ArenaSlot<P, T>, E, S, F>(&mut self.slots, source, map) {
             Ok(live) => {
-                self.head = link_free(&mut self.slots, live);
+                self.head = link_free::<P, T, S>(&mut self.slots, live);
                 self.len = live;
                 self.counter = counter;
                 // The arena is well-formed after.
@@ -163,16 +163,17 @@ impl<P: PtrCore, T: Drop, S: ArenaSlots<P, T>> Arena<P, T, S> {
 
 // Links the free slots by rising index, and returns the first one. Of the slots, `live` are
 // allocated.
-fn link_free<P: PtrCore, T: Drop, S: ArenaSlots<P, T>>(slots: &mut S, live: usize) -> OptionalInx
-    requires { live ≡ count_by is_some (list_map entry_of (S.items slots.old)) }
+fn link_free<P: PtrCore, T: Drop, S: ArenaSlots<P, T>>(slots: &mut S, live: usize) -> FreeInx<P>
+    requires live { live ≡ count_by is_some (list_map entry_of (S.items slots.old)) }
+    requires fits { length (S.items slots.old) ≤ P.Inx.greatest }
     ensures entries { list_map entry_of (S.items slots.new)
         ≡ list_map entry_of (S.items slots.old) }
-    ensures listed { IsFreeList (S.items slots.new) result
+    ensures listed { IsFreeList (S.items slots.new) (option_map P.Inx.number result)
         (vacant_from 1 (list_map entry_of (S.items slots.old))) }
     ensures room { S.room slots.new ≡ S.room slots.old }
 {
     if live == slots.len() {
         return OptionalInx::none();
     }
-    link_rising(slots)
+    link_rising::<P, T, S>(slots)
 }

@@ -1,9 +1,9 @@
 //! The free slots: the list of them, its order, and those at the end.
-ghost use Rattle.std.specs.Prelude.{◌≡◌, ℕ, Some, IsSome, IsTrue, IsFalse, length};
+ghost use Rattle.std.specs.Prelude.{◌≡◌, ◌≤◌, ℕ, Some, IsSome, IsTrue, IsFalse, length};
 ghost use Rattle.std.specs.Prelude.{map as list_map, slice_get, ⊤};
 ghost use Rattle.std.specs.Int.NonZero.{non_zero_usize_get};
 ghost use Rattle.std.specs.Option.{option_map};
-ghost use Rattle.triple_arena.specs.FreeLinks.{with_prev_at, with_next_at};
+ghost use Rattle.triple_arena.specs.FreeLinks.{numbered, with_prev_at, with_next_at};
 ghost use Rattle.triple_arena.specs.Slot.{entry_of};
 ghost use Rattle.triple_arena.specs.Layout.{links_at, head_after, without_last, IsFreeList};
 ghost use Rattle.triple_arena.specs.Content.{without_free_end, vacant_from, canonicalized};
@@ -11,21 +11,16 @@ ghost use Rattle.triple_arena.specs.Content.{last_index, IsVacant, IsWellFormed}
 
 use crate::ArenaSlots;
 use crate::arena::Arena;
-use crate::optional_inx::OptionalInx;
+use crate::free_inx::{FreeInx, free_at, place_of};
 use std::num::NonZeroUsize;
-use triple_arena_ptr::{PtrCore, PtrInxCore};
+use triple_arena_ptr::{OptionalInx, PtrCore};
 
 impl<P: PtrCore, T: Drop, S: ArenaSlots<P, T>> Arena<P, T, S> {
     /// The first of the free indexes, which the next insertion takes, or `None` if no slot is free.
     pub fn freelist_root(&self) -> Option<P::Inx>
         ensures { option_map P.Inx.number result ≡ slice_get self.now.free 0 }
     {
-        // Each slot has an index of the pointer type.
-        let _ = self.own_capacity();
-        match self.head.get() {
-            Some(head) => P::Inx::try_from_usize(head),
-            None => None,
-        }
+        self.head.get()
     }
 
     /// Pops the free slots at the end, until the last slot is live or none is left. The other free
@@ -52,12 +47,12 @@ impl<P: PtrCore, T: Drop, S: ArenaSlots<P, T>> Arena<P, T, S> {
         let Some(last) = NonZeroUsize::new(self.slots.len()) else {
             return false;
         };
-        let Some(links) = links_in(&self.slots, last) else {
+        let Some(links) = links_in::<P, T, S>(&self.slots, last) else {
             return false;
         };
-        set_next_at(&mut self.slots, links.0, links.1);
-        set_prev_at(&mut self.slots, links.1, links.0);
-        self.head = head_without(self.head, links.0, links.1);
+        set_next_at::<P, T, S>(&mut self.slots, links.0, links.1);
+        set_prev_at::<P, T, S>(&mut self.slots, links.1, links.0);
+        self.head = head_without::<P>(self.head, links.0, links.1);
         drop(self.slots.pop());
         true
     }
@@ -67,26 +62,30 @@ impl<P: PtrCore, T: Drop, S: ArenaSlots<P, T>> Arena<P, T, S> {
         ensures value { self.new ≡ canonicalized self.old }
         ensures formed { IsWellFormed self.new }
     {
-        self.head = link_rising(&mut self.slots);
+        // Each slot has an index of the pointer type.
+        let _ = self.own_capacity();
+        self.head = link_rising::<P, T, S>(&mut self.slots);
         // The arena is well-formed after.
         self.recall_formed();
     }
 }
 
 // Links the free slots by rising index, and returns the first one.
-pub(crate) fn link_rising<P: PtrCore, T: Drop, S: ArenaSlots<P, T>>(slots: &mut S) -> OptionalInx
+pub(crate) fn link_rising<P: PtrCore, T: Drop, S: ArenaSlots<P, T>>(slots: &mut S) -> FreeInx<P>
+    requires fits { length (S.items slots.old) ≤ P.Inx.greatest }
+    requires no_more { ⊤ }
     ensures entries { list_map entry_of (S.items slots.new)
         ≡ list_map entry_of (S.items slots.old) }
-    ensures listed { IsFreeList (S.items slots.new) result
+    ensures listed { IsFreeList (S.items slots.new) (option_map P.Inx.number result)
         (vacant_from 1 (list_map entry_of (S.items slots.old))) }
     ensures room { S.room slots.new ≡ S.room slots.old }
 {
-    let mut head = OptionalInx::none();
+    let mut head: FreeInx<P> = OptionalInx::none();
     let mut left = slots.len();
     while let Some(i) = NonZeroUsize::new(left) {
         if slots.item_mut(i).relink(head) {
-            let first = OptionalInx::some(i);
-            set_prev_at(slots, head, first);
+            let first = free_at::<P>(i);
+            set_prev_at::<P, T, S>(slots, head, first);
             head = first;
         }
         left -= 1;
@@ -98,8 +97,9 @@ pub(crate) fn link_rising<P: PtrCore, T: Drop, S: ArenaSlots<P, T>>(slots: &mut 
 fn links_in<P: PtrCore, T: Drop, S: ArenaSlots<P, T>>(
     slots: &S,
     i: NonZeroUsize,
-) -> Option<(OptionalInx, OptionalInx)>
-    ensures { result ≡ links_at (S.items slots.now) (non_zero_usize_get i) }
+) -> Option<(FreeInx<P>, FreeInx<P>)>
+    ensures { option_map (numbered P.Inx.number) result
+        ≡ links_at (S.items slots.now) (non_zero_usize_get i) }
 {
     match slots.get(i) {
         Some(slot) => slot.links(),
@@ -111,18 +111,22 @@ fn links_in<P: PtrCore, T: Drop, S: ArenaSlots<P, T>>(
 // be free.
 pub(crate) fn set_prev_at<P: PtrCore, T: Drop, S: ArenaSlots<P, T>>(
     slots: &mut S,
-    at: OptionalInx,
-    prev: OptionalInx,
+    at: FreeInx<P>,
+    prev: FreeInx<P>,
 )
-    requires free { (i : ℕ) → at ≡ Some i → IsSome (links_at (S.items slots.old) i) }
+    requires free { (i : ℕ) → option_map P.Inx.number at ≡ Some i
+        → IsSome (links_at (S.items slots.old) i) }
     requires no_more { ⊤ }
     ensures links { (i : ℕ) → links_at (S.items slots.new) i
-        ≡ with_prev_at (links_at (S.items slots.old)) at prev i }
+        ≡ with_prev_at (links_at (S.items slots.old))
+        (option_map P.Inx.number at) (option_map P.Inx.number prev) i }
     ensures entries { list_map entry_of (S.items slots.new)
         ≡ list_map entry_of (S.items slots.old) }
     ensures room { S.room slots.new ≡ S.room slots.old }
 {
-    if let Some(i) = at.get() {
+    // The number of slots is a `usize`, so the index of each is one.
+    let _ = slots.len();
+    if let Some(i) = place_of::<P>(at) {
         slots.item_mut(i).set_prev(prev);
     }
 }
@@ -131,25 +135,30 @@ pub(crate) fn set_prev_at<P: PtrCore, T: Drop, S: ArenaSlots<P, T>>(
 // free.
 fn set_next_at<P: PtrCore, T: Drop, S: ArenaSlots<P, T>>(
     slots: &mut S,
-    at: OptionalInx,
-    next: OptionalInx,
+    at: FreeInx<P>,
+    next: FreeInx<P>,
 )
-    requires free { (i : ℕ) → at ≡ Some i → IsSome (links_at (S.items slots.old) i) }
+    requires free { (i : ℕ) → option_map P.Inx.number at ≡ Some i
+        → IsSome (links_at (S.items slots.old) i) }
     requires no_more { ⊤ }
     ensures links { (i : ℕ) → links_at (S.items slots.new) i
-        ≡ with_next_at (links_at (S.items slots.old)) at next i }
+        ≡ with_next_at (links_at (S.items slots.old))
+        (option_map P.Inx.number at) (option_map P.Inx.number next) i }
     ensures entries { list_map entry_of (S.items slots.new)
         ≡ list_map entry_of (S.items slots.old) }
     ensures room { S.room slots.new ≡ S.room slots.old }
 {
-    if let Some(i) = at.get() {
+    // The number of slots is a `usize`, so the index of each is one.
+    let _ = slots.len();
+    if let Some(i) = place_of::<P>(at) {
         slots.item_mut(i).set_next(next);
     }
 }
 
 // The first free index after a slot with these links has left the list.
-fn head_without(head: OptionalInx, prev: OptionalInx, next: OptionalInx) -> OptionalInx
-    ensures { result ≡ head_after head prev next }
+fn head_without<P: PtrCore>(head: FreeInx<P>, prev: FreeInx<P>, next: FreeInx<P>) -> FreeInx<P>
+    ensures { option_map P.Inx.number result ≡ head_after (option_map P.Inx.number head)
+        (option_map P.Inx.number prev) (option_map P.Inx.number next) }
 {
     match prev.get() {
         Some(_) => head,

@@ -1,5 +1,5 @@
 //! The counter of an arena.
-ghost use Rattle.std.specs.Prelude.{◌≡◌};
+ghost use Rattle.std.specs.Prelude.{◌≡◌, IsTrue};
 ghost use Rattle.triple_arena_ptr.specs.Generation.{next_wraps};
 ghost use Rattle.triple_arena_ptr.specs.InvalidationOption.{overflowed};
 ghost use Rattle.triple_arena.specs.Changes.{IsStepped};
@@ -49,7 +49,22 @@ impl<P: PtrCore, T: Drop, S: ArenaSlots<P, T>> Arena<P, T, S> {
         ensures wraps { result ≡ next_wraps P.Gen.last self.old.counter }
     {
         let (counter, wrapped) = self.counter.generational_inc();
-        self.counter = counter;
+        if wrapped {
+            self.restart();
+        } else {
+            self.counter = counter;
+        }
         wrapped
+    }
+
+    // The counter starts again, which few steps meet: a branch to this is foreseen, where a choice
+    // of the next number would wait for the last one.
+    #[cold]
+    #[inline(never)]
+    fn restart(&mut self)
+        requires { IsTrue (next_wraps P.Gen.last self.old.counter) }
+        ensures { self.new ≡ stepped P.Gen.last self.old }
+    {
+        self.counter = P::Gen::two();
     }
 }

@@ -8,11 +8,11 @@ ghost use Rattle.triple_arena.specs.ContentLaws.{next-with_value};
 
 use crate::arena::free_slots::set_prev_at;
 use crate::arena::{Arena, pointer_at};
-use crate::optional_inx::OptionalInx;
+use crate::free_inx::place_of;
 use crate::{ArenaInsertTrait, ArenaSlot, ArenaSlots};
 use std::mem;
 use std::num::NonZeroUsize;
-use triple_arena_ptr::{NotWithinCapacityError, PtrCore, ReallocationError};
+use triple_arena_ptr::{NotWithinCapacityError, OptionalInx, PtrCore, ReallocationError};
 use unreached::unreached;
 
 impl<P: PtrCore, T: Drop, S: ArenaSlots<P, T>> ArenaInsertTrait<P, T> for Arena<P, T, S> {
@@ -52,10 +52,11 @@ impl<P: PtrCore, T: Drop, S: ArenaSlots<P, T>> Arena<P, T, S> {
     {
         // The slots are within the capacity, and that is a `usize`.
         let _ = self.slots.capacity();
-        if let Some(index) = self.head.get() {
+        let count = self.slots.len();
+        if let Some(index) = place_of::<P>(self.head) {
             return pointer_at(index, self.counter);
         }
-        match NonZeroUsize::new(self.slots.len() + 1) {
+        match NonZeroUsize::new(count + 1) {
             Some(index) => pointer_at(index, self.counter),
             None => unreached!(),
         }
@@ -72,11 +73,11 @@ impl<P: PtrCore, T: Drop, S: ArenaSlots<P, T>> Arena<P, T, S> {
         // The slots are within the capacity, so one more can be counted.
         let _ = self.slots.len();
         let slot = ArenaSlot::used(self.counter, t);
-        match self.head.get() {
+        match place_of::<P>(self.head) {
             Some(index) => {
                 let old = mem::replace(self.slots.item_mut(index), slot);
                 let next = old.into_next();
-                set_prev_at(&mut self.slots, next, OptionalInx::none());
+                set_prev_at::<P, T, S>(&mut self.slots, next, OptionalInx::none());
                 self.head = next;
                 self.len += 1;
                 pointer_at(index, self.counter)

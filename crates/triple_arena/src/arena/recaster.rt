@@ -18,10 +18,9 @@ ghost use Rattle.triple_arena.specs.SlotRecaster.{CompactsNoting};
 use crate::advancer::LivePointers;
 use crate::arena::compression::{keep_first, put_entry, renewal, take_entry};
 use crate::arena::{Arena, pointer_at};
-use crate::optional_inx::OptionalInx;
 use crate::{ArenaSlots, ArenaTrait, DirectArena, DirectSlots};
 use std::num::NonZeroUsize;
-use triple_arena_ptr::{PtrCore, ReallocationError};
+use triple_arena_ptr::{OptionalInx, PtrCore, ReallocationError};
 
 /// Moves the live entries to the first indexes, as `compress` does, and returns the map from each
 /// old pointer to the new one, by which the values and other arenas can be recast. The map has an

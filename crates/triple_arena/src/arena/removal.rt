@@ -8,11 +8,11 @@ ghost use Rattle.triple_arena.specs.Content.{vacated, removed, emptied, IsWellFo
 
 use crate::arena::free_slots::set_prev_at;
 use crate::arena::{Arena, pointer_at};
-use crate::optional_inx::OptionalInx;
+use crate::free_inx::free_at;
 use crate::{ArenaSlot, ArenaSlots};
 use std::mem;
 use std::num::NonZeroUsize;
-use triple_arena_ptr::{PtrCore, PtrGenCore};
+use triple_arena_ptr::{OptionalInx, PtrCore, PtrGenCore, PtrInxCore};
 use unreached::unreached;
 
 impl<P: PtrCore, T: Drop, S: ArenaSlots<P, T>> Arena<P, T, S> {
@@ -38,6 +38,29 @@ impl<P: PtrCore, T: Drop, S: ArenaSlots<P, T>> Arena<P, T, S> {
         (entry, wrapped)
     }
 
+    /// Removes the entry at an index that is live, steps the counter, and says whether the
+    /// generations started again. The caller owes that the index is live: the call makes no test.
+    /// The entry is not wrapped in the answer, so that a caller who keeps a part of it copies no
+    /// more than that.
+    #[inline(always)]
+    pub fn take_inx_unwrap(&mut self, i: P::Inx) -> ((P::Gen, T), bool)
+        requires { IsSome (entry_at self.old (P.Inx.number i)) }
+        ensures value { Some (P.Gen.number result.0.0, result.0.1)
+            ≡ entry_at self.old (P.Inx.number i) }
+        ensures overflow { result.1 ≡ next_wraps P.Gen.last self.old.counter }
+        ensures removed { IsRemoved entry_at live_count some_counter (λ c. c.room) P.Gen.last
+            (P.Inx.number i) self.old self.new }
+        ensures exact { self.new ≡ removed P.Gen.last self.old (P.Inx.number i) }
+        ensures formed { IsWellFormed self.new }
+    {
+        // The number of slots is a `usize`, so no index past that is live.
+        let _ = self.slots.len();
+        match i.try_into_usize() {
+            Some(i) => self.remove_at(i),
+            None => unreached!(),
+        }
+    }
+
     // Takes the entry at `i`, which is live, and leaves the counter.
     #[inline]
     pub(crate) fn take_at(&mut self, i: NonZeroUsize) -> (P::Gen, T)
@@ -46,23 +69,20 @@ impl<P: PtrCore, T: Drop, S: ArenaSlots<P, T>> Arena<P, T, S> {
         ensures entry { Some (P.Gen.number result.0, result.1)
             ≡ entry_at self.old (non_zero_usize_get i) }
     {
+        // The head is read once: the writes of slots do not change it.
+        let head = self.head;
+        let free = ArenaSlot::free(OptionalInx::none(), head);
+        // Either way the slot is taken out here, so that it is not moved where the ways meet.
+        let slot = mem::replace(self.slots.item_mut(i), free);
         if i.get() == self.slots.len() {
-            match self.slots.pop() {
-                Some(slot) => {
-                    self.len -= 1;
-                    slot.into_entry()
-                }
-                None => unreached!(),
-            }
+            drop(self.slots.pop());
         } else {
-            let first = OptionalInx::some(i);
-            let free = ArenaSlot::free(OptionalInx::none(), self.head);
-            let slot = mem::replace(self.slots.item_mut(i), free);
-            set_prev_at(&mut self.slots, self.head, first);
+            let first = free_at::<P>(i);
+            set_prev_at::<P, T, S>(&mut self.slots, head, first);
             self.head = first;
-            self.len -= 1;
-            slot.into_entry()
         }
+        self.len -= 1;
+        slot.into_entry()
     }
 
     // Gives the entry at `i`, which is live, the generation of the counter.

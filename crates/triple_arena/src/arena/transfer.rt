@@ -9,11 +9,10 @@ ghost use Rattle.triple_arena.specs.Transfer.{filled as filled_of, IsTransferred
 ghost use Rattle.triple_arena.specs.Transfer.{IsGivenUp};
 
 use crate::arena::Arena;
-use crate::optional_inx::OptionalInx;
 use crate::slot::EntrySlot;
 use crate::transfer::{ArenaTransferSource, ArenaTransferTrait, move_entries};
 use crate::{ArenaSlots, ArenaTrait};
-use triple_arena_ptr::{InvalidationOption, PtrCore, ReallocationError};
+use triple_arena_ptr::{InvalidationOption, OptionalInx, PtrCore, ReallocationError};
 use triple_arena_stack::NonZeroInxGenericStack;
 
 impl<Q: PtrCore, U: Drop, R: ArenaSlots<Q, U>> ArenaTransferSource<Q, U> for Arena<Q, U, R> {

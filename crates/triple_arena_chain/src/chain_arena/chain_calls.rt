@@ -159,30 +159,36 @@ impl<P: PtrCore, T: Drop, S: ChainSlots<P, T>> ChainArenaTrait<P, T> for ChainAr
         Some(())
     }
 
+    #[inline(always)]
     fn remove_link_no_gen(&mut self, p: P) -> InvalidationResult<LinkNoGen<P, T>> {
-        match self.arena.get(p) {
-            Some(link) => {
-                let prev = link.prev();
-                let next = link.next();
-                follow(&mut self.arena, prev, next);
-                self.arena.remove(p)
-            }
-            None => InvalidationResult::InvalidPtr,
+        // The interlinks agree.
+        self.recall_chained();
+        if self.arena.get(p).is_none() {
+            return InvalidationResult::InvalidPtr;
+        }
+        let ((_, link), wrapped) = self.take_inx_link_unwrap(p.inx());
+        if wrapped {
+            InvalidationResult::GenerationOverflow(link)
+        } else {
+            InvalidationResult::Success(link)
         }
     }
 
+    #[inline(always)]
     fn remove_inx_link_no_gen(
         &mut self,
         i: P::Inx,
     ) -> InvalidationResult<(P::Gen, LinkNoGen<P, T>)> {
-        match self.arena.get_inx(i) {
-            Some((_, link)) => {
-                let before = link.prev();
-                let after = link.next();
-                follow(&mut self.arena, before, after);
-                self.arena.remove_inx(i)
-            }
-            None => InvalidationResult::InvalidPtr,
+        // The interlinks agree.
+        self.recall_chained();
+        if self.arena.get_inx(i).is_none() {
+            return InvalidationResult::InvalidPtr;
+        }
+        let (entry, wrapped) = self.take_inx_link_unwrap(i);
+        if wrapped {
+            InvalidationResult::GenerationOverflow(entry)
+        } else {
+            InvalidationResult::Success(entry)
         }
     }
 }

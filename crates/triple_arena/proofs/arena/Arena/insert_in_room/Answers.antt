@@ -6,24 +6,29 @@ use Rattle.triple_arena.specs.ArenaRoom.{room_of}
 use Rattle.triple_arena.specs.FreeLinks.{with_prev_at}
 use Rattle.triple_arena.specs.Layout.{links_at}
 use Rattle.triple_arena.proofs.FreeListLemmas.{filled, head_within, head_links, next_free, pushed}
-use Rattle.triple_arena.proofs.FreeListLemmas.{room_behind}
+use Rattle.triple_arena.proofs.FreeListLemmas.{room_behind, head_fits}
 use Rattle.triple_arena.proofs.arena.Arena.insert_in_room.Goals as goal
+
+pub place_of-requires-clause-fits : goal.place_of-requires-clause-fits
+place_of-requires-clause-fits g c =
+    head_fits g.P.Inx.PtrInxCore.number c.self.inside.head c.len.ensures.value c.len.type_inv
+    c.self.invariant
 
 pub item_mut-requires : goal.item_mut-requires
 item_mut-requires g c =
-    head_within (sym c.get.ensures ∙ ap (option_map non_zero_usize_get) c.in-Some.is)
+    head_within (sym c.place_of.ensures ∙ ap (option_map non_zero_usize_get) c.in-Some.is)
     c.self.invariant
 
 pub into_next-next-requires-clause-free : goal.into_next-next-requires-clause-free
 into_next-next-requires-clause-free g c =
-    head_links (sym c.get.ensures ∙ ap (option_map non_zero_usize_get) c.in-Some.is)
+    head_links (sym c.place_of.ensures ∙ ap (option_map non_zero_usize_get) c.in-Some.is)
     c.self.invariant
     (sym c.item_mut.ensures.value ∙ ap Some (sym c.replace-old.ensures.value))
 
 pub set_prev_at-requires-clause-free : goal.set_prev_at-requires-clause-free
 set_prev_at-requires-clause-free g c =
     next_free c.replace-old.new.dest
-    (sym c.get.ensures ∙ ap (option_map non_zero_usize_get) c.in-Some.is) c.self.invariant
+    (sym c.place_of.ensures ∙ ap (option_map non_zero_usize_get) c.in-Some.is) c.self.invariant
     (sym c.item_mut.ensures.value ∙ ap Some (sym c.replace-old.ensures.value))
     (c.into_next-next.ensures)
     (g.met.S.NonZeroInxGenericStack.items_with_items c.self.inside.slots
@@ -32,20 +37,20 @@ set_prev_at-requires-clause-free g c =
 
 pub pointer_at-requires-clause-fits : goal.pointer_at-requires-clause-fits
 pointer_at-requires-clause-fits g c =
-    let within = head_within (sym c.get.ensures ∙ ap (option_map non_zero_usize_get) c.in-Some.is)
+    let within = head_within (sym c.place_of.ensures ∙ ap (option_map non_zero_usize_get) c.in-Some.is)
     c.self.invariant in
     let fits = c.self.invariant.fits in
     Prim.search rules
 
 pub pointer_at-requires-in-Ok-clause-fits : goal.pointer_at-requires-in-Ok-clause-fits
 pointer_at-requires-in-Ok-clause-fits g c =
-    let room = room_behind (sym c.get.ensures ∙ ap (option_map non_zero_usize_get) c.in-None.is)
+    let room = room_behind (sym c.place_of.ensures ∙ ap (option_map non_zero_usize_get) c.in-None.is)
     c.self.invariant c.self.view_is c.requires in
     Prim.search rules
 
 pub invariant_of-self : goal.invariant_of-self
 invariant_of-self g c =
-    (filled (sym c.get.ensures ∙ ap (option_map non_zero_usize_get) c.in-Some.is) c.self.invariant
+    (filled (sym c.place_of.ensures ∙ ap (option_map non_zero_usize_get) c.in-Some.is) c.self.invariant
     (sym c.item_mut.ensures.value ∙ ap Some (sym c.replace-old.ensures.value))
     (c.into_next-next.ensures)
     (g.met.S.NonZeroInxGenericStack.items_with_items c.self.inside.slots
@@ -56,7 +61,9 @@ invariant_of-self g c =
     ∙ ap (λ o. with_prev_at (links_at (g.S.NonZeroInxGenericStack.items
     (g.S.NonZeroInxGenericStack.with_items c.self.inside.slots
     (with_item (g.S.NonZeroInxGenericStack.items c.self.inside.slots)
-    (non_zero_usize_get c.in-Some.index) c.replace-old.new.dest)))) c.into_next-next.result o j)
+    (non_zero_usize_get c.in-Some.index) c.replace-old.new.dest))))
+    (option_map g.P.Inx.PtrInxCore.number c.into_next-next.result)
+    (option_map g.P.Inx.PtrInxCore.number o) j)
     c.none.ensures)
     c.set_prev_at.ensures.entries refl
     (ap (room_of g.P.Inx.PtrInxCore.greatest)
@@ -68,14 +75,14 @@ invariant_of-self g c =
 
 pub invariant_of-self-in-Ok : goal.invariant_of-self-in-Ok
 invariant_of-self-in-Ok g c =
-    (pushed (sym c.get.ensures ∙ ap (option_map non_zero_usize_get) c.in-None.is) c.self.invariant
+    (pushed (sym c.place_of.ensures ∙ ap (option_map non_zero_usize_get) c.in-None.is) c.self.invariant
     c.requires c.in-Ok.ensures.items
     c.used-slot.ensures (ap (room_of g.P.Inx.PtrInxCore.greatest)
     c.push_within_capacity.ensures.room) c.self.view_is).sound
 
 pub returns-in-Some-clause-value : goal.returns-in-Some-clause-value
 returns-in-Some-clause-value g c =
-    (filled (sym c.get.ensures ∙ ap (option_map non_zero_usize_get) c.in-Some.is) c.self.invariant
+    (filled (sym c.place_of.ensures ∙ ap (option_map non_zero_usize_get) c.in-Some.is) c.self.invariant
     (sym c.item_mut.ensures.value ∙ ap Some (sym c.replace-old.ensures.value))
     (c.into_next-next.ensures)
     (g.met.S.NonZeroInxGenericStack.items_with_items c.self.inside.slots
@@ -86,7 +93,9 @@ returns-in-Some-clause-value g c =
     ∙ ap (λ o. with_prev_at (links_at (g.S.NonZeroInxGenericStack.items
     (g.S.NonZeroInxGenericStack.with_items c.self.inside.slots
     (with_item (g.S.NonZeroInxGenericStack.items c.self.inside.slots)
-    (non_zero_usize_get c.in-Some.index) c.replace-old.new.dest)))) c.into_next-next.result o j)
+    (non_zero_usize_get c.in-Some.index) c.replace-old.new.dest))))
+    (option_map g.P.Inx.PtrInxCore.number c.into_next-next.result)
+    (option_map g.P.Inx.PtrInxCore.number o) j)
     c.none.ensures)
     c.set_prev_at.ensures.entries refl
     (ap (room_of g.P.Inx.PtrInxCore.greatest)
@@ -98,7 +107,7 @@ returns-in-Some-clause-value g c =
 
 pub returns-in-Ok-clause-value : goal.returns-in-Ok-clause-value
 returns-in-Ok-clause-value g c =
-    (pushed (sym c.get.ensures ∙ ap (option_map non_zero_usize_get) c.in-None.is) c.self.invariant
+    (pushed (sym c.place_of.ensures ∙ ap (option_map non_zero_usize_get) c.in-None.is) c.self.invariant
     c.requires c.in-Ok.ensures.items
     c.used-slot.ensures (ap (room_of g.P.Inx.PtrInxCore.greatest)
     c.push_within_capacity.ensures.room) c.self.view_is).content

@@ -2,26 +2,32 @@ use Rattle.std.proofs.Common.{sym, ap, ◌∙◌}
 use Rattle.std.specs.Int.NonZero.{non_zero_usize_get}
 use Rattle.std.specs.Option.{option_map}
 use Rattle.triple_arena_stack.specs.Stack.{with_item}
-use Rattle.triple_arena.proofs.FreeListLemmas.{free_within, slot_free}
+use Rattle.triple_arena.proofs.FreeListLemmas.{free_within, slot_free, place_fits}
 use Rattle.triple_arena.proofs.FreeSlotsLemmas.{next_written, entries-next}
 use Rattle.triple_arena.proofs.arena.free_slots.set_next_at.Goals as goal
+
+pub place_of-requires-clause-fits : goal.place_of-requires-clause-fits
+place_of-requires-clause-fits g c =
+    place_fits g.P.Inx.PtrInxCore.number c.args.at
+    (g.S.NonZeroInxGenericStack.items c.args.slots.now) c.len.ensures.value c.len.type_inv
+    c.requires.free
 
 pub item_mut-requires : goal.item_mut-requires
 item_mut-requires g c =
     free_within (g.S.NonZeroInxGenericStack.items c.args.slots.now) (non_zero_usize_get c.in-Some.i)
     (c.requires.free (non_zero_usize_get c.in-Some.i)
-    (sym c.get.ensures ∙ ap (option_map non_zero_usize_get) c.in-Some.is))
+    (sym c.place_of.ensures ∙ ap (option_map non_zero_usize_get) c.in-Some.is))
 
 pub set_next-requires-clause-free : goal.set_next-requires-clause-free
 set_next-requires-clause-free g c =
     slot_free (g.S.NonZeroInxGenericStack.items c.args.slots.now) (non_zero_usize_get c.in-Some.i)
     c.item_mut.result.now c.in-Some.i.ok c.item_mut.ensures.value
     (c.requires.free (non_zero_usize_get c.in-Some.i)
-    (sym c.get.ensures ∙ ap (option_map non_zero_usize_get) c.in-Some.is))
+    (sym c.place_of.ensures ∙ ap (option_map non_zero_usize_get) c.in-Some.is))
 
 pub returns-in-Some-clause-links : goal.returns-in-Some-clause-links
 returns-in-Some-clause-links g c =
-    next_written _ _ (sym c.get.ensures ∙ ap (option_map non_zero_usize_get) c.in-Some.is)
+    next_written _ _ (sym c.place_of.ensures ∙ ap (option_map non_zero_usize_get) c.in-Some.is)
     c.in-Some.i.ok c.item_mut.ensures.value c.set_next.ensures
     (g.met.S.NonZeroInxGenericStack.items_with_items c.args.slots.now
     (with_item (g.S.NonZeroInxGenericStack.items c.args.slots.now) (non_zero_usize_get c.in-Some.i)

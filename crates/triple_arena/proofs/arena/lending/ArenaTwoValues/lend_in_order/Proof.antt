@@ -116,7 +116,7 @@ use Rattle.triple_arena.specs.Content.{Content}
 use Rattle.triple_arena.specs.Slot.{with_slot_value, entry_of, value_of}
 use Rattle.triple_arena.specs.TwoValues.{written_both, with_two_values}
 use Rattle.triple_arena.specs.BothWays.{after_ways}
-use Rattle.triple_arena.specs.contracts.optional_inx.OptionalInx
+use Rattle.triple_arena_ptr.specs.contracts.optional_inx.OptionalInx
 use denote.Builtin
 use Rattle.std.specs.contracts.marker.PhantomData
 use denote.Struct.Members
@@ -281,9 +281,11 @@ module _ (P T' S P-Inx P-Gen P-Word S-Alloc : RattleType)
     ms = record { row = param 2 S; ty = lone (param 2 S).mir } ∷
         record { row = copied 4 P-Gen; ty = lone (copied 4 P-Gen).mir } ∷
         record {
-          row = Rattle.triple_arena.specs.contracts.optional_inx.OptionalInx.the_row;
+          row = Rattle.triple_arena_ptr.specs.contracts.optional_inx.OptionalInx.the_row
+              (copied 3 P-Inx) (copied 5 P-Word) g2 g4;
           ty =
-              lone (Rattle.triple_arena.specs.contracts.optional_inx.OptionalInx.the_row).mir;
+              lone (Rattle.triple_arena_ptr.specs.contracts.optional_inx.OptionalInx.the_row
+              (copied 3 P-Inx) (copied 5 P-Word) g2 g4).mir;
         }
         ∷ record { row = denote.Builtin.usize; ty = lone denote.Builtin.usize.mir } ∷
         record {
