@@ -196,7 +196,8 @@ pub trait ArenaTrait<P: PtrCore, T: Drop> {
         ensures high { (j : ℕ) → IsSome (entry_at self.now j) → j ≤ (walk result).high }
         ensures end { (walk result).high ≡ slot_count self.now };
 
-    /// The same from `i` on, or with `rev` by falling index from `i` to 1.
+    /// What gives the pointers to the entries by rising index from `i` to the last slot that there
+    /// is now, or with `rev` by falling index from `i` to 1.
     fn advancer_inx(&self, i: P::Inx, rev: bool) -> Self::PtrAdvancer
         ensures direction { (walk result).falls ≡ rev }
         ensures low { (walk result).low ≡ (if rev then 1 else min (P.Inx.number i) (2 ^ 64)) }
@@ -335,7 +336,8 @@ pub trait ArenaTrait<P: PtrCore, T: Drop> {
         }
     }
 
-    /// The same as `compress_with`, with the values as they are.
+    /// Moves the live entries, in the order of their indexes, to the indexes from 1 on, with their
+    /// values as they are. What `reset` does and what is answered is said at `compress_with`.
     final fn compress(&mut self, reset: bool) -> InvalidationOption<()>
         ensures values { list_map value_of_entry (live_entries self.new)
             ≡ list_map value_of_entry (live_entries self.old) }

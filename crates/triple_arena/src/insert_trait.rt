@@ -52,7 +52,8 @@ pub trait ArenaInsertTrait<P: PtrCore, T: Drop>: ArenaTrait<P, T> {
     ghost next_index_with_value: { (s : Self) (i : ℕ) (t : T)
         → next_index (Self.with_value s i t) ≡ next_index s };
 
-    /// The same as `insert_reallocating`.
+    /// Stores `t`. If there is no room, the arena grows; the growth and the errors are those of
+    /// `insert_reallocating`.
     #[inline]
     final fn insert(&mut self, t: T) -> Result<P, ReallocationError>
         ensures inserted { IfOk result (λ p. IsInserted Self.entry_at Self.live_count Self.counter

@@ -83,7 +83,7 @@ impl<'a, P: PtrCore, T, E: LentEntry<P, T>> Iter<'a, P, T, T, E, Whole> {
         }
     }
 
-    /// The same entries, of each value the part that `M` shows.
+    /// The iterator over these entries that gives of each value the part that `M` shows.
     pub fn shown_by<U, M: Part<T, U>>(self) -> Iter<'a, P, T, U, E, M>
         ensures { result ≡ list_map (with_part M.part) self.entry }
     {

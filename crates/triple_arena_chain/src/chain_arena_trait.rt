@@ -199,8 +199,9 @@ pub trait ChainArenaTrait<P: PtrCore, T: Drop>: ArenaTrait<P, T> {
         ensures formed { IsChained P.Inx.number (links self.new) }
         ensures invalid { IfNone (answer_of result) (self.new ≡ self.old) };
 
-    /// Removes the link at an index in the same way. It returns `InvalidPtr`, and changes nothing,
-    /// if the index is not live.
+    /// Removes the link at an index, joins its neighbors, and steps the counter. The link is given
+    /// back with the interlinks that it had. It returns `InvalidPtr`, and changes nothing, if the
+    /// index is not live.
     fn remove_inx_link_no_gen(&mut self, i: P::Inx) -> InvalidationResult<(P::Gen, LinkNoGen<P, T>)>
         ensures value { option_map (λ a. (P.Gen.number (value_of a).0, (value_of a).1))
             (answer_of result) ≡ entry_at (links self.old) (P.Inx.number i) }
@@ -289,7 +290,8 @@ pub trait ChainArenaTrait<P: PtrCore, T: Drop>: ArenaTrait<P, T> {
         self.insert_lent_reallocating(&kind, t)
     }
 
-    /// The same as `insert_reallocating`, if the links are as the kind requires.
+    /// Stores `t` in a link where the kind says. The links must be as the kind requires. If there is
+    /// no room, the arena grows; the growth and the errors are those of `insert_reallocating`.
     #[inline(always)]
     final fn insert(&mut self, kind: LinkInsertKind<P>, t: T) -> Result<P, ChainInsertionError>
         requires { IsSome (gap_among P.index P.generation P.Inx.number (links self.old) kind) }

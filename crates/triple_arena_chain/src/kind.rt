@@ -11,28 +11,29 @@ pub enum InsertKind<P, I> {
     SingleLinkCyclic,
     /// After a link that has no next.
     ChainEnd(P),
-    /// The same by the index.
+    /// After the link at this index, which has no next.
     ChainEndInx(I),
     /// Before a link that has no previous one.
     ChainStart(P),
-    /// The same by the index.
+    /// Before the link at this index, which has no previous one.
     ChainStartInx(I),
     /// Directly after a link, between it and its next if it has one.
     NextTo(P),
-    /// The same by the index.
+    /// Directly after the link at this index, between it and its next if it has one.
     NextToInx(I),
     /// Directly before a link, between it and its previous one if it has one.
     PrevTo(P),
-    /// The same by the index.
+    /// Directly before the link at this index, between it and its previous one if it has one.
     PrevToInx(I),
     /// Between two links of which the second is the next of the first.
     AtInterlink(P, P),
-    /// The same by the indexes.
+    /// Between the links at two indexes, of which the second is the next of the first.
     AtInterlinkInx(I, I),
     /// Between a link that has no next and one that has no previous one. Between the end and the
     /// start of one linear chain it makes a ring.
     Bridge(P, P),
-    /// The same by the indexes.
+    /// Between the link at the first index, which has no next, and the one at the second, which has
+    /// no previous one. Between the end and the start of one linear chain it makes a ring.
     BridgeInx(I, I),
 }
 

@@ -64,7 +64,7 @@ impl<'a, P: PtrCore, T: Drop, S: ArenaSlots<P, T>> ArenaInsertEntryTrait<P, T>
         ensures formed { IsWellFormed self.exit.0.now }
     {
         let ArenaInsertEntry { arena } = self;
-        arena.insert_entry(t)
+        arena.insert_unwrap(t)
     }
 }
 
@@ -102,7 +102,8 @@ pub trait ArenaInsertEntries<P: PtrCore, T: Drop> {
         ensures* err { sem 𝓛 (RestsIfErr Self.row self.entry entry_lender result
             (λ a. a ≡ self.old)) };
 
-    /// The same as `entry_insert_reallocating`.
+    /// Room for one entry more. If there is none, the arena grows; the growth and the errors are
+    /// those of `entry_insert_reallocating`. An error leaves the arena as it was.
     fn entry_insert(&mut self) -> Result<ArenaInsertEntry<'_, P, T, Self::Stack>, ReallocationError>
         ensures same_reference { IfOk result (λ e. entry_lender e ≡ self.entry.ghost_name) }
         ensures has_room { IfOk result

@@ -31,7 +31,7 @@ impl<P: PtrCore, T: Drop, S: ArenaSlots<P, T>> ArenaInsertTrait<P, T> for Arena<
         if self.live() == self.own_capacity() {
             return Err(NotWithinCapacityError);
         }
-        Ok(self.insert_entry(t))
+        Ok(self.insert_unwrap(t))
     }
 
     #[inline]
@@ -39,7 +39,7 @@ impl<P: PtrCore, T: Drop, S: ArenaSlots<P, T>> ArenaInsertTrait<P, T> for Arena<
         // The arena is well-formed before.
         self.recall_formed();
         self.make_room()?;
-        Ok(self.insert_entry(t))
+        Ok(self.insert_unwrap(t))
     }
 }
 
@@ -92,13 +92,14 @@ impl<P: PtrCore, T: Drop, S: ArenaSlots<P, T>> Arena<P, T, S> {
         }
     }
 
-    // Stores `t` as `insert_in_room` does, and says what is at each index then.
+    /// Stores `t`, and returns its pointer, which `next_ptr` told. The caller owes that there is
+    /// room: the call makes no test, takes no memory and cannot fail.
     #[inline]
-    pub(crate) fn insert_entry(&mut self, t: T) -> P
+    pub fn insert_unwrap(&mut self, t: T) -> P
         requires { live_count self.old < arena_capacity self.old }
-        ensures value { self.new ≡ inserted_of self.old t }
         ensures inserted { IsInserted entry_at live_count some_counter (next_of self.old)
             (P.index result) (P.generation result) t self.old self.new }
+        ensures exact { self.new ≡ inserted_of self.old t }
         ensures room { self.new.room ≡ self.old.room }
         ensures formed { IsWellFormed self.new }
     {

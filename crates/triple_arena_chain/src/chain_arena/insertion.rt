@@ -13,11 +13,8 @@ ghost use Rattle.triple_arena_chain.specs.declared.gap.Gap.TheVariants.{Between}
 use crate::chain_arena::interlinks::join;
 use crate::gap::Gap;
 use crate::{ChainArena, ChainSlots, IndexLink};
-use triple_arena::{
-    ArenaInsertEntries, ArenaInsertEntryTrait, PtrCore, PtrInxCore, ReallocationError,
-};
+use triple_arena::{PtrCore, PtrInxCore, ReallocationError};
 use triple_arena_ptr::{NotWithinCapacityError, OptionalInx};
-use unreached::unreached;
 
 pub(crate) mod entry;
 mod growth;
@@ -39,7 +36,7 @@ fn link_at<I: PtrInxCore<Word = W>, W: Copy, T>(
 }
 
 impl<P: PtrCore, T: Drop, S: ChainSlots<P, T>> ChainArena<P, T, S> {
-    // Stores `t` in a link at a gap, if there is room.
+    // Stores `t` in a link at a gap. There must be room: the call makes no test.
     #[inline(always)]
     pub(crate) fn put(&mut self, gap: Gap<P::Inx>, t: T) -> P
         requires room { live_count self.old < arena_capacity self.old }
@@ -49,16 +46,28 @@ impl<P: PtrCore, T: Drop, S: ChainSlots<P, T>> ChainArena<P, T, S> {
         ensures formed { IsChained P.Inx.number self.new }
         ensures room { self.new.room ≡ self.old.room }
     {
-        match self.arena.entry_insert_within_capacity() {
-            Ok(entry) => {
-                let p = entry.ptr();
-                let i = p.inx();
-                entry.insert(link_at(gap, i, t));
-                join(&mut self.arena, gap, i);
-                p
-            }
-            Err(_) => unreached!(),
-        }
+        let p = self.arena.next_ptr();
+        let i = p.inx();
+        self.arena.insert_unwrap(link_at(gap, i, t));
+        join(&mut self.arena, gap, i);
+        p
+    }
+
+    /// Stores `t` in a link between the links at these two indexes, of which either may be missing.
+    /// They are neighbors, or each has none on that side. The caller owes that, and that there is
+    /// room: the call makes no test, takes no memory and cannot fail.
+    #[inline(always)]
+    pub fn insert_in_gap_unwrap(&mut self, prev: Option<P::Inx>, next: Option<P::Inx>, t: T) -> P
+        requires room { live_count self.old < arena_capacity self.old }
+        requires gap { IsBetween (ends_in P.Inx.number self.old)
+            (ends_by P.Inx.number (prev, next)) }
+        ensures inserted { IsLinkInserted P.Inx.number
+            (Between (option_map P.Inx.number prev) (option_map P.Inx.number next))
+            (P.index result) (P.generation result) t self.old self.new }
+        ensures formed { IsChained P.Inx.number self.new }
+        ensures room { self.new.room ≡ self.old.room }
+    {
+        self.put(Gap::Between(prev, next), t)
     }
 
     /// Stores `t` in a link between the links at these two indexes, of which either may be missing,
@@ -80,14 +89,16 @@ impl<P: PtrCore, T: Drop, S: ChainSlots<P, T>> ChainArena<P, T, S> {
         ensures err { OnErr result (self.new ≡ self.old) }
     {
         if self.has_room() {
-            Ok(self.put(Gap::Between(prev, next), t))
+            Ok(self.insert_in_gap_unwrap(prev, next, t))
         } else {
             Err(NotWithinCapacityError)
         }
     }
 
-    /// The same, but the arena grows if there is no room, and returns the errors, as
-    /// `insert_reallocating` does.
+    /// Stores `t` in a link between the links at these two indexes, of which either may be missing.
+    /// They are neighbors, or each has none on that side. If there is no room, the arena grows. It
+    /// returns `BeyondMaxCapacity` if as many links are live as the greatest capacity, and
+    /// `AllocError` if the memory was refused; both change nothing, and `t` is dropped then.
     pub fn insert_in_gap_reallocating(
         &mut self,
         prev: Option<P::Inx>,
@@ -105,6 +116,6 @@ impl<P: PtrCore, T: Drop, S: ChainSlots<P, T>> ChainArena<P, T, S> {
         ensures err { OnErr result (self.new ≡ self.old) }
     {
         let _ = self.make_room()?;
-        Ok(self.put(Gap::Between(prev, next), t))
+        Ok(self.insert_in_gap_unwrap(prev, next, t))
     }
 }

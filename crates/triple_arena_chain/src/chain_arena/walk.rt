@@ -15,7 +15,7 @@ use triple_arena_ptr::OptionalInx;
 /// Gives the pointers to the links of a chain, one a call: from a link on to the end and then
 /// backwards from the link before it, or once round a ring. The links are free between the calls.
 ///
-/// As it gives a link it notes the index that comes next, and later gives what is live there. If
+/// With each link it notes the index that comes next, and later gives what is live there. If
 /// nothing is, it ends. Over links that stay it ends always. A ring whose first link is removed
 /// during the walk is gone round without an end. A walk from the middle of a list goes back from
 /// the index where it began: from the link that lives there by then, perhaps in another chain, or

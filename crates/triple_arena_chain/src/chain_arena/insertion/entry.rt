@@ -122,7 +122,9 @@ impl<P: PtrCore, T: Drop, S: ChainSlots<P, T>> ChainArena<P, T, S> {
         })
     }
 
-    /// The same as `entry_insert_reallocating`, if the links are as the kind requires.
+    /// Room for one link more. The links must be as the kind requires. If there is none, the arena
+    /// grows; the growth and the errors are those of `entry_insert_reallocating`. An error
+    /// leaves the links as they were.
     pub fn entry_insert(
         &mut self,
         kind: LinkInsertKind<P>,

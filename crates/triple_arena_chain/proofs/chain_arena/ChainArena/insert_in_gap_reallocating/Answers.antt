@@ -6,8 +6,8 @@ use Rattle.triple_arena_chain.specs.declared.gap.Gap.TheVariants.{Between}
 use Rattle.triple_arena_chain.proofs.GrowthLemmas.{inserted-grown}
 use Rattle.triple_arena_chain.proofs.chain_arena.ChainArena.insert_in_gap_reallocating.Goals as goal
 
-pub put-requires-clause-gap : goal.put-requires-clause-gap
-put-requires-clause-gap g c =
+pub insert_in_gap_unwrap-requires-clause-gap : goal.insert_in_gap_unwrap-requires-clause-gap
+insert_in_gap_unwrap-requires-clause-gap g c =
     let number = g.P.Inx.PtrInxCore.number in
     let grown : c.make_room.new.self ≡ grown_if_full c.args.self.now = search rules in
     let there : IsBetween (ends_in number (grown_if_full c.args.self.now))
@@ -18,7 +18,7 @@ pub returns-clause-inserted : goal.returns-clause-inserted
 returns-clause-inserted g c =
     let number = g.P.Inx.PtrInxCore.number in
     let grown : c.make_room.new.self ≡ grown_if_full c.args.self.now = search rules in
-    inserted-grown number c.args.self.now c.make_room.new.self c.put.new.self
+    inserted-grown number c.args.self.now c.make_room.new.self c.insert_in_gap_unwrap.new.self
     (Between (option_map number c.args.prev) (option_map number c.args.next))
-    (g.P.PtrCore.index c.put.result) (g.P.PtrCore.generation c.put.result) c.args.t grown
-    c.put.ensures.inserted
+    (g.P.PtrCore.index c.insert_in_gap_unwrap.result) (g.P.PtrCore.generation c.insert_in_gap_unwrap.result) c.args.t grown
+    c.insert_in_gap_unwrap.ensures.inserted
