@@ -13,7 +13,6 @@ pub mod InsertEntry
 pub mod Growth
 pub mod Removal
 pub mod Found
-pub mod Spared
 pub mod Asked
 pub mod Near
 pub mod AskedLaws
