@@ -32,6 +32,7 @@ pub mod LostEnds
 pub mod LawLemmas
 pub mod OrderedWalkLemmas
 pub mod OrderedDrainLemmas
+pub mod BoundLemmas
 pub mod IndexedLemmas
 pub mod RebuildLemmas
 pub mod RebuildRunLemmas

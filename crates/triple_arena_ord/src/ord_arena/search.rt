@@ -10,6 +10,7 @@ ghost use Rattle.triple_arena_ord.specs.Ordered.{IsOrdered, IsAscending, tree_in
 ghost use Rattle.triple_arena_ord.specs.Ordered.{asked_at};
 ghost use Rattle.triple_arena_ord.specs.Found.{IsFound, IsSimilar};
 
+mod bounds;
 mod closures;
 pub(crate) mod found;
 mod linear;
