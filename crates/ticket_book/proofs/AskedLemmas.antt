@@ -145,18 +145,3 @@ asked_within number o t old new rise ticks bound count =
     let most : most_comparisons (length (entries_of number o)) ≡ most_comparisons (size_in o) =
     ap most_comparisons size in
     omega (arith, is, most, ticks, bound)
-
--- if the bound leaves one, so does it beside this number
-pub asked_spared : {I : Type 0} (number : I → ℕ) (o : Ordered I Entry) (t : ℕ)
-    → TicketsRise (entries_of number o)
-    → asked_in number o t + 1 ≤ most_comparisons (size_in o)
-    → length (ordered_entries number o) ≡ size_in o
-    → asked_among (asked_in number o 0) (entries_of number o) (asked_beside number o) t + 1
-    ≤ most_comparisons (length (entries_of number o))
-asked_spared number o t rise spared count =
-    let is = asked_there number o t rise in
-    let size : length (entries_of number o) ≡ size_in o =
-    length-map (ordered_entries number o) (λ x. x.1.1) ∙ count in
-    let most : most_comparisons (length (entries_of number o)) ≡ most_comparisons (size_in o) =
-    ap most_comparisons size in
-    omega (arith, is, most, spared)

@@ -13,8 +13,9 @@ use Rattle.triple_arena_chain.specs.Links.{ends_in}
 use Rattle.triple_arena_chain.specs.UniquenessLaws.{linear_apart}
 use Rattle.triple_arena_ord.specs.Ordered.{Ordered, IsOrdered, entry_in, order_in}
 use Rattle.triple_arena_ord.specs.Removal.{IsEntryRemoved}
-use Rattle.ticket_book.specs.InArena.{entries_of}
+use Rattle.ticket_book.specs.InArena.{StandByNumber, entries_of}
 use Rattle.ticket_book.specs.Tickets.{Entry, TicketsRise, without_ticket}
+use Rattle.ticket_book.proofs.LookLemmas.{numbered_without}
 use Rattle.ticket_book.proofs.TicketLemmas.{along, along-append, along_none, along_some}
 
 -- ---- an entry less
@@ -120,6 +121,12 @@ module _ {I : Type 0} (number : I → ℕ) (old new : Ordered I Entry) (ordered 
         by None none h = absurd
             (let no : ◌≡◌ {A = Option (G × Entry)} None (Some taken) = none in cc)
         by (Some a) some h = h
+
+    -- those that stood at the index of their own number still do
+    pub numbered_taken : (first : ℕ) → StandByNumber first (entry_in old)
+        → StandByNumber first (entry_in new)
+    numbered_taken first stand =
+        numbered_without first i (entry_in old) (entry_in new) gone.entries stand
 
     -- all others stand where they stood
     pub others_stand : (k : ℕ) → k ≢ i → entry_in new k ≡ entry_in old k

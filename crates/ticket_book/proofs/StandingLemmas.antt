@@ -108,3 +108,12 @@ module _ {I : Type 0} (number : I → ℕ) (law : AllStand number) where
             ap (option_map (λ (x : ℕ × Entry). x.1)) (added.entries i ∙ rw other.0 refl) ∙ there
       ] in
       stands_there new ordered' i ∙ now
+
+  -- and the one more stands at its index
+  pub added_stands : (old new : Ordered I Entry) (j g : ℕ) (t : Entry)
+      → IsOrdered number new → IsAdded number j g t old new → (i : ℕ) → i ≡ j
+      → option_map (λ (x : ℕ × Entry). x.1)
+      (find (λ (x : ℕ × Entry). x.0 == i) (standing_in number new)) ≡ Some t
+  added_stands old new j g t ordered added i same =
+      let here : entry_in new i ≡ Some (g, t) = added.entries i ∙ rw (eq-eqb i j same) refl in
+      stands_there new ordered i ∙ ap (option_map (λ (e : ℕ × Entry). e.1)) here

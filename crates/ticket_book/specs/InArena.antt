@@ -1,11 +1,14 @@
 -- The entries of a ticket book in their arena.
-use Rattle.std.specs.Prelude.{ℕ, Bool, ◌+◌, List, map}
+use Rattle.std.specs.Prelude.{◌≡◌, ℕ, ◌+◌, ◌<◌, List, map, Option, Some}
 use Rattle.std.specs.Ordering.{nat_cmp}
 use Rattle.rank_tree.specs.Search.{asked_down}
-use Rattle.rank_tree.specs.Tree.{rank_of}
-use Rattle.triple_arena_ord.specs.Ordered.{Ordered, asked_at, ordered_entries, size_in, tree_in}
-use Rattle.triple_arena_ord.specs.Spared.{spares}
+use Rattle.triple_arena_ord.specs.Ordered.{Ordered, asked_at, ordered_entries, tree_in}
 use Rattle.ticket_book.specs.Tickets.{Entry}
+
+-- each entry of a ticket less than this one stands at the index of the ticket's own number
+abbrev pub StandByNumber : ℕ → (ℕ → Option (ℕ × Entry)) → Type 0
+StandByNumber first at = (i : ℕ) (e : ℕ × Entry) → at i ≡ Some e → e.1.ticket < first
+    → i ≡ e.1.ticket
 
 module _ {I : Type 0} (number : I → ℕ) where
   -- the entries along the list
@@ -15,10 +18,6 @@ module _ {I : Type 0} (number : I → ℕ) where
   -- the same beside their indexes
   abbrev pub standing_in : Ordered I Entry → List (ℕ × Entry)
   standing_in o = map (λ x. (x.0, x.1.1)) (ordered_entries number o)
-
-  -- whether the bound on a search leaves a comparison
-  abbrev pub spares_in : Ordered I Entry → Bool
-  spares_in o = spares (rank_of (tree_in number o)) (size_in o)
 
   -- how many entries the search for a ticket compares with
   abbrev pub asked_in : Ordered I Entry → ℕ → ℕ

@@ -1,5 +1,5 @@
 -- What a contract sees of a ticket book.
-use Rattle.std.specs.Prelude.{ℕ, Bool, ◌+◌, ◌==◌, ◌<◌, List, [], ◌∷◌, Option, Some, None, filter}
+use Rattle.std.specs.Prelude.{ℕ, ◌==◌, ◌<◌, min, List, [], ◌∷◌, Option, Some, None, filter}
 use Rattle.std.specs.Prelude.{find, not, nat_lt, if◌then◌else◌}
 use Rattle.std.specs.List.{AllByRecursion}
 use Rattle.std.specs.Option.{option_map}
@@ -13,14 +13,15 @@ pub record Entry : Type 0 where
   pub generation : ℕ
 
 -- the entries in the order of their tickets, the same beside the indexes at which they stand, how
--- many fit, whether the bound on a search leaves a comparison for a look before it, and how many
--- comparisons searches make: for a ticket below all, and beside each entry for its ticket and for
--- one between it and the next
+-- many fit, the index at which the next one goes in, the first ticket that may stand at another
+-- index than its own number, and how many comparisons searches make: for a ticket below all, and
+-- beside each entry for its ticket and for one between it and the next
 pub record Tickets : Type 0 where
   pub entries : List Entry
   pub standing : List (ℕ × Entry)
   pub capacity : ℕ
-  pub spares : Bool
+  pub next_index : ℕ
+  pub first_elsewhere : ℕ
   pub asked_below : ℕ
   pub asked_along : List (ℕ × ℕ)
 
@@ -38,25 +39,21 @@ asked_among below (e ∷ entries) (count ∷ counts) ticket =
 abbrev pub entry_at : Tickets → ℕ → Option Entry
 entry_at b i = option_map (λ (x : ℕ × Entry). x.1) (find (λ (x : ℕ × Entry). x.0 == i) b.standing)
 
--- the entry that is looked at before a search for a ticket: that at the index of the same number
-abbrev pub looked_at : Tickets → ℕ → Option Entry
-looked_at b ticket = if b.spares then entry_at b ticket else None
-
--- how many comparisons the look takes
+-- how many comparisons a look at an index takes: one with the entry that stands there
 abbrev pub look_count : Option Entry → ℕ
 look_count None = 0
 look_count (Some e) = 1
 
--- how many comparisons are made if this entry is looked at first, and so many by the search
-abbrev pub asked_from : Option Entry → ℕ → ℕ → ℕ
-asked_from None ticket search = search
-asked_from (Some e) ticket search = if e.ticket == ticket then 1 else search + 1
-
--- how many comparisons find the entry of a ticket
+-- how many comparisons find the entry of a ticket: below the first that may stand elsewhere, those
+-- of a look at the index of its own number, and else those of a search
 abbrev pub asked : Tickets → ℕ → ℕ
 asked b ticket =
-    asked_from (looked_at b ticket) ticket
-    (asked_among b.asked_below b.entries b.asked_along ticket)
+    if nat_lt ticket b.first_elsewhere then look_count (entry_at b ticket)
+    else asked_among b.asked_below b.entries b.asked_along ticket
+
+-- the first ticket that may stand elsewhere, once one more has gone in at this index
+abbrev pub elsewhere_after : ℕ → ℕ → ℕ → ℕ
+elsewhere_after first index ticket = if index == ticket then first else min first ticket
 
 -- the entry of a ticket
 abbrev pub lookup : List Entry → ℕ → Option Entry

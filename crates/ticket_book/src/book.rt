@@ -1,14 +1,18 @@
 //! The book of living tickets.
-ghost use Rattle.std.specs.Prelude.{◌≡◌, ◌≢◌, ℕ, ◌+◌, ◌<◌, ◌≤◌, ◌↔◌, ◌⊎◌, ◌++◌, [], ◌∷◌, length};
-ghost use Rattle.std.specs.Prelude.{map, Some, None, IsTrue, IsOk, IsErrOf, IfOk, IfSome, IfNone};
-ghost use Rattle.std.specs.Prelude.{IsSome, ⊤};
+ghost use Rattle.std.specs.Prelude.{◌≡◌, ◌≢◌, ℕ, ◌+◌, ◌-◌, ◌^◌, ◌<◌, ◌≤◌, ◌↔◌, ◌⊎◌, ◌++◌, []};
+ghost use Rattle.std.specs.Prelude.{◌∷◌, length, map, Some, None, IsTrue, IsOk, IsErrOf, IfOk};
+ghost use Rattle.std.specs.Prelude.{IfSome, IfNone, IsSome, ⊤};
 ghost use Rattle.std.specs.Option.{option_map};
 ghost use Rattle.rank_tree.specs.Comparisons.{most_comparisons};
 ghost use Rattle.ticket_book.specs.Mirrors.{numbers, renewed_entry};
+ghost use Rattle.ticket_book.specs.InArena.{entries_of};
 ghost use Rattle.ticket_book.specs.Tickets.{AreBelow, Entry as EntryView, asked, asked_among};
-ghost use Rattle.ticket_book.specs.Tickets.{entry_at, look_count, lookup, looked_at};
+ghost use Rattle.ticket_book.specs.Tickets.{elsewhere_after, entry_at, look_count, lookup};
 ghost use Rattle.ticket_book.specs.Tickets.{without_ticket};
 ghost use Rattle.triple_arena.specs.ArenaRoom.{room_of};
+ghost use Rattle.triple_arena.specs.Content.{arena_capacity};
+ghost use Rattle.triple_arena_ord.specs.Inserted.{IsAdded};
+ghost use Rattle.triple_arena_ord.specs.Ordered.{IsOrdered, size_in};
 ghost use Rattle.triple_arena_stack.specs.Room.{capacity as capacity_of, IsBeyond};
 
 use crate::entry::{Entry, Kind};
@@ -30,6 +34,8 @@ pub type TicketSlot<P> = ArenaSlot<P, LinkNoGen<P, SimpleOrdArenaNode<P, Entry<P
 #[derive(Drop)]
 pub struct TicketBook<P: PtrCore, S: OrdSlots<P, Entry<P>>> {
     pub(crate) arena: SimpleOrdArena<P, Entry<P>, S>,
+    // Each living ticket below this one stands at the index of its own number.
+    pub(crate) first_elsewhere: u64,
 }
 
 impl<P: PtrCore, S: OrdSlots<P, Entry<P>>> Model for TicketBook<P, S> {
@@ -37,21 +43,24 @@ impl<P: PtrCore, S: OrdSlots<P, Entry<P>>> Model for TicketBook<P, S> {
 
     ghost Value = { Tickets };
 
-    ghost use Rattle.ticket_book.specs.InArena.{entries_of, standing_in, spares_in, asked_in};
-    ghost use Rattle.ticket_book.specs.InArena.{asked_beside};
+    ghost use Rattle.ticket_book.specs.InArena.{entries_of, standing_in, asked_in, asked_beside};
+    ghost use Rattle.ticket_book.specs.InArena.{StandByNumber};
     ghost use Rattle.ticket_book.specs.Tickets.{TicketsRise};
-    ghost use Rattle.triple_arena.specs.Content.{arena_capacity};
+    ghost use Rattle.triple_arena.specs.Content.{arena_capacity, next_index as index_of_next};
+    ghost use Rattle.triple_arena_ord.specs.Ordered.{entry_in};
 
     ghost view = { λ b. record {
       entries = entries_of P.Inx.number b.arena;
       standing = standing_in P.Inx.number b.arena;
       capacity = arena_capacity b.arena.chains;
-      spares = spares_in P.Inx.number b.arena;
+      next_index = index_of_next b.arena.chains;
+      first_elsewhere = b.first_elsewhere;
       asked_below = asked_in P.Inx.number b.arena 0;
       asked_along = asked_beside P.Inx.number b.arena;
     } };
 
-    ghost invariant = { λ b. TicketsRise (entries_of P.Inx.number b.arena) };
+    ghost invariant = { λ b. TicketsRise (entries_of P.Inx.number b.arena)
+        × StandByNumber b.first_elsewhere (entry_in b.arena) };
 }
 
 // The index with this number, if the type has it.
@@ -62,6 +71,46 @@ fn index_of<I: PtrInxCore>(number: u64) -> Option<I>
     match NonZeroUsize::new(number as usize) {
         Some(number) => I::try_from_usize(number),
         None => None,
+    }
+}
+
+// The first ticket that may stand elsewhere, once one more has gone in at an index.
+fn elsewhere_after<I: PtrInxCore>(first: u64, at: I, ticket: u64) -> u64
+    ensures { result ≡ elsewhere_after first (I.number at) ticket }
+{
+    match at.try_into_usize() {
+        Some(number) => {
+            if number.get() as u64 == ticket {
+                first
+            } else {
+                first.min(ticket)
+            }
+        }
+        None => first.min(ticket),
+    }
+}
+
+// An entry more behind the last one, for which there is room.
+fn put_last<P: PtrCore, S: OrdSlots<P, Entry<P>>>(
+    arena: &mut SimpleOrdArena<P, Entry<P>, S>,
+    entry: Entry<P>,
+) -> P
+    requires { size_in arena.old < arena_capacity arena.old.chains }
+    ensures added { IsAdded P.Inx.number (P.index result) (P.generation result) entry
+        arena.old arena.new }
+    ensures entries { entries_of P.Inx.number arena.new
+        ≡ entries_of P.Inx.number arena.old ++ entry ∷ [] }
+    ensures room { arena.new.chains.room ≡ arena.old.chains.room }
+    ensures ordered { IsOrdered P.Inx.number arena.new }
+{
+    // The list is as it must be.
+    let _ = arena.len();
+    match arena.last() {
+        Some(last) => {
+            let behind = Some((last.inx(), Ordering::Greater));
+            arena.insert_inx_manual_within_capacity(behind, entry)
+        }
+        None => arena.insert_inx_manual_within_capacity(None, entry),
     }
 }
 
@@ -76,16 +125,19 @@ impl<P: PtrCore, S: OrdSlots<P, Entry<P>>> TicketBook<P, S> {
         ensures beyond { IsErrOf result ReallocationError.BeyondMaxCapacity
             ↔ IsBeyond (room_of P.Inx.greatest (S.room_at room)).limit room }
         ensures memory { IsErrOf result ReallocationError.AllocError → IsTrue S.takes_memory }
+        ensures by_number { IfOk result (λ book. book.first_elsewhere ≡ 2 ^ 64 - 1) }
     {
         Ok(TicketBook {
             arena: SimpleOrdArena::with_min_capacity(alloc, room)?,
+            first_elsewhere: u64::MAX,
         })
     }
 
-    /// Where the entry of a ticket stands. It looks at the entry at the index with the ticket's own
-    /// number, if the bound surely leaves a comparison for that. If it is not there, it makes one
-    /// search. Each comparison is a tick. The index serves [`entry`](TicketBook::entry) and
-    /// [`take`](TicketBook::take) until a ticket is added or taken out; a renewal leaves it.
+    /// Where the entry of a ticket stands. A ticket below the first that may stand elsewhere is
+    /// compared with the entry at the index of its own number, if one stands there, and with no
+    /// other; each other ticket is searched for. Each comparison is a tick. The index serves
+    /// [`entry`](TicketBook::entry) and [`take`](TicketBook::take) until a ticket is added or taken
+    /// out; a renewal leaves it.
     pub fn locate(&self, ticket: u64, probes: &mut Probes) -> Option<P::Inx>
         ensures found { IfSome result (λ at. (e : EntryView)
             × (entry_at self.now (P.Inx.number at) ≡ Some e)
@@ -94,65 +146,45 @@ impl<P: PtrCore, S: OrdSlots<P, Entry<P>>> TicketBook<P, S> {
         ensures ticks { probes.new ≡ probes.old + asked self.now ticket }
         ensures bound { asked self.now ticket ≤ most_comparisons (length self.now.entries) }
     {
-        match self.look(ticket, probes) {
-            Some(at) => Some(at),
-            None => self.search(ticket, probes),
+        if ticket < self.first_elsewhere {
+            self.look(ticket, probes)
+        } else {
+            self.search(ticket, probes)
         }
     }
 
-    // The entry that is looked at before a search, with its index, which has the ticket's own
-    // number.
-    fn looked_at(&self, ticket: u64) -> Option<(P::Inx, &Entry<P>)>
-        ensures entry { option_map (λ x. x.1.now) result ≡ looked_at self.now ticket }
-        ensures index { IfSome result (λ x. P.Inx.number x.0 ≡ ticket) }
-        ensures found { IfSome result (λ x. lookup self.now.entries x.1.now.ticket ≡ Some x.1.now) }
-        ensures spared { IsTrue self.now.spares
-            → asked_among self.now.asked_below self.now.entries self.now.asked_along ticket + 1
+    // The index with the ticket's own number, if the entry there has the ticket.
+    fn look(&self, ticket: u64, probes: &mut Probes) -> Option<P::Inx>
+        ensures found { IfSome result (λ at. (e : EntryView)
+            × (entry_at self.now (P.Inx.number at) ≡ Some e)
+            × (lookup self.now.entries ticket ≡ Some e)) }
+        ensures none { IfNone result
+            (ticket < self.now.first_elsewhere → lookup self.now.entries ticket ≡ None) }
+        ensures ticks { probes.new ≡ probes.old + look_count (entry_at self.now ticket) }
+        ensures bound { look_count (entry_at self.now ticket)
             ≤ most_comparisons (length self.now.entries) }
     {
         entries_stand_in_the_list::<P, Entry<P>>();
-        the_list_has_as_many_entries_as_are_live::<P, Entry<P>>();
         // The list is as it must be, and its indexes are within the capacity.
         let _ = self.arena.len();
         let _ = self.arena.capacity();
-        if !self.arena.spares_a_comparison() {
-            return None;
-        }
         match index_of::<P::Inx>(ticket) {
             Some(at) => match self.arena.get_inx(at) {
-                Some(found) => Some((at, found.1)),
+                Some(found) => {
+                    probes.tick();
+                    if found.1.ticket() == ticket {
+                        Some(at)
+                    } else {
+                        None
+                    }
+                }
                 None => None,
             },
             None => None,
         }
     }
 
-    // The index with the ticket's own number, if the entry there is looked at and has the ticket.
-    fn look(&self, ticket: u64, probes: &mut Probes) -> Option<P::Inx>
-        ensures found { IfSome result (λ at. (e : EntryView)
-            × (entry_at self.now (P.Inx.number at) ≡ Some e)
-            × (lookup self.now.entries ticket ≡ Some e)) }
-        ensures told { IsSome result
-            ↔ (option_map (λ (e : EntryView). e.ticket) (looked_at self.now ticket) ≡ Some ticket) }
-        ensures ticks { probes.new ≡ probes.old + look_count (looked_at self.now ticket) }
-        ensures spared { IsTrue self.now.spares
-            → asked_among self.now.asked_below self.now.entries self.now.asked_along ticket + 1
-            ≤ most_comparisons (length self.now.entries) }
-    {
-        match self.looked_at(ticket) {
-            Some(looked) => {
-                probes.tick();
-                if looked.1.ticket() == ticket {
-                    Some(looked.0)
-                } else {
-                    None
-                }
-            }
-            None => None,
-        }
-    }
-
-    // As `locate`, by a search alone.
+    // Where the entry of a ticket stands, by a search.
     fn search(&self, ticket: u64, probes: &mut Probes) -> Option<P::Inx>
         ensures found { IfSome result (λ at. (e : EntryView)
             × (entry_at self.now (P.Inx.number at) ≡ Some e)
@@ -201,10 +233,17 @@ impl<P: PtrCore, S: OrdSlots<P, Entry<P>>> TicketBook<P, S> {
         }
     }
 
-    /// A ticket above all others. It is compared with none.
+    /// A ticket above all others. It is compared with none, and its entry stands at the next index.
     pub fn add(&mut self, ticket: u64, kind: Kind, at: P)
         requires above { AreBelow self.old.entries ticket }
         requires room { length self.old.entries < self.old.capacity }
+        ensures stands { entry_at self.new self.old.next_index ≡ Some (record {
+          ticket = ticket;
+          kind = kind;
+          index = P.index at;
+          generation
+              = P.generation at;
+        }) }
         ensures stay { (i : ℕ) (e : EntryView) → entry_at self.old i ≡ Some e
             → entry_at self.new i ≡ Some e }
         ensures entries { self.new.entries ≡ self.old.entries ++ record {
@@ -215,21 +254,16 @@ impl<P: PtrCore, S: OrdSlots<P, Entry<P>>> TicketBook<P, S> {
               = P.generation at;
         } ∷ [] }
         ensures capacity { self.new.capacity ≡ self.old.capacity }
+        ensures elsewhere { self.new.first_elsewhere
+            ≡ elsewhere_after self.old.first_elsewhere self.old.next_index ticket }
     {
         entries_stand_in_the_list::<P, Entry<P>>();
         the_list_has_as_many_entries_as_are_live::<P, Entry<P>>();
         // The list is as it must be.
         let _ = self.arena.len();
         let entry = Entry::new(ticket, kind, at);
-        match self.arena.last() {
-            Some(last) => {
-                let behind = Some((last.inx(), Ordering::Greater));
-                self.arena.insert_inx_manual_within_capacity(behind, entry);
-            }
-            None => {
-                self.arena.insert_inx_manual_within_capacity(None, entry);
-            }
-        }
+        let p = put_last(&mut self.arena, entry);
+        self.first_elsewhere = elsewhere_after(self.first_elsewhere, p.inx(), ticket);
     }
 
     /// Takes out the entry at an index that `locate` gave, with its ticket. No ticket is compared.
@@ -242,6 +276,7 @@ impl<P: PtrCore, S: OrdSlots<P, Entry<P>>> TicketBook<P, S> {
         ensures stay { (i : ℕ) → i ≢ P.Inx.number at
             → entry_at self.new i ≡ entry_at self.old i }
         ensures capacity { self.new.capacity ≡ self.old.capacity }
+        ensures elsewhere { self.new.first_elsewhere ≡ self.old.first_elsewhere }
     {
         entries_stand_in_the_list::<P, Entry<P>>();
         // The list is as it must be.
@@ -269,6 +304,7 @@ impl<P: PtrCore, S: OrdSlots<P, Entry<P>>> TicketBook<P, S> {
             (numbers P.index P.generation (N.entry_at stops.now))
             (numbers P.index P.generation (O.entry_at marks.now))) (entry_at self.old i) }
         ensures capacity { self.new.capacity ≡ self.old.capacity }
+        ensures elsewhere { self.new.first_elsewhere ≡ self.old.first_elsewhere }
     {
         entries_stand_in_the_list::<P, Entry<P>>();
         // The list is as it must be, before and after.

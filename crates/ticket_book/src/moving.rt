@@ -37,6 +37,7 @@ impl<P: PtrCore, S: OrdSlots<P, Entry<P>>> TicketBook<P, S> {
             ≡ map (entry_over (max_index_of P.Inx.greatest) (second_generation P.Gen.last))
             source.entries }
         ensures capacity { self.new.capacity ≡ self.old.capacity }
+        ensures elsewhere { self.new.first_elsewhere ≡ 0 }
     {
         canonical_transfers_list_by_index::<P, Entry<P>>();
         the_list_has_as_many_entries_as_are_live::<Q, Entry<Q>>();
@@ -50,7 +51,8 @@ impl<P: PtrCore, S: OrdSlots<P, Entry<P>>> TicketBook<P, S> {
             |_, entry, _| entry.allow().over(to),
         );
         match taken {
-            Ok(()) => {}
+            // Each is searched for from now on, since the entries have the first indexes.
+            Ok(()) => self.first_elsewhere = 0,
             Err(_) => unreached!(),
         }
     }

@@ -5,7 +5,6 @@ pub mod NameLemmas
 pub mod LiveLemmas
 pub mod SortedLemmas
 pub mod SeekLemmas
-mod SparedLemmas
 pub mod GapLemmas
 pub mod NearLemmas
 pub mod WalkLemmas
@@ -28,10 +27,12 @@ pub mod AscendingLemmas
 pub mod AlongLemmas
 pub mod UprootingLemmas
 pub mod SuccessorLemmas
+pub mod MovedUpLemmas
 pub mod LostEnds
 pub mod LawLemmas
 pub mod OrderedWalkLemmas
 pub mod OrderedDrainLemmas
+pub mod BoundLemmas
 pub mod IndexedLemmas
 pub mod RebuildLemmas
 pub mod RebuildRunLemmas

@@ -1,6 +1,6 @@
 -- The first entry of the list leaves.
 use Rattle.std.proofs.Common.{◌≡◌, ℕ, suc, List, [], ◌∷◌, ◌++◌, length, Option, Some, None, IsSome}
-use Rattle.std.proofs.Common.{Bool, refl, sym, ap, subst, ◌∙◌, arith}
+use Rattle.std.proofs.Common.{append-nil, Bool, refl, sym, ap, subst, ◌∙◌, arith}
 use Rattle.std.specs.Option.{option_map}
 use Rattle.std.proofs.lemmas.Bool.{ne_eqb}
 use Rattle.triple_arena_ptr.specs.Generation.{next_generation, next_wraps}
@@ -9,19 +9,29 @@ use Rattle.triple_arena_ptr.specs.declared.invalidation.InvalidationOption.{Inva
 use Rattle.triple_arena.specs.Drains.{removals}
 use Rattle.triple_arena.specs.DrainLaws.{removals-length}
 use Rattle.triple_arena.specs.Entries.{without}
-use Rattle.triple_arena_chain.specs.Chains.{Off, On, Apart, first_or}
+use Rattle.triple_arena_chain.specs.Chains.{Off, On, Apart, first_or, last_or}
 use Rattle.triple_arena_chain.specs.ChainLaws.{Off-not_on, On-cons}
-use Rattle.triple_arena_chain.specs.ListLaws.{On-first}
+use Rattle.triple_arena_chain.specs.ListLaws.{Apart-split, On-first}
 use Rattle.triple_arena_chain.specs.Links.{ends_in}
 use Rattle.triple_arena_chain.specs.UniquenessLaws.{linear_apart}
 use Rattle.triple_arena_ord.specs.Ordered.{Ordered, IsOrdered, order_in, entry_in, size_in}
 use Rattle.triple_arena_ord.specs.Ordered.{counter_in, ordered_entries, entries_at}
-use Rattle.triple_arena_ord.specs.OrderedDrains.{emptied_after, IsFirstTaken, TakesFirst}
+use Rattle.triple_arena_ord.specs.OrderedDrains.{emptied_after, IsTaken, IsFirstTaken, IsLastTaken}
+use Rattle.triple_arena_ord.specs.OrderedDrains.{TakesFirst}
 use Rattle.triple_arena_ord.specs.OrderedDrains.{drain_arena, drain_lender, drain_rest, IsOn}
 use Rattle.triple_arena_ord.specs.OrderedDrains.{DrainSteps, DrainKeepsAlong}
 use Rattle.triple_arena_ord.specs.Removal.{Loses, IsEntryRemoved}
 use Rattle.triple_arena_ord.specs.declared.ord_arena.drain.OrderedDrain.{OrderedDrain}
+use Rattle.triple_arena_ord.proofs.InsertLemmas.{split_same}
 use Rattle.triple_arena_ord.proofs.OrderedWalkLemmas.{listed_first, on_lives}
+
+-- the last of a list, and what is before it
+last_split : (w : List ℕ) (h : ℕ) → last_or None w ≡ Some h
+    → (front : List ℕ) × (w ≡ front ++ h ∷ [])
+last_split [] h e = absurd (cc)
+last_split (x ∷ []) h e = let same : x ≡ h = cc in ([], ap (λ y. y ∷ []) same)
+last_split (x ∷ y ∷ w) h e =
+    let rest = last_split (y ∷ w) h e in (x ∷ rest.0, ap (λ l. x ∷ l) rest.1)
 
 module _ {I T : Type 0} where
   -- an index that is not listed can go
@@ -76,42 +86,73 @@ module _ {I T : Type 0} where
       nil [] h = refl
       nil (x ∷ w) h = absurd (cc)
 
-  module _ {P G : Type 0} (stamp : G → ℕ) (number : I → ℕ) (last : Option ℕ)
-      (index generation : P → ℕ) where
-    -- a removal that is given as an item
-    pub taken_by : (o p : Ordered I T) (h : ℕ) (r : Option (InvalidationOption (G × T))) (q : P)
-        (gen : G) (t : T) (wrapped : Bool)
-        (item : InvalidationOption (P × T))
-        → IsOrdered number o → first_or (order_in number o) None ≡ Some h → index q ≡ h
-        → generation q ≡ stamp gen
-        → value_of item ≡ (q, t) → overflowed item ≡ wrapped
-        → (let u : Option ((G × T) × Bool) = Some ((gen, t), wrapped) in u)
-        ≡ option_map (λ a. (let v : (G × T) × Bool = (value_of a, overflowed a) in v)) r
-        → option_map (λ b. (stamp (value_of b).0, (value_of b).1)) r ≡ entry_in o h
-        → option_map overflowed r ≡ Some (next_wraps last o.chains.counter)
-        → IsEntryRemoved number last h o p
+  pub listed-append : (o : Ordered I T) (v w : List ℕ)
+      → entries_at o (v ++ w) ≡ entries_at o v ++ entries_at o w
+  listed-append o [] w = refl
+  listed-append o (x ∷ v) w = by (entry_in o x) refl (listed-append o v w)
+    where
+      by : (e : Option (ℕ × T)) → entry_in o x ≡ e
+          → entries_at o (v ++ w) ≡ entries_at o v ++ entries_at o w
+          → entries_at o (x ∷ (v ++ w)) ≡ entries_at o (x ∷ v) ++ entries_at o w
+      by None is rest = rw is rest
+      by (Some e) is rest = rw is (ap (λ l. (x, e) ∷ l) rest)
+
+  -- nothing is listed where there is no last
+  pub none_last : (number : I → ℕ) (o : Ordered I T) → last_or None (order_in number o) ≡ None
+      → ordered_entries number o ≡ []
+  none_last number o none = ap (entries_at o) (nil (order_in number o) none)
+    where
+      some : (x : ℕ) (w : List ℕ) → last_or (Some x) w ≡ None → ⊥
+      some x [] e = cc
+      some x (y ∷ w) e = some y w e
+
+      nil : (w : List ℕ) → last_or None w ≡ None → w ≡ []
+      nil [] e = refl
+      nil (x ∷ w) e = absurd (some x w e)
+
+  module _ (number : I → ℕ) (o p : Ordered I T) (is : IsOrdered number o) (h : ℕ) where
+    -- the entries are listed without the last
+    last_gone : (last : Option ℕ) (entry : ℕ × T) → last_or None (order_in number o) ≡ Some h
+        → entry_in o h ≡ Some entry → IsEntryRemoved number last h o p
+        → ordered_entries number o ≡ ordered_entries number p ++ (h, entry) ∷ []
+    last_gone last entry ends at removed =
+        let lost = removed.order in
+        let split = last_split (order_in number o) h ends in
+        let apart = linear_apart (ends_in number o.chains) None (order_in number o) is.linear in
+        let same = split_same lost.before h lost.after split.0 [] (subst Apart lost.was apart)
+        (sym lost.was ∙ split.1) in
+        let off = (Apart-split split.0 [] h (subst Apart split.1 apart)).0 in
+        let now : order_in number p ≡ split.0 =
+        lost.is ∙ ap (λ l. l ++ lost.after) same.0 ∙ ap (λ l. split.0 ++ l) same.1
+        ∙ append-nil split.0 in
+        ap (entries_at o) split.1 ∙ listed-append o split.0 (h ∷ [])
+        ∙ ap (λ l. entries_at o split.0 ++ l) (listed_first o h entry [] at)
+        ∙ ap (λ l. l ++ (h, entry) ∷ []) (sym (listed_other o p h removed.entries split.0 off))
+        ∙ ap (λ l. entries_at p l ++ (h, entry) ∷ []) (sym now)
+
+  module _ {P : Type 0} (number : I → ℕ) (last : Option ℕ) (index generation : P → ℕ)
+      (o p : Ordered I T) (h : ℕ) (item : InvalidationOption (P × T)) (is : IsOrdered number o)
+      (taken : IsTaken number last index generation h item o p) where
+    -- a removal at an end of the list
+    pub first_taken : first_or (order_in number o) None ≡ Some h
         → IsFirstTaken number last index generation item o p
-    taken_by o p h None q gen t wrapped item is first at_h is_gen value wraps told entry overflow
-        removed =
-        absurd (let never : (let u : Option ((G × T) × Bool) = Some ((gen, t), wrapped) in u)
-        ≡ None = told in cc)
-    taken_by o p h (Some a) q gen t wrapped item is first at_h is_gen value wraps told entry
-        overflow removed =
-        let b : (G × T) × Bool = ((gen, t), wrapped) in
-        let c : (G × T) × Bool = (value_of a, overflowed a) in
-        let given : b ≡ c = cc in
-        let found : entry_in o h ≡ Some (stamp gen, t) = sym entry
-        ∙ ap (λ v. Some (stamp v.0.0, v.0.1)) (sym given) in
-        let over : overflowed a ≡ next_wraps last o.chains.counter = cc in
-        let here : index (value_of item).0 ≡ h = ap (λ v. index v.0) value ∙ at_h in
-        record {
-          first = first_gone number o p is h last (stamp gen, t) first found removed
-              ∙ ap (λ n. (n, (stamp gen, t)) ∷ ordered_entries number p) (sym at_h)
-              ∙ ap (λ n. (index q, (n, t)) ∷ ordered_entries number p) (sym is_gen)
-              ∙ ap (λ v. (index v.0, (generation v.0, v.1)) ∷ ordered_entries number p) (sym value);
-          overflow = wraps ∙ ap (λ v. v.1) given ∙ over;
-          removed = subst (λ k. IsEntryRemoved number last k o p) (sym here) removed;
-        }
+    first_taken first = record {
+      first = first_gone number o p is h last _ first taken.was taken.removed
+          ∙ ap (λ n. (n, (generation (value_of item).0, (value_of item).1))
+          ∷ ordered_entries number p) (sym taken.at);
+      overflow = taken.overflow;
+      removed = subst (λ k. IsEntryRemoved number last k o p) (sym taken.at) taken.removed;
+    }
+
+    pub last_taken : last_or None (order_in number o) ≡ Some h
+        → IsLastTaken number last index generation item o p
+    last_taken ends = record {
+      at_end = last_gone number o p is h last _ ends taken.was taken.removed
+          ∙ ap (λ n. ordered_entries number p
+          ++ (n, (generation (value_of item).0, (value_of item).1)) ∷ []) (sym taken.at);
+      overflow = taken.overflow;
+      removed = subst (λ k. IsEntryRemoved number last k o p) (sym taken.at) taken.removed;
+    }
 
 -- what is left in the end
 emptied_next : {I T : Type 0} (number : I → ℕ) (last : Option ℕ) (n h : ℕ) (o p : Ordered I T)

@@ -258,6 +258,11 @@ module _ {I T : Type 0} (number : I → ℕ) (o : Ordered I T) (is : IsOrdered n
       counted-lives (knots_in number o.chains) None (tree_in number o) is.whole.stands.1 i
       (walk-counted (tree_in number o) i (first_on w i at))
 
+  pub last_knot : (i : ℕ) → last_or None w ≡ Some i → IsSome (knots_in number o.chains i)
+  last_knot i at =
+      counted-lives (knots_in number o.chains) None (tree_in number o) is.whole.stands.1 i
+      (walk-counted (tree_in number o) i (last_on_list e w i at))
+
   pub last_lives : (i : ℕ) → last_or None w ≡ Some i → IsSome (entry_in o i)
   last_lives i at = on_lives i (last_on_list e w i at)
 

@@ -1,7 +1,7 @@
 -- An entry leaves the tree, and then the list.
 use Rattle.std.proofs.Common.{◌≡◌, ◌≢◌, ◌==◌, ℕ, ◌+◌, ◌-◌, ◌^◌, ◌<◌, List, [], ◌∷◌, ◌++◌, length}
-use Rattle.std.proofs.Common.{append_assoc, length-append, Option, Some, None, IsSome, IfSome}
-use Rattle.std.proofs.Common.{OnSome, Bool, true, false, if◌then◌else◌, refl, sym, ap, ◌∙◌, subst}
+use Rattle.std.proofs.Common.{append_assoc, length-append, Option, Some, None, IsSome}
+use Rattle.std.proofs.Common.{Bool, true, false, if◌then◌else◌, refl, sym, ap, ◌∙◌, subst}
 use Rattle.std.proofs.Common.{arith, inl, inr}
 use Rattle.std.specs.Option.{option_map}
 use Rattle.std.proofs.lemmas.Bool.{cases_eq, eq-eqb, ne_eqb}
@@ -36,15 +36,6 @@ mapped_lives f (Some a) e = refl
 not_none : {A : Type 0} (o : Option A) → o ≡ None → IsSome o → ⊥
 not_none None e s = absurd (cc)
 not_none (Some x) e s = absurd (cc)
-
-pub mapped_if : {A B : Type 0} (f : A → B) (o : Option A) (b : B) → IsSome o
-    → IfSome o (λ a. f a ≡ b) → option_map f o ≡ Some b
-mapped_if f None b s e = absurd (cc)
-mapped_if f (Some a) b s e = ap Some e
-
-pub on_some : {A : Type 0} (a : Option A) (Q : Type 0) → IsSome a → OnSome a Q → Q
-on_some None Q s q = absurd (cc)
-on_some (Some x) Q s q = q
 
 module _ {I T : Type 0} (number : I → ℕ) where
   -- a node without a right child, and the list round it
@@ -117,22 +108,13 @@ module _ {I T : Type 0} (number : I → ℕ) where
       mapped_lives valued (entry_at c1 h)
       (mapped_lives (λ e. knot_of number e.1) (values_in c1 h) (same.stays h lives))
 
-  pub answered : {A : Type 0} (a : Option A) (f : A → ℕ × IndexLink I (IndexNode I T))
-      (e : Option (ℕ × IndexLink I (IndexNode I T))) → option_map f a ≡ e → IsSome e → IsSome a
-  answered a f e is s = mapped_lives f a (subst IsSome (sym is) s)
-
-  pub answer_item : {A : Type 0} (a : Option A) (f : A → ℕ × IndexLink I (IndexNode I T))
-      (o : Ordered I T) (c1 : Content (IndexLink I (IndexNode I T))) (h : ℕ)
-      → rest c1 ≡ rest o.chains → option_map f a ≡ entry_at c1 h
-      → option_map (λ x. ((f x).0, (f x).1.t.t)) a ≡ items_in o.chains h
-  answer_item {A = A} a f o c1 h keeps is = by a
-      ∙ ap (option_map itemed) (ap (option_map valued) is)
+  pub item_taken : (entry : ℕ × IndexLink I (IndexNode I T)) (o : Ordered I T)
+      (c1 : Content (IndexLink I (IndexNode I T))) (h : ℕ)
+      → rest c1 ≡ rest o.chains → Some entry ≡ entry_at c1 h
+      → Some (entry.0, entry.1.t.t) ≡ items_in o.chains h
+  item_taken entry o c1 h keeps is =
+      ap (option_map itemed) (ap (option_map valued) is)
       ∙ (rested number o.chains c1 keeps).items h
-    where
-      by : (a : Option A) → option_map (λ x. ((f x).0, (f x).1.t.t)) a
-          ≡ option_map itemed (option_map valued (option_map f a))
-      by None = refl
-      by (Some a) = refl
 
   module _ (o : Ordered I T) (is : IsOrdered number o) (h : ℕ) (last : Option ℕ)
       (c1 c2 : Content (IndexLink I (IndexNode I T))) (root1 : Option ℕ)

@@ -13,7 +13,7 @@ pub mod InsertEntry
 pub mod Growth
 pub mod Removal
 pub mod Found
-pub mod Spared
+pub mod Bounds
 pub mod Asked
 pub mod Near
 pub mod AskedLaws

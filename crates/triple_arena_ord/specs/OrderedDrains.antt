@@ -1,5 +1,5 @@
 -- What a drain along the list gives, and what it leaves.
-use Rattle.std.specs.Prelude.{◌≡◌, ℕ, suc, Bool, List, [], ◌∷◌, length, Option, Some, None}
+use Rattle.std.specs.Prelude.{◌≡◌, ℕ, suc, Bool, List, [], ◌∷◌, ◌++◌, length, Option, Some, None}
 use Rattle.std.specs.Borrow.{GName}
 use Rattle.std.specs.Fn.{iterate}
 use Rattle.std.specs.Iterator.{YieldsFirstBy, Yields}
@@ -8,7 +8,7 @@ use Rattle.triple_arena_ptr.specs.InvalidationOption.{value_of, overflowed}
 use Rattle.triple_arena_ptr.specs.declared.invalidation.InvalidationOption.{InvalidationOption}
 use Rattle.triple_arena.specs.Content.{emptied, with_counter}
 use Rattle.triple_arena.specs.Drains.{removals, removal_of}
-use Rattle.triple_arena_ord.specs.Ordered.{Ordered, counter_in, ordered_entries}
+use Rattle.triple_arena_ord.specs.Ordered.{Ordered, counter_in, entry_in, ordered_entries}
 use Rattle.triple_arena_ord.specs.Removal.{IsEntryRemoved}
 use Rattle.triple_arena_ord.specs.declared.ord_arena.drain.OrderedDrain.{OrderedDrain}
 
@@ -25,8 +25,16 @@ steps_made None = 0
 steps_made (Some item) = 1
 
 module _ {P I T : Type 0} (number : I → ℕ) (last : Option ℕ) (index generation : P → ℕ) where
-  -- an item is the removal of the first entry of the list, and whether its step started the
-  -- generations again
+  -- an item is the removal of the entry at an index, and whether its step started the generations
+  -- again
+  pub record IsTaken (h : ℕ) (item : InvalidationOption (P × T)) (old new : Ordered I T)
+      : Type 0 where
+    pub at : index (value_of item).0 ≡ h
+    pub was : entry_in old h ≡ Some (generation (value_of item).0, (value_of item).1)
+    pub overflow : overflowed item ≡ next_wraps last old.chains.counter
+    pub removed : IsEntryRemoved number last h old new
+
+  -- that of the first entry of the list
   pub record IsFirstTaken (item : InvalidationOption (P × T)) (old new : Ordered I T) : Type 0 where
     pub first : ordered_entries number old
         ≡ (index (value_of item).0, (generation (value_of item).0, (value_of item).1))
@@ -38,6 +46,18 @@ module _ {P I T : Type 0} (number : I → ℕ) (last : Option ℕ) (index genera
   abbrev pub TakesFirst : Option (InvalidationOption (P × T)) → Ordered I T → Ordered I T → Type 0
   TakesFirst None old new = (ordered_entries number old ≡ []) × (new ≡ old)
   TakesFirst (Some item) old new = IsFirstTaken item old new
+
+  -- that of the last one
+  pub record IsLastTaken (item : InvalidationOption (P × T)) (old new : Ordered I T) : Type 0 where
+    pub at_end : ordered_entries number old ≡ ordered_entries number new
+        ++ (index (value_of item).0, (generation (value_of item).0, (value_of item).1)) ∷ []
+    pub overflow : overflowed item ≡ next_wraps last old.chains.counter
+    pub removed : IsEntryRemoved number last (index (value_of item).0) old new
+
+  -- the last entry left, if there was one
+  abbrev pub TakesLast : Option (InvalidationOption (P × T)) → Ordered I T → Ordered I T → Type 0
+  TakesLast None old new = (ordered_entries number old ≡ []) × (new ≡ old)
+  TakesLast (Some item) old new = IsLastTaken item old new
 
 module _ {P T S Inx Gen Word Alloc : Type 0} where
   -- the arena as the drain has it

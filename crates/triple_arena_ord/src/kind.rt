@@ -15,11 +15,13 @@ pub enum InsertKind<I, K> {
     Normal(K),
     /// Directly before the entry with an equal key that is found; else where the key belongs.
     Nonhereditary(K),
-    /// As `Normal`, with a search that goes along the list from `p_init` for at most `num`
-    /// comparisons first. If it ends within them, the item goes where it ends.
+    /// In the place of the entry with an equal key, which it replaces; else where the key belongs.
+    /// The search goes along the list from `p_init` for at most `num` comparisons first. If it ends
+    /// within them, the item goes where it ends.
     Linear { p_init: I, num: usize, k: K },
-    /// As `Nonhereditary`, with a search that goes along the list from `p_init` for at most `num`
-    /// comparisons first. If it ends within them, the item goes where it ends.
+    /// Directly before the entry with an equal key that is found; else where the key belongs. The
+    /// search goes along the list from `p_init` for at most `num` comparisons first. If it ends
+    /// within them, the item goes where it ends.
     NonhereditaryLinear { p_init: I, num: usize, k: K },
     /// At an entry, whatever the keys are: `Equal` replaces it, `Less` puts the item directly
     /// before it, `Greater` directly after it.

@@ -49,13 +49,9 @@ pub(crate) fn insert_leaf<P: PtrCore, T: Drop, S: OrdSlots<P, T>>(
     let _capacity = chains.capacity();
     let (prev, next) = gap_beside(chains, *root, holder, side);
     let node: SimpleOrdArenaNode<P, T> = IndexNode::under(Some(holder), t);
-    match chains.insert_in_gap_within_capacity(prev, next, node) {
-        Ok(p) => {
-            bring_in(chains, root, holder, side, p.inx());
-            p
-        }
-        Err(_) => unreached!(),
-    }
+    let p = chains.insert_in_gap_unwrap(prev, next, node);
+    bring_in(chains, root, holder, side, p.inx());
+    p
 }
 
 // The neighbors of one more link directly before or after that of `holder`.

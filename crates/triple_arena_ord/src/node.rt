@@ -9,13 +9,14 @@ use triple_arena_ptr::OptionalInx;
 /// child, each of the type `O`, an [`OptionalInx`], and the rank.
 #[derive(Clone, Drop)]
 pub struct IndexNode<O, T> {
+    // What a repair reads stands together, and so does what a search reads.
+    pub(crate) p_back: O,
+    /// The rank: 1 for a node without children.
+    pub rank: u8,
     pub(crate) p_tree0: O,
     pub(crate) p_tree1: O,
     /// The item.
     pub t: T,
-    pub(crate) p_back: O,
-    /// The rank: 1 for a node without children.
-    pub rank: u8,
 }
 
 /// An item with its place in the tree, by the indexes of a pointer type.
@@ -28,14 +29,14 @@ impl<I: PtrInxCore<Word = W>, W: Copy, T> IndexNode<OptionalInx<I, W>, T> {
     // A node without children, under this parent if there is one.
     pub(crate) fn under(parent: Option<I>, t: T) -> Self
         ensures { result
-            ≡ record { p_tree0 = None; p_tree1 = None; t = t; p_back = parent; rank = 1 } }
+            ≡ record { p_back = parent; rank = 1; p_tree0 = None; p_tree1 = None; t = t } }
     {
         IndexNode {
+            p_back: OptionalInx::of(parent),
+            rank: 1,
             p_tree0: OptionalInx::none(),
             p_tree1: OptionalInx::none(),
             t,
-            p_back: OptionalInx::of(parent),
-            rank: 1,
         }
     }
 

@@ -29,6 +29,7 @@ mod link_moves;
 mod mapping;
 mod max_capacity;
 mod nodes;
+mod pops;
 mod recast;
 mod removal;
 mod search;

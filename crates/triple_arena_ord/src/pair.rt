@@ -85,7 +85,7 @@ impl<K: Ord, V> SimpleOrdItem for OrdPair<K, V> {
     }
 }
 
-/// As that of a tuple: `(5, "five")`.
+/// Writes the key and the value as a tuple is written: `(5, "five")`.
 impl<K: fmt::Debug, V: fmt::Debug> fmt::Debug for OrdPair<K, V> {
     ghost debug_output = { pair_text K.debug_output V.debug_output };
 

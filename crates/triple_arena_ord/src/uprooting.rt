@@ -1,9 +1,7 @@
 //! An entry leaves the tree, and then the list.
-ghost use Rattle.std.specs.Prelude.{◌≡◌, ℕ, length, Some, None, IsSome, IfSome};
+ghost use Rattle.std.specs.Prelude.{◌≡◌, ℕ, length, Some, None, IsSome};
 ghost use Rattle.std.specs.Option.{option_map};
 ghost use Rattle.triple_arena_ptr.specs.Generation.{next_generation, next_wraps};
-ghost use Rattle.triple_arena_ptr.specs.InvalidationOption.{value_of, overflowed};
-ghost use Rattle.triple_arena_ptr.specs.InvalidationResult.{answer_of};
 ghost use Rattle.triple_arena.specs.Content.{removed};
 ghost use Rattle.triple_arena.specs.Entries.{without};
 ghost use Rattle.triple_arena_chain.specs.Chains.{next_at};
@@ -14,9 +12,20 @@ ghost use Rattle.triple_arena_ord.specs.Removal.{Loses, IsUprooted};
 
 use crate::{OrdSlots, SimpleOrdArenaNode};
 use rank_tree::{Knots, bring_out, replace};
-use triple_arena::{ArenaTrait, InvalidationResult, PtrCore};
-use triple_arena_chain::{ChainArena, ChainArenaTrait, LinkNoGen};
-use unreached::unreached;
+use triple_arena::{ArenaTrait, PtrCore, PtrInxCore};
+use triple_arena_chain::ChainArena;
+
+// What takes the place of a node that has this right child: the next one, or none if it has no
+// right child.
+fn moved_up<I: PtrInxCore>(right: Option<I>, next: Option<I>) -> Option<I>
+    ensures none { right ≡ None → result ≡ None }
+    ensures some { IsSome right → result ≡ next }
+{
+    match right {
+        Some(_) => next,
+        None => None,
+    }
+}
 
 // A node leaves the tree, and its link stays. If it has a right child, the next one, which has no
 // left child, takes its place.
@@ -39,25 +48,25 @@ fn uproot<P: PtrCore, T: Drop, S: OrdSlots<P, T>>(
 {
     let _count = chains.len();
     let knot = chains.read(gone);
-    match knot.right {
-        None => bring_out(chains, root, gone),
-        Some(_) => {
-            let Some(successor) = next else { unreached!() };
-            bring_out(chains, root, successor);
-            replace(chains, root, gone, successor);
-        }
+    let moved = moved_up(knot.right, next);
+    // There is one call of it, so that it is inlined.
+    let out = moved.unwrap_or(gone);
+    bring_out(chains, root, out);
+    match moved {
+        Some(successor) => replace(chains, root, gone, successor),
+        None => {}
     }
 }
 
-// The entry at an index, which has this one after it, leaves the tree and the list. Its link is
-// given back: inlined, it is not copied on the way.
+// The entry at an index, which has this one after it, leaves the tree and the list. Its generation
+// and its item are given back, and whether the generations started again.
 #[inline(always)]
 pub(crate) fn take_entry<P: PtrCore, T: Drop, S: OrdSlots<P, T>>(
     chains: &mut ChainArena<P, SimpleOrdArenaNode<P, T>, S>,
     root: &mut Option<P::Inx>,
     gone: P::Inx,
     next: Option<P::Inx>,
-) -> InvalidationResult<(P::Gen, LinkNoGen<P, SimpleOrdArenaNode<P, T>>)>
+) -> ((P::Gen, T), bool)
     requires ordered { IsOrdered P.Inx.number
         (record { chains = chains.old; root = option_map P.Inx.number root.old }) }
     requires lives { IsSome (knots_in P.Inx.number chains.old (P.Inx.number gone)) }
@@ -73,11 +82,9 @@ pub(crate) fn take_entry<P: PtrCore, T: Drop, S: OrdSlots<P, T>>(
         (P.Inx.number gone) }
     ensures entries { (k : ℕ)
         → items_in chains.new k ≡ without (items_in chains.old) (P.Inx.number gone) k }
-    ensures some { IsSome (answer_of result) }
-    ensures value { option_map (λ a. (P.Gen.number (value_of a).0, (value_of a).1.t.t))
-        (answer_of result) ≡ items_in chains.old (P.Inx.number gone) }
-    ensures overflow { IfSome (answer_of result)
-        (λ a. overflowed a ≡ next_wraps P.Gen.last chains.old.counter) }
+    ensures value { Some (P.Gen.number result.0.0, result.0.1)
+        ≡ items_in chains.old (P.Inx.number gone) }
+    ensures overflow { result.1 ≡ next_wraps P.Gen.last chains.old.counter }
     ensures counter { chains.new.counter ≡ next_generation P.Gen.last chains.old.counter }
     ensures free { chains.new.free ≡ (removed P.Gen.last chains.old (P.Inx.number gone)).free }
     ensures slots { length chains.new.slots
@@ -85,5 +92,6 @@ pub(crate) fn take_entry<P: PtrCore, T: Drop, S: OrdSlots<P, T>>(
     ensures room { chains.new.room ≡ chains.old.room }
 {
     uproot(chains, root, gone, next);
-    chains.remove_inx_link_no_gen(gone)
+    let ((generation, link), wrapped) = chains.take_inx_link_unwrap(gone);
+    ((generation, link.t.t), wrapped)
 }

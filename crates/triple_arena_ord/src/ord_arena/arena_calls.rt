@@ -181,9 +181,13 @@ impl<P: PtrCore, T: Drop, S: OrdSlots<P, T>> ArenaTrait<P, T> for SimpleOrdArena
             return InvalidationResult::InvalidPtr;
         };
         let (prev, next) = (link.prev(), link.next());
-        let taken = self.remove_live(i, prev, next);
+        let (entry, wrapped) = self.remove_live(i, prev, next);
         self.recall_formed();
-        taken
+        if wrapped {
+            InvalidationResult::GenerationOverflow(entry)
+        } else {
+            InvalidationResult::Success(entry)
+        }
     }
 
     fn invalidate(&mut self, p: P) -> InvalidationResult<P> {

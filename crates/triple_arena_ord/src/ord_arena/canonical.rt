@@ -115,7 +115,8 @@ impl<P: PtrCore, T: Drop, S: OrdSlots<P, T>> SimpleOrdArena<P, T, S> {
         partial_order(self.iter_ordered(), other.iter_ordered())
     }
 
-    /// The same, of items that always compare.
+    /// How the items of both lists compare, if items always do: the first pair that is not equal
+    /// decides, and else the lengths do.
     pub fn canonical_cmp<Q: PtrCore, R: OrdSlots<Q, T>>(
         &self,
         other: &SimpleOrdArena<Q, T, R>,

@@ -4,10 +4,8 @@ ghost use Rattle.std.specs.Iterator.{item_count, UpTo};
 ghost use Rattle.std.specs.Iterator.SizeHint.{IsWithinCount};
 ghost use Rattle.triple_arena_ord.specs.Ordered.{IsOrdered, size_in};
 ghost use Rattle.triple_arena_ord.specs.OrderedDrains.{drain_arena, drain_lender, drain_rest};
-ghost use Rattle.triple_arena_ord.specs.OrderedDrains.{drain_leaves, TakesFirst, DrainSteps};
-ghost use Rattle.triple_arena_ord.specs.OrderedDrains.{DrainKeepsAlong};
+ghost use Rattle.triple_arena_ord.specs.OrderedDrains.{drain_leaves, DrainSteps, DrainKeepsAlong};
 
-use crate::ord_arena::removal::neighbors;
 use crate::{OrdSlots, SimpleOrdArena};
 use std::iter::FusedIterator;
 use triple_arena::{ArenaTrait, InvalidationOption, PtrCore};
@@ -33,21 +31,6 @@ impl<P: PtrCore, T: Drop, S: OrdSlots<P, T>> SimpleOrdArena<P, T, S> {
     {
         OrderedDrain { arena: self }
     }
-
-    // The first entry leaves, if there is one.
-    pub(crate) fn take_first(&mut self) -> Option<InvalidationOption<(P, T)>>
-        ensures { TakesFirst P.Inx.number P.Gen.last P.index P.generation result self.old self.new }
-    {
-        let i = self.first_index()?;
-        let (prev, next) = neighbors(&self.chains, i);
-        let ((generation, t), wrapped) = self.remove_live(i, prev, next).overflowing()?;
-        let item = (P::_from_raw(i, generation), t);
-        if wrapped {
-            Some(InvalidationOption::GenerationOverflow(item))
-        } else {
-            Some(InvalidationOption::Success(item))
-        }
-    }
 }
 
 impl<'a, P: PtrCore, T: Drop, S: OrdSlots<P, T>> Drop for OrderedDrain<'a, P, T, S> {
@@ -68,7 +51,7 @@ impl<'a, P: PtrCore, T: Drop, S: OrdSlots<P, T>> Iterator for OrderedDrain<'a, P
     ghost remaining = { item_count (drain_rest P.Gen.last P.Inx.number) };
 
     fn next(&mut self) -> Option<InvalidationOption<(P, T)>> {
-        self.arena.take_first()
+        self.arena.pop_first()
     }
 
     fn size_hint(&self) -> (usize, Option<usize>)

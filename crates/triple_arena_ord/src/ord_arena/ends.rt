@@ -21,7 +21,7 @@ impl<P: PtrCore, T: Drop, S: OrdSlots<P, T>> SimpleOrdArena<P, T, S> {
     }
 
     // The index of the last entry.
-    fn last_index(&self) -> Option<P::Inx>
+    pub(crate) fn last_index(&self) -> Option<P::Inx>
         ensures at { option_map P.Inx.number result
             ≡ last_or None (order_in P.Inx.number self.now) }
         ensures ordered { IsOrdered P.Inx.number self.now }
@@ -30,7 +30,7 @@ impl<P: PtrCore, T: Drop, S: OrdSlots<P, T>> SimpleOrdArena<P, T, S> {
     }
 
     // The pointer to the entry at an index that is live.
-    fn ptr_to(&self, i: P::Inx) -> P
+    pub(crate) fn ptr_to(&self, i: P::Inx) -> P
         requires live { IsSome (entry_in self.now (P.Inx.number i)) }
         requires no_more { ⊤ }
         ensures index { P.index result ≡ P.Inx.number i }

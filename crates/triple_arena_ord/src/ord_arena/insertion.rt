@@ -158,8 +158,9 @@ impl<P: PtrCore, T: SimpleOrdItem + Drop, S: OrdSlots<P, T>> SimpleOrdArena<P, T
         self.insert_at_within_capacity(place, t)
     }
 
-    /// The same, but the arena grows if there is no room for a new entry: to room for 4 at first,
-    /// then for the double, and never past its greatest capacity. `BeyondMaxCapacity`, if as many
+    /// Puts an item in by its key, in the way of `insert_within_capacity`, but the arena grows if
+    /// there is no room for a new entry: to room for 4 at first, then for the double, and never
+    /// past its greatest capacity. `BeyondMaxCapacity`, if as many
     /// entries are live as the greatest capacity, and `AllocError`, if the memory was refused,
     /// change nothing, and `t` is dropped.
     pub fn insert_reallocating(&mut self, t: T) -> Result<(P, Option<T>), OrdInsertionError>
@@ -170,7 +171,7 @@ impl<P: PtrCore, T: SimpleOrdItem + Drop, S: OrdSlots<P, T>> SimpleOrdArena<P, T
         self.insert_at_reallocating(found, t)
     }
 
-    /// The same as `insert_reallocating`.
+    /// Puts an item in by its key, and grows: another name of `insert_reallocating`.
     pub fn insert(&mut self, t: T) -> Result<(P, Option<T>), OrdInsertionError>
         ensures { InsertsByKey P.Inx.number T.Key.cmp T.key_of P.index P.generation
             (Some S.takes_memory) t result self.old self.new }

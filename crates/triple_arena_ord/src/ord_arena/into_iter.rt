@@ -34,7 +34,7 @@ impl<P: PtrCore, T: Drop, S: OrdSlots<P, T>> Iterator for CapacityDrain<P, T, S>
     ghost remaining = { item_count (λ left. left) };
 
     fn next(&mut self) -> Option<(P, T)> {
-        let item = self.arena.take_first()?;
+        let item = self.arena.pop_first()?;
         Some(item.allow())
     }
 

@@ -1,20 +1,16 @@
 //! Removals.
-ghost use Rattle.std.specs.Prelude.{◌≡◌, ℕ, Some, IsSome};
+ghost use Rattle.std.specs.Prelude.{◌≡◌, Some, IsSome};
 ghost use Rattle.std.specs.Option.{option_map};
 ghost use Rattle.triple_arena_ptr.specs.Generation.{next_wraps};
-ghost use Rattle.triple_arena_ptr.specs.InvalidationOption.{value_of, overflowed};
-ghost use Rattle.triple_arena_ptr.specs.InvalidationResult.{answer_of};
 ghost use Rattle.triple_arena_chain.specs.Links.{ends_in};
 ghost use Rattle.triple_arena_ord.specs.Node.{knots_in};
 ghost use Rattle.triple_arena_ord.specs.Ordered.{IsOrdered, entry_in};
 ghost use Rattle.triple_arena_ord.specs.Removal.{IsEntryRemoved, ended};
-ghost use Rattle.triple_arena_chain.specs.LinkShape.{IndexLink};
-ghost use Rattle.triple_arena_ord.specs.NodeShape.{IndexNode};
 
 use crate::uprooting::take_entry;
 use crate::{OrdSlots, SimpleOrdArena, SimpleOrdArenaNode};
-use triple_arena::{InvalidationResult, PtrCore, PtrInxCore};
-use triple_arena_chain::{ChainArena, ChainArenaTrait, LinkNoGen};
+use triple_arena::{PtrCore, PtrInxCore};
+use triple_arena_chain::{ChainArena, ChainArenaTrait};
 use unreached::unreached;
 
 // The neighbors of an index in the list.
@@ -44,53 +40,29 @@ fn leave_end<I: PtrInxCore>(end: &mut Option<I>, gone: I, neighbor: Option<I>)
     }
 }
 
-// An entry that was taken out, with its item alone.
-#[inline(always)]
-fn item_of<P: PtrCore, T>(
-    taken: InvalidationResult<(P::Gen, LinkNoGen<P, SimpleOrdArenaNode<P, T>>)>,
-) -> InvalidationResult<(P::Gen, T)>
-    ensures value { option_map {U = ℕ × T}
-        (λ a. let v : P.Gen × T = value_of a in (P.Gen.number v.0, v.1)) (answer_of result)
-        ≡ option_map (λ a. let v : P.Gen
-        × IndexLink P.Inx (IndexNode P.Inx T) = value_of a in (P.Gen.number v.0, v.1.t.t))
-        (answer_of taken) }
-    ensures overflow { option_map overflowed (answer_of result)
-        ≡ option_map overflowed (answer_of taken) }
-{
-    match taken {
-        InvalidationResult::Success((generation, link)) => {
-            InvalidationResult::Success((generation, link.t.t))
-        }
-        InvalidationResult::GenerationOverflow((generation, link)) => {
-            InvalidationResult::GenerationOverflow((generation, link.t.t))
-        }
-        InvalidationResult::InvalidPtr => InvalidationResult::InvalidPtr,
-    }
-}
-
 impl<P: PtrCore, T: Drop, S: OrdSlots<P, T>> SimpleOrdArena<P, T, S> {
-    // The entry at a live index leaves. `prev` and `next` are its neighbors in the list.
+    // The entry at a live index leaves: its generation and its item, and whether the generations
+    // started again. `prev` and `next` are its neighbors in the list.
     #[inline(always)]
     pub(crate) fn remove_live(
         &mut self,
         gone: P::Inx,
         prev: Option<P::Inx>,
         next: Option<P::Inx>,
-    ) -> InvalidationResult<(P::Gen, T)>
+    ) -> ((P::Gen, T), bool)
         requires live { IsSome (knots_in P.Inx.number self.old.chains (P.Inx.number gone)) }
         requires ends { ends_in P.Inx.number self.old.chains (P.Inx.number gone)
             ≡ Some (option_map P.Inx.number prev, option_map P.Inx.number next) }
         ensures removed { IsEntryRemoved P.Inx.number P.Gen.last
             (P.Inx.number gone) self.old self.new }
-        ensures value { option_map (λ a. (P.Gen.number (value_of a).0, (value_of a).1))
-            (answer_of result) ≡ entry_in self.old (P.Inx.number gone) }
-        ensures overflow { option_map overflowed (answer_of result)
-            ≡ Some (next_wraps P.Gen.last self.old.chains.counter) }
+        ensures value { Some (P.Gen.number result.0.0, result.0.1)
+            ≡ entry_in self.old (P.Inx.number gone) }
+        ensures overflow { result.1 ≡ next_wraps P.Gen.last self.old.chains.counter }
         ensures ordered { IsOrdered P.Inx.number self.new }
     {
         let taken = take_entry(&mut self.chains, &mut self.root, gone, next);
         leave_end(&mut self.first, gone, next);
         leave_end(&mut self.last, gone, prev);
-        item_of::<P, T>(taken)
+        taken
     }
 }

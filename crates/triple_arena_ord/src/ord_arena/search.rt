@@ -9,8 +9,8 @@ ghost use Rattle.rank_tree.specs.Search.{IsAnswer, IsFreeAt, asked_down};
 ghost use Rattle.triple_arena_ord.specs.Ordered.{IsOrdered, IsAscending, tree_in, size_in};
 ghost use Rattle.triple_arena_ord.specs.Ordered.{asked_at};
 ghost use Rattle.triple_arena_ord.specs.Found.{IsFound, IsSimilar};
-ghost use Rattle.triple_arena_ord.specs.Spared.{spares};
 
+mod bounds;
 mod closures;
 pub(crate) mod found;
 mod linear;
@@ -60,27 +60,6 @@ impl<P: PtrCore, T: SimpleOrdItem + Drop, S: OrdSlots<P, T>> SimpleOrdArena<P, T
         place
     }
 
-    /// If true, each search here takes at least one comparison less than `most_comparisons` allows,
-    /// so a caller who keeps that bound may compare with one entry first. The call makes no
-    /// comparison, and reads the rank r of the root. It is true exactly if `2^h` is at most the
-    /// number of entries, where h is `(r + 3) / 2` rounded down.
-    pub fn spares_a_comparison(&self) -> bool
-        ensures told { result
-            ≡ spares (rank_of (tree_in P.Inx.number self.now)) (size_in self.now) }
-        ensures left { IsTrue result → (f : ℕ → Way)
-            → asked_down f (tree_in P.Inx.number self.now) + 1
-            ≤ most_comparisons (size_in self.now) }
-    {
-        let len = self.chains.len();
-        match self.root {
-            Some(root) => {
-                let half = (self.chains.get_inx_unwrap(root).rank as u32 + 3) / 2;
-                half < usize::BITS && len >> half != 0
-            }
-            None => false,
-        }
-    }
-
     /// The pointer to an entry with an equal key. If the keys ascend, `None` means that there is
     /// none. Each comparison is a tick, one at each entry on the way down from the root. Among
     /// n > 0 entries there are at most c, the greatest number with `2^(c+1) <= (n+1)^2`, and none
@@ -97,7 +76,7 @@ impl<P: PtrCore, T: SimpleOrdItem + Drop, S: OrdSlots<P, T>> SimpleOrdArena<P, T
         found_at(&self.chains, place)
     }
 
-    /// The same, with no count.
+    /// What `find_key_counted` finds, with no count.
     pub fn find_key(&self, k: &T::Key) -> Option<P>
         ensures { IsFound P.index P.generation (asked_at T.Key.cmp T.key_of k.now self.now)
             (IsAscending P.Inx.number T.Key.cmp T.key_of self.now) result self.now }
@@ -122,7 +101,7 @@ impl<P: PtrCore, T: SimpleOrdItem + Drop, S: OrdSlots<P, T>> SimpleOrdArena<P, T
         similar_at(&self.chains, place)
     }
 
-    /// The same, with no count.
+    /// What `find_similar_key_counted` finds, with no count.
     pub fn find_similar_key(&self, k: &T::Key) -> Option<(P, Ordering)>
         ensures { IsSimilar P.index P.generation P.Inx.number
             (asked_at T.Key.cmp T.key_of k.now self.now)

@@ -13,8 +13,8 @@ use triple_arena::{Advancer, ArenaTrait, PtrCore, PtrInxCore};
 /// Gives the pointers to the entries of the list, one a call: from an entry on to the last, or
 /// backward to the first. The arena is free between the calls.
 ///
-/// As it gives an entry it notes the index that comes next, and later gives what is live there. If
-/// nothing is, it ends.
+/// When it gives an entry it notes the index that comes next, and later gives what is live there.
+/// If nothing is, it ends.
 #[derive(Drop)]
 pub struct OrderedPtrAdvancer<P: PtrCore> {
     // The index that comes next.

@@ -31,9 +31,10 @@ linked : (g : _) (c : After-inx g)
       chains = c.args.chains.now;
       root = option_map g.P.Inx.PtrInxCore.number c.args.root.now;
     })
-    c.insert_in_gap_within_capacity.new.self (g.P.Inx.PtrInxCore.number c.args.holder)
+    c.insert_in_gap_unwrap-p.new.self (g.P.Inx.PtrInxCore.number c.args.holder)
     (g.P.Inx.PtrInxCore.number c.inx.result)
-    (g.P.PtrCore.index c.in-Ok.p) (g.P.PtrCore.generation c.in-Ok.p) c.args.side
+    (g.P.PtrCore.index c.insert_in_gap_unwrap-p.result)
+    (g.P.PtrCore.generation c.insert_in_gap_unwrap-p.result) c.args.side
     (record { t = c.args.t; p_back = Some c.args.holder; p_tree0 = None; p_tree1 = None; rank = 1 })
 linked g c =
     let bound : c.capacity-capacity.result < 2 ^ 64 = search rules in
@@ -47,9 +48,10 @@ linked g c =
       placed = subst (λ n. IsLinkInserted g.P.Inx.PtrInxCore.number
           (Between (option_map g.P.Inx.PtrInxCore.number c.gap_beside-prev.result.0)
           (option_map g.P.Inx.PtrInxCore.number c.gap_beside-prev.result.1))
-          (g.P.PtrCore.index c.in-Ok.p) (g.P.PtrCore.generation c.in-Ok.p) n
-          c.args.chains.now c.insert_in_gap_within_capacity.new.self) c.under-node.ensures
-          c.in-Ok.ensures.inserted;
+          (g.P.PtrCore.index c.insert_in_gap_unwrap-p.result)
+          (g.P.PtrCore.generation c.insert_in_gap_unwrap-p.result) n
+          c.args.chains.now c.insert_in_gap_unwrap-p.new.self) c.under-node.ensures
+          c.insert_in_gap_unwrap-p.ensures.inserted;
       index_is = c.inx.ensures;
       small = omega arith;
     }
@@ -85,12 +87,12 @@ returns-clause-added g c = (leaf g (goal.at.returns-clause-added g c).After-brin
 
 pub returns-clause-counter : goal.returns-clause-counter
 returns-clause-counter g c =
-    (rested g.P.Inx.PtrInxCore.number c.insert_in_gap_within_capacity.new.self c.bring_in.new.knots
+    (rested g.P.Inx.PtrInxCore.number c.insert_in_gap_unwrap-p.new.self c.bring_in.new.knots
     c.bring_in.ensures.keeps).kept.counter
-    ∙ c.in-Ok.ensures.inserted.counter
+    ∙ c.insert_in_gap_unwrap-p.ensures.inserted.counter
 
 pub returns-clause-room : goal.returns-clause-room
 returns-clause-room g c =
-    (rested g.P.Inx.PtrInxCore.number c.insert_in_gap_within_capacity.new.self c.bring_in.new.knots
+    (rested g.P.Inx.PtrInxCore.number c.insert_in_gap_unwrap-p.new.self c.bring_in.new.knots
     c.bring_in.ensures.keeps).kept.room
-    ∙ c.in-Ok.ensures.room
+    ∙ c.insert_in_gap_unwrap-p.ensures.room

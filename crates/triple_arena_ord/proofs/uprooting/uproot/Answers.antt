@@ -1,91 +1,101 @@
-use Rattle.std.proofs.Common.{◌≡◌, ℕ, ◌<◌, ◌^◌, Some, None, rules, ap, ◌∙◌, sym, arith}
+use Rattle.std.proofs.Common.{◌≡◌, ℕ, ◌<◌, ◌^◌, Option, Some, rules, refl, ap, sym, subst, arith}
 use Rattle.std.specs.Option.{option_map}
+use Rattle.rank_tree.specs.Knot.{Knot}
+use Rattle.rank_tree.specs.Repair.{Loose, Restored}
+use Rattle.rank_tree.specs.Shape.{plug}
+use Rattle.rank_tree.specs.Tree.{walk}
+use Rattle.triple_arena_ord.specs.Node.{knots_in}
 use Rattle.triple_arena_ord.specs.Ordered.{Ordered}
-use Rattle.triple_arena_ord.proofs.UprootingLemmas.{out, uprooted}
-use Rattle.triple_arena_ord.proofs.SuccessorLemmas.{successor, over_at, over_lives}
-use Rattle.triple_arena_ord.proofs.SuccessorLemmas.{replaced, replacement_place}
+use Rattle.triple_arena_ord.proofs.MovedUpLemmas.{Way, way_up, way_loose}
+use Rattle.triple_arena_ord.proofs.UprootingLemmas.{uprooted}
+use Rattle.triple_arena_ord.proofs.SuccessorLemmas.{Over, over_lives, replaced, replacement_place}
+use Rattle.triple_arena_ord.proofs.uprooting.uproot.Goals.{After-unwrap_or-out, After-bring_out}
 use Rattle.triple_arena_ord.proofs.uprooting.uproot.Goals as goal
 
 small : (count live : ℕ) → count ≡ live → count < 2 ^ 64 → live < 2 ^ 64
 small count live e h = omega arith
 
+-- the arena as it was
+abbrev old : (g : _) (c : After-unwrap_or-out g) → Ordered g.row.P-Inx.Denot g.row.T.Denot
+old g c = record
+    { chains = c.args.chains.now; root = option_map g.P.Inx.PtrInxCore.number c.args.root.now }
+
+-- which index leaves the tree
+way : (g : _) (c : After-unwrap_or-out g)
+    → Way g.P.Inx.PtrInxCore.number (old g c) (g.P.Inx.PtrInxCore.number c.args.gone)
+    (g.P.Inx.PtrInxCore.number c.unwrap_or-out.result)
+    (option_map g.P.Inx.PtrInxCore.number c.moved_up-moved.result)
+way g c =
+    let number = g.P.Inx.PtrInxCore.number in
+    subst (λ i. Way number (old g c) (number c.args.gone) (number i)
+    (option_map number c.moved_up-moved.result)) (sym c.unwrap_or-out.ensures)
+    (way_up number (old g c) c.requires.ordered c.args.gone
+    (small _ _ c.len-count.ensures.value (search rules)) c.requires.lives _ c.read-knot.ensures
+    c.read-knot.result.right c.moved_up-moved.result c.args.next refl
+    c.moved_up-moved.ensures.none c.moved_up-moved.ensures.some c.requires.next)
+
+-- what leaving leaves, by an index that is the same
+does_at : (n m : ℕ → Option Knot) (r s : Option ℕ) (i j : ℕ) → i ≡ j
+    → ((loose : Loose n r i) → Restored m s (walk (plug loose.context loose.sub)))
+    → (loose : Loose n r j) → Restored m s (walk (plug loose.context loose.sub))
+does_at n m r s i j same does =
+    subst (λ k. (loose : Loose n r k) → Restored m s (walk (plug loose.context loose.sub))) same
+    does
+
+-- the next one, out of the tree
+over : (g : _) (c : After-bring_out g) (n : ℕ)
+    → option_map g.P.Inx.PtrInxCore.number c.moved_up-moved.result ≡ Some n
+    → (h : Over g.P.Inx.PtrInxCore.number (old g (goal.at.After-bring_out g c).After-unwrap_or-out)
+    (g.P.Inx.PtrInxCore.number c.args.gone) n)
+    × Restored (knots_in g.P.Inx.PtrInxCore.number c.bring_out.new.knots)
+    (option_map g.P.Inx.PtrInxCore.number c.bring_out.new.root)
+    (walk (plug h.loose.context h.loose.sub))
+over g c n is =
+    let number = g.P.Inx.PtrInxCore.number in
+    let at = (goal.at.After-bring_out g c).After-unwrap_or-out in
+    let it = subst (Way number (old g at) (number c.args.gone)
+    (number c.unwrap_or-out.result)) is (way g at) in
+    (it.1, does_at _ _ _ _ _ _ it.0 c.bring_out.ensures.does it.1.loose)
+
 pub bring_out-requires-clause-loose : goal.bring_out-requires-clause-loose
 bring_out-requires-clause-loose g c =
     let number = g.P.Inx.PtrInxCore.number in
-    let o : Ordered g.row.P-Inx.Denot g.row.T.Denot =
-    record { chains = c.args.chains.now; root = option_map number c.args.root.now } in
-    (out number o c.requires.ordered (number c.args.gone)
-    (small _ _ c.len-count.ensures.value (search rules)) c.requires.lives
-    _ c.read-knot.ensures (ap (option_map number) c.in-None.is)).loose
-
--- a node with a right child has one after it
-pub unreached-unreachable-requires : goal.unreached-unreachable-requires
-unreached-unreachable-requires g c =
-    let number = g.P.Inx.PtrInxCore.number in
-    let o : Ordered g.row.P-Inx.Denot g.row.T.Denot =
-    record { chains = c.args.chains.now; root = option_map number c.args.root.now } in
-    let s = successor number o c.requires.ordered (number c.args.gone)
-    (small _ _ c.len-count.ensures.value (search rules)) c.requires.lives
-    _ c.read-knot.ensures _ (ap (option_map number) c.in-Some.is) in
-    let no : Some s.index ≡ None = sym s.next ∙ c.requires.next
-    ∙ ap (option_map number) c.in_default.is in
-    absurd (cc)
-
-pub bring_out-requires-in-Some-clause-loose : goal.bring_out-requires-in-Some-clause-loose
-bring_out-requires-in-Some-clause-loose g c =
-    let number = g.P.Inx.PtrInxCore.number in
-    let o : Ordered g.row.P-Inx.Denot g.row.T.Denot =
-    record { chains = c.args.chains.now; root = option_map number c.args.root.now } in
-    let s = successor number o c.requires.ordered (number c.args.gone)
-    (small _ _ c.len-count.ensures.value (search rules)) c.requires.lives
-    _ c.read-knot.ensures _ (ap (option_map number) c.in-Some.is) in
-    (over_at number o _ _ s (c.requires.next ∙ ap (option_map number) c.in-Some-next.is)).loose
+    let at = (goal.at.bring_out-requires-clause-loose g c).After-unwrap_or-out in
+    way_loose number (old g at) (number c.args.gone) (number c.unwrap_or-out.result)
+    (option_map number c.moved_up-moved.result) (way g at)
 
 pub replace-requires : goal.replace-requires
 replace-requires g c =
     let number = g.P.Inx.PtrInxCore.number in
-    let o : Ordered g.row.P-Inx.Denot g.row.T.Denot =
-    record { chains = c.args.chains.now; root = option_map number c.args.root.now } in
-    let s = successor number o c.requires.ordered (number c.args.gone)
-    (small _ _ c.len-count.ensures.value (search rules)) c.requires.lives
-    _ c.read-knot.ensures _ (ap (option_map number) c.in-Some.is) in
-    let over = over_at number o _ _ s (c.requires.next ∙ ap (option_map number) c.in-Some-next.is)
-    in
-    let brought = c.bring_out-in-Some in
+    let at = goal.at.replace-requires g c in
+    let o = old g at.After-unwrap_or-out in
+    let found = over g at.After-bring_out _ (ap (option_map number) c.in-Some.is) in
     record {
-      place = replacement_place number o c.requires.ordered _ _ c.requires.lives over
-          brought.new.knots (option_map number brought.new.root) (brought.ensures.does over.loose);
-      slot = over_lives number o _ _ brought.new.knots over brought.ensures.keeps;
+      place = replacement_place number o c.requires.ordered _ _ c.requires.lives found.0
+          c.bring_out.new.knots (option_map number c.bring_out.new.root) found.1;
+      slot = over_lives number o _ _ c.bring_out.new.knots found.0 c.bring_out.ensures.keeps;
     }
 
 pub returns-in-None-clause-uprooted : goal.returns-in-None-clause-uprooted
 returns-in-None-clause-uprooted g c =
     let number = g.P.Inx.PtrInxCore.number in
-    let o : Ordered g.row.P-Inx.Denot g.row.T.Denot =
-    record { chains = c.args.chains.now; root = option_map number c.args.root.now } in
-    let there = out number o c.requires.ordered (number c.args.gone)
-    (small _ _ c.len-count.ensures.value (search rules)) c.requires.lives
-    _ c.read-knot.ensures (ap (option_map number) c.in-None.is) in
-    uprooted number o (record
+    let at = (goal.at.returns-in-None-clause-uprooted g c).After-unwrap_or-out in
+    let it = subst (Way number (old g at) (number c.args.gone)
+    (number c.unwrap_or-out.result)) (ap (option_map number) c.in-None.is) (way g at) in
+    uprooted number (old g at) (record
     { chains = c.bring_out.new.knots; root = option_map number c.bring_out.new.root })
-    (number c.args.gone) there
-    (c.bring_out.ensures.does there.loose)
+    (number c.args.gone) it.1
+    (does_at _ _ _ _ _ _ it.0 c.bring_out.ensures.does it.1.loose)
 
-pub returns-in-Some-next-clause-uprooted : goal.returns-in-Some-next-clause-uprooted
-returns-in-Some-next-clause-uprooted g c =
+pub returns-in-Some-clause-uprooted : goal.returns-in-Some-clause-uprooted
+returns-in-Some-clause-uprooted g c =
     let number = g.P.Inx.PtrInxCore.number in
-    let o : Ordered g.row.P-Inx.Denot g.row.T.Denot =
-    record { chains = c.args.chains.now; root = option_map number c.args.root.now } in
-    let s = successor number o c.requires.ordered (number c.args.gone)
-    (small _ _ c.len-count.ensures.value (search rules)) c.requires.lives
-    _ c.read-knot.ensures _ (ap (option_map number) c.in-Some.is) in
-    let over = over_at number o _ _ s (c.requires.next ∙ ap (option_map number) c.in-Some-next.is)
-    in
-    let brought = c.bring_out-in-Some in
-    let root1 = option_map number brought.new.root in
-    let restored = brought.ensures.does over.loose in
-    replaced number o c.requires.ordered _ _ c.requires.lives over brought.new.knots root1 restored
-    c.replace.new.knots (option_map number c.replace.new.root)
+    let at = goal.at.returns-in-Some-clause-uprooted g c in
+    let o = old g at.After-unwrap_or-out in
+    let found = over g at.After-bring_out _ (ap (option_map number) c.in-Some.is) in
+    let root1 = option_map number c.bring_out.new.root in
+    replaced number o c.requires.ordered _ _ c.requires.lives found.0 c.bring_out.new.knots root1
+    found.1 c.replace.new.knots (option_map number c.replace.new.root)
     (c.replace.ensures.does
-    (replacement_place number o c.requires.ordered _ _ c.requires.lives over brought.new.knots
-    root1 restored))
+    (replacement_place number o c.requires.ordered _ _ c.requires.lives found.0
+    c.bring_out.new.knots root1 found.1))

@@ -154,9 +154,10 @@ impl<P: PtrCore, T: SimpleOrdItem + Drop, S: OrdSlots<P, T>> SimpleOrdArena<P, T
         }
     }
 
-    /// The same, but the arena grows if a new entry is needed and there is no room, as in
-    /// `insert_reallocating`; `BeyondMaxCapacity` and `AllocError`, too, leave the entries and the
-    /// room as they were.
+    /// Room for one item more, where the kind says. If a new entry is needed and there is no room,
+    /// the arena grows, in the steps of `insert_reallocating`. `FailedOrdRequirement` comes as from
+    /// `entry_insert_within_capacity`; it, `BeyondMaxCapacity` and `AllocError` leave the entries
+    /// and the room as they were.
     pub fn entry_insert_reallocating(
         &mut self,
         kind: OrdInsertKind<P, &T::Key>,
@@ -186,7 +187,7 @@ impl<P: PtrCore, T: SimpleOrdItem + Drop, S: OrdSlots<P, T>> SimpleOrdArena<P, T
         })
     }
 
-    /// The same as `entry_insert_reallocating`.
+    /// Room for one item more, where the kind says: another name of `entry_insert_reallocating`.
     pub fn entry_insert(
         &mut self,
         kind: OrdInsertKind<P, &T::Key>,

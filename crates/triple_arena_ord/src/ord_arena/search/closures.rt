@@ -46,8 +46,8 @@ impl<P: PtrCore, T: Drop, S: OrdSlots<P, T>> SimpleOrdArena<P, T, S> {
         self.find_similar_by_counted(&mut f, probes)
     }
 
-    /// The same with a closure that is lent. It is left in the state that its last answer left, so
-    /// that what it noted of the questions is known.
+    /// Asks a closure that is lent, in the way of `find_similar_with_counted`. The closure is left
+    /// in the state that its last answer left, so that what it noted of the questions is known.
     pub fn find_similar_by_counted<F>(
         &self,
         f: &mut F,
@@ -70,7 +70,7 @@ impl<P: PtrCore, T: Drop, S: OrdSlots<P, T>> SimpleOrdArena<P, T, S> {
         ask_down(&self.chains, self.root, f, probes)
     }
 
-    /// The same, with no count.
+    /// What `find_similar_with_counted` finds, with no count.
     pub fn find_similar_with<F>(&self, f: F) -> Option<(P, Ordering)>
     where
         F: FnMut(P, &T) -> Ordering,
@@ -112,7 +112,7 @@ impl<P: PtrCore, T: Drop, S: OrdSlots<P, T>> SimpleOrdArena<P, T, S> {
         }
     }
 
-    /// The same, with no count.
+    /// What `find_with_counted` finds, with no count.
     pub fn find_with<F>(&self, f: F) -> Option<P>
     where
         F: FnMut(P, &T) -> Ordering,

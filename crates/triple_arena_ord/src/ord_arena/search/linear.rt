@@ -70,11 +70,12 @@ impl<P: PtrCore, T: SimpleOrdItem + Drop, S: OrdSlots<P, T>> SimpleOrdArena<P, T
         }
     }
 
-    /// As `find_key_counted`, but first it compares with the entry of `p_init` and goes on from
-    /// there along the list, in one direction, for at most `num` comparisons, one at each entry,
-    /// and a tick each. If these find no equal key, or `p_init` points to no entry, it searches
-    /// from the root. In a list whose keys ascend `num` comparisons are enough if an entry with an
-    /// equal key stands less than `num` steps from that of `p_init`.
+    /// The pointer to an entry with an equal key; if the keys ascend, `None` means that there is
+    /// none. First it compares with the entry of `p_init` and goes on from there along the list, in
+    /// one direction, for at most `num` comparisons, one at each entry, and a tick each. If these
+    /// find no equal key, or `p_init` points to no entry, it searches from the root, in the way of
+    /// `find_key_counted`. In a list whose keys ascend `num` comparisons are enough if an entry
+    /// with an equal key stands less than `num` steps from that of `p_init`.
     pub fn find_key_linear_counted(
         &self,
         p_init: P,
@@ -122,7 +123,7 @@ impl<P: PtrCore, T: SimpleOrdItem + Drop, S: OrdSlots<P, T>> SimpleOrdArena<P, T
         }
     }
 
-    /// The same, with no count.
+    /// What `find_key_linear_counted` finds, with no count.
     pub fn find_key_linear(&self, p_init: P, num: usize, k: &T::Key) -> Option<P>
         ensures found { IsFound P.index P.generation (asked_at T.Key.cmp T.key_of k.now self.now)
             (IsAscending P.Inx.number T.Key.cmp T.key_of self.now) result self.now }
@@ -135,13 +136,14 @@ impl<P: PtrCore, T: SimpleOrdItem + Drop, S: OrdSlots<P, T>> SimpleOrdArena<P, T
         self.find_key_linear_counted(p_init, num, k, &mut Probes::new())
     }
 
-    /// As `find_similar_key_counted`, but first it compares with the entry at `p_init`, whatever
-    /// its generation, and goes on from there along the list, in one direction, for at most `num`
-    /// comparisons, one at each entry, and a tick each. It ends at an equal key, at an end of the
-    /// list, and where it comes over the place of the key; else, and if `p_init` is not live, it
-    /// searches from the root. In a list whose keys ascend `num` comparisons are enough if an entry
-    /// with an equal key, or each entry beside the place of the key, stands less than `num` steps
-    /// from that at `p_init`.
+    /// The pointer to an entry with an equal key, or else to one beside which the key belongs, and
+    /// what the key compares as with the entry's; `None` if there is no entry. First it compares
+    /// with the entry at `p_init`, whatever its generation, and goes on from there along the list,
+    /// in one direction, for at most `num` comparisons, one at each entry, and a tick each. It ends
+    /// at an equal key, at an end of the list, and where it comes over the place of the key; else,
+    /// and if `p_init` is not live, it searches from the root. In a list whose keys ascend `num`
+    /// comparisons are enough if an entry with an equal key, or each entry beside the place of the
+    /// key, stands less than `num` steps from that at `p_init`.
     pub fn find_similar_key_linear_counted(
         &self,
         p_init: P::Inx,
@@ -176,7 +178,7 @@ impl<P: PtrCore, T: SimpleOrdItem + Drop, S: OrdSlots<P, T>> SimpleOrdArena<P, T
         similar_at(&self.chains, place)
     }
 
-    /// The same, with no count.
+    /// What `find_similar_key_linear_counted` finds, with no count.
     pub fn find_similar_key_linear(
         &self,
         p_init: P::Inx,

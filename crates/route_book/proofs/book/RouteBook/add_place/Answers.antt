@@ -1,4 +1,4 @@
-use Rattle.std.proofs.Common.{◌≡◌, ◌∙◌, ◌++◌, ◌∷◌, [], ◌+◌, ◌<◌, ap, sym, subst, arith}
+use Rattle.std.proofs.Common.{rules, ◌≡◌, ◌∙◌, ◌++◌, ◌∷◌, [], ◌+◌, ◌<◌, ap, sym, subst, arith}
 use Rattle.triple_arena.specs.DirectContent.{arena_capacity as mirror_capacity}
 use Rattle.triple_arena_stack.specs.Room.{capacity}
 use Rattle.triple_arena_ord.specs.Found.{IsSimilar}
@@ -107,4 +107,13 @@ invariant_of-self g c =
           (sym put.same_room) c.self.invariant.place_mirror;
       stop_mirror = c.self.invariant.stop_mirror;
       mark_mirror = c.self.invariant.mark_mirror;
+    }
+
+pub returns-clause-changes : goal.returns-clause-changes
+returns-clause-changes g c =
+    record {
+      gives = search rules;
+      leaves = search rules;
+      kept = search rules;
+      refused = search rules;
     }

@@ -1,35 +1,35 @@
 use Rattle.std.proofs.Common.{◌∙◌, ◌++◌, ◌∷◌, ◌<◌, [], ap, sym, subst, option_map, Some}
 use Rattle.std.specs.List.{AllByRecursion}
-use Rattle.ticket_book.specs.InArena.{entries_of}
-use Rattle.ticket_book.specs.Tickets.{Entry, Tickets, TicketsRise, entry_at}
-use Rattle.ticket_book.proofs.StandingLemmas.{still_stand}
-use Rattle.ticket_book.proofs.TicketLemmas.{TicketsRise-added, added_behind}
+use Rattle.triple_arena_ord.specs.Ordered.{entry_in}
+use Rattle.ticket_book.specs.InArena.{StandByNumber, entries_of}
+use Rattle.ticket_book.specs.Tickets.{Entry, Tickets, TicketsRise, elsewhere_after, entry_at}
+use Rattle.ticket_book.proofs.LookLemmas.{numbered_added}
+use Rattle.ticket_book.proofs.StandingLemmas.{added_stands, still_stand}
+use Rattle.ticket_book.proofs.TicketLemmas.{TicketsRise-added}
 use Rattle.ticket_book.proofs.book.TicketBook.add.Goals as goal
 
 pub invariant_of-self : goal.invariant_of-self
 invariant_of-self g c =
-    let last = sym c.last.ensures.at ∙ ap (option_map g.P.PtrCore.index) c.in-Some.is
-    ∙ ap Some (sym c.inx.ensures) in
-    let put = c.insert_inx_manual_within_capacity in
-    let entries = added_behind g.P.Inx.PtrInxCore.number c.self.inside.arena put.new.self _ _
-    c.new-entry.result c.len.ensures.formed.ordered put.ensures.added
-    (g.P.Inx.PtrInxCore.number c.inx.result) put.ensures.stands last in
+    let put = c.put_last-p in
     let above = subst (AllByRecursion (λ (e : Entry). e.ticket < c.args.ticket))
     (ap (λ (book : Tickets). book.entries) (sym c.self.view_is)) c.requires.above in
     let ticket : AllByRecursion (λ (e : Entry). e.ticket < c.new-entry.result.ticket)
     (entries_of g.P.Inx.PtrInxCore.number c.self.inside.arena) =
-    rw c.new-entry.ensures above in
-    subst TicketsRise (sym entries) (TicketsRise-added _ _ c.self.invariant ticket)
+    rw c.new-entry.ensures above in (
+      subst TicketsRise (sym put.ensures.entries)
+          (TicketsRise-added _ _ c.self.invariant.0 ticket),
+      subst (λ n. StandByNumber n (entry_in put.new.arena))
+          (sym c.elsewhere_after-self-inside.ensures)
+          (subst (λ i. StandByNumber (elsewhere_after c.self.inside.first_elsewhere i
+          c.args.ticket) (entry_in put.new.arena)) (sym c.inx.ensures)
+          (numbered_added _ c.args.ticket _ _ c.new-entry.result _ _
+          (ap (λ (e : Entry). e.ticket) c.new-entry.ensures) put.ensures.added.entries
+          c.self.invariant.1)),
+    )
 
-pub returns-in-Some-clause-entries : goal.returns-in-Some-clause-entries
-returns-in-Some-clause-entries g c =
-    let last = sym c.last.ensures.at ∙ ap (option_map g.P.PtrCore.index) c.in-Some.is
-    ∙ ap Some (sym c.inx.ensures) in
-    let put = c.insert_inx_manual_within_capacity in
-    let entries = added_behind g.P.Inx.PtrInxCore.number c.self.inside.arena put.new.self _ _
-    c.new-entry.result c.len.ensures.formed.ordered put.ensures.added
-    (g.P.Inx.PtrInxCore.number c.inx.result) put.ensures.stands last in
-    entries
+pub returns-clause-entries : goal.returns-clause-entries
+returns-clause-entries g c =
+    c.put_last-p.ensures.entries
     ∙ ap (λ e. entries_of g.P.Inx.PtrInxCore.number c.self.inside.arena ++ e ∷ [])
     c.new-entry.ensures
     ∙ ap (λ (book : Tickets). book.entries ++ record {
@@ -40,16 +40,25 @@ returns-in-Some-clause-entries g c =
     } ∷ [])
     c.self.view_is
 
-pub returns-in-Some-clause-stay : goal.returns-in-Some-clause-stay
-returns-in-Some-clause-stay g c i e stood =
-    let put = c.insert_inx_manual_within_capacity in
+pub returns-clause-stands : goal.returns-clause-stands
+returns-clause-stands g c =
+    let put = c.put_last-p in
+    added_stands g.P.Inx.PtrInxCore.number c.entries_stand_in_the_list.ensures
+    c.self.inside.arena put.new.arena _ _ _ put.ensures.ordered put.ensures.added _
+    (ap (λ (book : Tickets). book.next_index) (sym c.self.view_is) ∙ sym put.ensures.added.index)
+    ∙ ap Some c.new-entry.ensures
+
+pub returns-clause-stay : goal.returns-clause-stay
+returns-clause-stay g c i e stood =
+    let put = c.put_last-p in
     still_stand g.P.Inx.PtrInxCore.number c.entries_stand_in_the_list.ensures c.self.inside.arena
-    put.new.self _ _ _ c.len.ensures.formed.ordered put.ensures.ordered put.ensures.added i e
+    put.new.arena _ _ _ c.len.ensures.formed.ordered put.ensures.ordered put.ensures.added i e
     (ap (λ (book : Tickets). entry_at book i) c.self.view_is ∙ stood)
 
-pub returns-in-None-clause-stay : goal.returns-in-None-clause-stay
-returns-in-None-clause-stay g c i e stood =
-    let put = c.insert_inx_manual_within_capacity-in-None in
-    still_stand g.P.Inx.PtrInxCore.number c.entries_stand_in_the_list.ensures c.self.inside.arena
-    put.new.self _ _ _ c.len.ensures.formed.ordered put.ensures.ordered put.ensures.added i e
-    (ap (λ (book : Tickets). entry_at book i) c.self.view_is ∙ stood)
+pub returns-clause-elsewhere : goal.returns-clause-elsewhere
+returns-clause-elsewhere g c =
+    c.elsewhere_after-self-inside.ensures
+    ∙ ap (λ i. elsewhere_after c.self.inside.first_elsewhere i c.args.ticket)
+    (c.inx.ensures ∙ c.put_last-p.ensures.added.index)
+    ∙ ap (λ (book : Tickets). elsewhere_after book.first_elsewhere book.next_index c.args.ticket)
+    c.self.view_is

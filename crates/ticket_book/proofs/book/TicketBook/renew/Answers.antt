@@ -3,6 +3,7 @@ use Rattle.triple_arena_ord.specs.Ordered.{entry_in, order_in}
 use Rattle.ticket_book.specs.Mirrors.{numbers, renewed_entry}
 use Rattle.ticket_book.specs.Tickets.{Tickets, TicketsRise, entry_at}
 use Rattle.ticket_book.proofs.EndLemmas.{along_renewed, rise_renewed}
+use Rattle.ticket_book.proofs.LookLemmas.{numbered_renewed}
 use Rattle.ticket_book.proofs.StandingLemmas.{stands_renewed, stands_there}
 use Rattle.ticket_book.proofs.TicketLemmas.{along}
 use Rattle.ticket_book.proofs.book.TicketBook.renew.Goals as goal
@@ -16,12 +17,14 @@ invariant_of-self g c =
     (numbers g.P.PtrCore.index g.P.PtrCore.generation (g.O.ArenaTrait.entry_at c.args.marks.now)) in
     let at = entry_in c.self.inside.arena in
     let at' = entry_in c.renew_entries.new.arena in
-    let order = c.renew_entries.ensures.order in
-    subst TicketsRise (sym
-    (ap (along at') order
-    ∙ along_renewed f at at' c.renew_entries.ensures.entries
-    (order_in g.P.Inx.PtrInxCore.number c.self.inside.arena)))
-    (rise_renewed f at at' c.renew_entries.ensures.entries (λ e. refl) _ c.self.invariant)
+    let order = c.renew_entries.ensures.order in (
+      subst TicketsRise (sym
+          (ap (along at') order
+          ∙ along_renewed f at at' c.renew_entries.ensures.entries
+          (order_in g.P.Inx.PtrInxCore.number c.self.inside.arena)))
+          (rise_renewed f at at' c.renew_entries.ensures.entries (λ e. refl) _ c.self.invariant.0),
+      numbered_renewed f _ at at' (λ e. refl) c.renew_entries.ensures.entries c.self.invariant.1,
+    )
 
 pub returns-clause-stands : goal.returns-clause-stands
 returns-clause-stands g c =

@@ -1,18 +1,23 @@
 use Rattle.std.proofs.Common.{◌∙◌, ap, sym, subst, ℕ, IsSome, option_map}
 use Rattle.triple_arena_ptr.specs.InvalidationOption.{value_of}
 use Rattle.ticket_book.specs.Tickets.{Entry, Tickets, entry_at, lookup, without_ticket}
-use Rattle.ticket_book.proofs.EndLemmas.{entry_taken, none_taken, others_stand, rise_taken}
-use Rattle.ticket_book.proofs.EndLemmas.{taken_stood}
+use Rattle.ticket_book.proofs.EndLemmas.{entry_taken, none_taken, numbered_taken, others_stand}
+use Rattle.ticket_book.proofs.EndLemmas.{rise_taken, taken_stood}
 use Rattle.ticket_book.proofs.StandingLemmas.{stands_there}
 use Rattle.ticket_book.proofs.TicketLemmas.{lookup_standing}
 use Rattle.ticket_book.proofs.book.TicketBook.take.Goals as goal
 
 pub invariant_of-self : goal.invariant_of-self
-invariant_of-self g c =
-    rise_taken g.P.Inx.PtrInxCore.number c.self.inside.arena c.remove_inx.new.self
-    c.len.ensures.formed.ordered c.self.invariant
-    g.P.Gen.PtrGenCore.number value_of _ _ _ c.in-Some.taken (sym c.allow.ensures ∙ c.in-Some.is)
-    c.remove_inx.ensures.value c.remove_inx.ensures.exact
+invariant_of-self g c = (
+  rise_taken g.P.Inx.PtrInxCore.number c.self.inside.arena c.remove_inx.new.self
+      c.len.ensures.formed.ordered c.self.invariant.0
+      g.P.Gen.PtrGenCore.number value_of _ _ _ c.in-Some.taken (sym c.allow.ensures ∙ c.in-Some.is)
+      c.remove_inx.ensures.value c.remove_inx.ensures.exact,
+  numbered_taken g.P.Inx.PtrInxCore.number c.self.inside.arena c.remove_inx.new.self
+      c.len.ensures.formed.ordered c.self.invariant.0
+      g.P.Gen.PtrGenCore.number value_of _ _ _ c.in-Some.taken (sym c.allow.ensures ∙ c.in-Some.is)
+      c.remove_inx.ensures.value c.remove_inx.ensures.exact _ c.self.invariant.1,
+)
 
 pub returns-clause-entry : goal.returns-clause-entry
 returns-clause-entry g c =
@@ -22,7 +27,7 @@ returns-clause-entry g c =
     c.len.ensures.formed.ordered (number c.args.at)
     ∙ ap (option_map (λ (x : ℕ × Entry). x.1))
     (taken_stood number c.self.inside.arena c.remove_inx.new.self c.len.ensures.formed.ordered
-    c.self.invariant
+    c.self.invariant.0
     g.P.Gen.PtrGenCore.number value_of _ _ _ c.in-Some.taken (sym c.allow.ensures ∙ c.in-Some.is)
     c.remove_inx.ensures.value c.remove_inx.ensures.exact)
 
@@ -40,16 +45,16 @@ pub returns-clause-found : goal.returns-clause-found
 returns-clause-found g c =
     ap (λ (book : Tickets). lookup book.entries c.in-Some.taken.1.ticket) (sym c.self.view_is)
     ∙ lookup_standing g.P.Inx.PtrInxCore.number c.entries_stand_in_the_list.ensures
-    c.self.inside.arena _ _ c.len.ensures.formed.ordered c.self.invariant
+    c.self.inside.arena _ _ c.len.ensures.formed.ordered c.self.invariant.0
     (taken_stood g.P.Inx.PtrInxCore.number c.self.inside.arena c.remove_inx.new.self
-    c.len.ensures.formed.ordered c.self.invariant
+    c.len.ensures.formed.ordered c.self.invariant.0
     g.P.Gen.PtrGenCore.number value_of _ _ _ c.in-Some.taken (sym c.allow.ensures ∙ c.in-Some.is)
     c.remove_inx.ensures.value c.remove_inx.ensures.exact)
 
 pub returns-clause-out : goal.returns-clause-out
 returns-clause-out g c =
     entry_taken g.P.Inx.PtrInxCore.number c.self.inside.arena c.remove_inx.new.self
-    c.len.ensures.formed.ordered c.self.invariant
+    c.len.ensures.formed.ordered c.self.invariant.0
     g.P.Gen.PtrGenCore.number value_of _ _ _ c.in-Some.taken (sym c.allow.ensures ∙ c.in-Some.is)
     c.remove_inx.ensures.value c.remove_inx.ensures.exact
     ∙ ap (λ (book : Tickets). without_ticket c.in-Some.taken.1.ticket book.entries) c.self.view_is
@@ -62,7 +67,7 @@ returns-clause-stay g c i other =
     let new = c.remove_inx.new.self in
     stands_there number law new c.remove_inx.ensures.formed.ordered i
     ∙ ap (option_map (λ (x : ℕ × Entry). x.1))
-    (others_stand number old new c.len.ensures.formed.ordered c.self.invariant
+    (others_stand number old new c.len.ensures.formed.ordered c.self.invariant.0
     g.P.Gen.PtrGenCore.number value_of _ _ _ c.in-Some.taken (sym c.allow.ensures ∙ c.in-Some.is)
     c.remove_inx.ensures.value c.remove_inx.ensures.exact i other)
     ∙ sym (stands_there number law old c.len.ensures.formed.ordered i)

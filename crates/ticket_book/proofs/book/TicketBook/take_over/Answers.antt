@@ -7,6 +7,7 @@ use Rattle.triple_arena.specs.TransferLaws.{room_kept, transferred_by}
 use Rattle.triple_arena_ord.specs.Ordered.{ordered_entries, room_in, size_in}
 use Rattle.ticket_book.specs.Moving.{entry_over}
 use Rattle.ticket_book.specs.Tickets.{Tickets, TicketsRise}
+use Rattle.ticket_book.proofs.LookLemmas.{numbered_from_zero}
 use Rattle.ticket_book.proofs.TakeOverLemmas.{rise_over, taken_over}
 use Rattle.ticket_book.proofs.book.TicketBook.take_over.Goals as goal
 
@@ -16,12 +17,16 @@ invariant_of-self g c =
     let f = entry_over (max_index_of g.P.Inx.PtrInxCore.greatest) two in
     let done = c.in-Ok.ensures in
     let values =
-    transferred_by _ _ _ _ _ (λ i h e. f e) (λ h p item q t k is. search rules) done.moved.moved in
-    subst TicketsRise
-    (sym (taken_over f g.Q.Inx.PtrInxCore.number g.P.Inx.PtrInxCore.number c.source.inside.arena
-    c.transfer_canonical_reallocating-taken.new.self
-    (c.canonical_transfers_list_by_index.ensures _ _ _ _ _ done.filled done.moved.order) values))
-    (rise_over f (λ e. refl) _ c.source.invariant)
+    transferred_by _ _ _ _ _ (λ i h e. f e) (λ h p item q t k is. search rules)
+    done.moved.moved in (
+      subst TicketsRise
+          (sym (taken_over f g.Q.Inx.PtrInxCore.number g.P.Inx.PtrInxCore.number
+          c.source.inside.arena c.transfer_canonical_reallocating-taken.new.self
+          (c.canonical_transfers_list_by_index.ensures _ _ _ _ _ done.filled done.moved.order)
+          values))
+          (rise_over f (λ e. refl) _ c.source.invariant.0),
+      numbered_from_zero _,
+    )
 
 pub unreached-unreachable-requires : goal.unreached-unreachable-requires
 unreached-unreachable-requires g c =

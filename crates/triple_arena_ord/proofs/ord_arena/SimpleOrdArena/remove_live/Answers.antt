@@ -1,14 +1,12 @@
 use Rattle.std.proofs.Common.{◌≡◌, Some, ap, sym, ◌∙◌, subst}
 use Rattle.std.specs.Option.{option_map}
 use Rattle.triple_arena_ptr.specs.Generation.{next_wraps}
-use Rattle.triple_arena_ptr.specs.InvalidationOption.{overflowed}
-use Rattle.triple_arena_ptr.specs.InvalidationResult.{answer_of}
 use Rattle.triple_arena_chain.specs.Chains.{next_in, next_at}
 use Rattle.triple_arena_chain.specs.Links.{ends_in}
 use Rattle.triple_arena_ord.specs.Ordered.{Ordered}
 use Rattle.triple_arena_ord.specs.Removal.{IsEntryRemoved}
 use Rattle.triple_arena_ord.proofs.LostEnds.{first_lost, last_lost}
-use Rattle.triple_arena_ord.proofs.UprootingLemmas.{mapped_if, removed}
+use Rattle.triple_arena_ord.proofs.UprootingLemmas.{removed}
 use Rattle.triple_arena_ord.proofs.ord_arena.SimpleOrdArena.remove_live.Goals as goal
 
 pub take_entry-taken-requires-clause-next : goal.take_entry-taken-requires-clause-next
@@ -59,8 +57,5 @@ returns-clause-removed g c =
 
 pub returns-clause-overflow : goal.returns-clause-overflow
 returns-clause-overflow g c =
-    let last = g.P.Gen.PtrGenCore.last in
-    let done = c.take_entry-taken.ensures in
-    c.item_of.ensures.overflow
-    ∙ mapped_if overflowed (answer_of c.take_entry-taken.result) _ done.some done.overflow
-    ∙ ap (λ z. Some (next_wraps last z.chains.counter)) c.self.view_is
+    c.take_entry-taken.ensures.overflow
+    ∙ ap (λ z. next_wraps g.P.Gen.PtrGenCore.last z.chains.counter) c.self.view_is
