@@ -111,7 +111,7 @@ COMMON = {
     'lists': '''
         insert insert insert insert remove remove_inx find_key invalidate advancer_ordered
         walk_over_a_change get get_inx_link_no_gen show first last set_value walk_from
-        walk_back_from compare repair
+        walk_back_from compare repair lower_bound upper_bound
     '''.split(),
     'copies': '''
         insert insert insert insert remove remove_inx find_key invalidate get get_inx show first
@@ -124,8 +124,8 @@ COMMON = {
 }
 RARE = {
     'lists': '''
-        clear drain drain_ordered walk_and_remove walk_ordered_and_remove iter vals ptrs
-        iter_ordered into_iter walk walk_nowhere set_key generation capacity max_capacity
+        clear drain drain_ordered pop_first pop_last walk_and_remove walk_ordered_and_remove iter
+        vals ptrs iter_ordered into_iter walk walk_nowhere set_key generation capacity max_capacity
         singular_generation inc_generation set_generation len is_empty find_first_inx_ptr
         find_last_inx_ptr contains index get_inx get_inx_unwrap index_set set_inx set_inx_unwrap
     '''.split(),

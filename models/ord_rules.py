@@ -469,6 +469,13 @@ class Arena:
             told = self.step('')[:-2]
             self.e[i] = (self.counter, *self.e[i][1:])
             return [f'{told}({self.name(i)})']
+        if verb in ('pop_first', 'pop_last'):
+            if not self.order:
+                return ['None']
+            n = self.order[0 if verb == 'pop_first' else -1]
+            told = f'({self.name(n)}, {self.item(n)})'
+            self.take(n)
+            return [option(self.step(told))]
         if verb == 'clear':
             self.empty()
             return [self.step('()')]
@@ -571,10 +578,18 @@ class Arena:
             'singular_generation': lambda: option(self.gen(self.counter)),
             'first': lambda: option(self.name(order[0]) if order else None),
             'last': lambda: option(self.name(order[-1]) if order else None),
+            'lower_bound': lambda: self.bound(sum(key < x for key in self.keys())),
+            'upper_bound': lambda: self.bound(sum(key <= x for key in self.keys())),
             'find_first_inx_ptr': lambda: option(self.name(rising[0]) if rising else None),
             'find_last_inx_ptr': lambda: option(self.name(rising[-1]) if rising else None),
         }.get(verb)
         return None if told is None else [told()]
+
+    def bound(self, before):
+        """The entry behind so many of the list, where the keys ascend."""
+        if not self.ascends():
+            raise Open
+        return option(self.name(self.order[before]) if before < len(self.order) else None)
 
     def check_invariants(self):
         return 'Ok(())' if self.ascends() else 'Err("incorrect ordering")'

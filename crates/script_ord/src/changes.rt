@@ -1,4 +1,4 @@
-//! The calls that change the counter or an item.
+//! The calls that change the counter or an item, and removals at the ends.
 use crate::items::{Item, Pairs};
 use script_ord_calls::Writes;
 use test_kit::{Call, ShownPtr, Transcript, generation};
@@ -38,5 +38,13 @@ impl<P: ShownPtr, S: OrdSlots<P, Item>> Writes for Pairs<P, S> {
             }
             None => transcript.answer(call.line, &None::<u64>),
         }
+    }
+
+    fn pop_first(&mut self, transcript: &mut Transcript, line: &str) {
+        transcript.answer(line, &self.arena.pop_first());
+    }
+
+    fn pop_last(&mut self, transcript: &mut Transcript, line: &str) {
+        transcript.answer(line, &self.arena.pop_last());
     }
 }

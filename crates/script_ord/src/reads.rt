@@ -22,6 +22,14 @@ impl<P: ShownPtr, S: OrdSlots<P, Item>> TellsOfList for Pairs<P, S> {
         transcript.answer(call.line, &self.arena.find_key(&call.first));
     }
 
+    fn tell_lower_bound(&self, transcript: &mut Transcript, call: &Call<'_>) {
+        transcript.answer(call.line, &self.arena.lower_bound(&call.first));
+    }
+
+    fn tell_upper_bound(&self, transcript: &mut Transcript, call: &Call<'_>) {
+        transcript.answer(call.line, &self.arena.upper_bound(&call.first));
+    }
+
     fn tell_item(&self, transcript: &mut Transcript, call: &Call<'_>) {
         let p = call.pointer();
         if self.arena.contains(p) {

@@ -15,6 +15,10 @@ pub trait Writes {
 
     /// Writes the value of a pair alone, and answers the one that it had.
     fn write_value(&mut self, transcript: &mut Transcript, call: &Call<'_>);
+
+    fn pop_first(&mut self, transcript: &mut Transcript, line: &str);
+
+    fn pop_last(&mut self, transcript: &mut Transcript, line: &str);
 }
 
 /// Makes such a call, and says whether there is one of that name.
@@ -26,6 +30,8 @@ pub fn changes<A: Writes>(arena: &mut A, transcript: &mut Transcript, call: &Cal
         "insert" => arena.put(transcript, call),
         "index_set" => arena.write_item(transcript, call),
         "set_value" => arena.write_value(transcript, call),
+        "pop_first" => arena.pop_first(transcript, line),
+        "pop_last" => arena.pop_last(transcript, line),
         _ => return false,
     }
     true

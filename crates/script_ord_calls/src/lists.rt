@@ -11,6 +11,10 @@ pub trait TellsOfList {
 
     fn tell_place(&self, transcript: &mut Transcript, call: &Call<'_>);
 
+    fn tell_lower_bound(&self, transcript: &mut Transcript, call: &Call<'_>);
+
+    fn tell_upper_bound(&self, transcript: &mut Transcript, call: &Call<'_>);
+
     /// Reads by `arena[p]`, if the pointer is valid.
     fn tell_item(&self, transcript: &mut Transcript, call: &Call<'_>);
 
@@ -26,6 +30,8 @@ pub fn reads_list<A: TellsOfList>(arena: &A, transcript: &mut Transcript, call: 
         "first" => arena.tell_first(transcript, line),
         "last" => arena.tell_last(transcript, line),
         "find_key" => arena.tell_place(transcript, call),
+        "lower_bound" => arena.tell_lower_bound(transcript, call),
+        "upper_bound" => arena.tell_upper_bound(transcript, call),
         "index" => arena.tell_item(transcript, call),
         "get_inx_link_no_gen" => arena.tell_link(transcript, call),
         _ => return false,
