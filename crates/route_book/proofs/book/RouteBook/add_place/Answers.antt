@@ -9,11 +9,11 @@ use Rattle.route_lines.specs.Calls.{after_place}
 use Rattle.route_lines.specs.Sound.{IsSound}
 use Rattle.route_lines.specs.State.{Place, is_full_of_places}
 use Rattle.route_lines.specs.declared.change.Change.TheVariants.{Place as PlaceChange}
-use Rattle.route_book.specs.Book.{Book, IsBook}
+use Rattle.route_book.specs.Book.{Book, IsBook, KeepsItems}
 use Rattle.route_book.specs.Holds.{entry}
 use Rattle.route_book.specs.Keys.{key_cmp, key_of}
 use Rattle.route_book.proofs.HoldLemmas.{below_next}
-use Rattle.route_book.proofs.PlaceLemmas.{place_kept, ticket_given}
+use Rattle.route_book.proofs.PlaceLemmas.{kept_added, place_kept, ticket_given}
 use Rattle.route_book.proofs.book.RouteBook.add_place.Goals as goal
 
 pub put_place-at-requires-clause-newest : goal.put_place-at-requires-clause-newest
@@ -111,9 +111,21 @@ invariant_of-self g c =
 
 pub returns-clause-changes : goal.returns-clause-changes
 returns-clause-changes g c =
+    let put = c.put_place-at.ensures in
     record {
       gives = search rules;
       leaves = search rules;
-      kept = search rules;
-      refused = search rules;
+      kept =
+          subst (λ (b : Book g.row.P-Inx.Denot). KeepsItems b
+          (record {
+            state = c.changed-self-inside.result.state;
+            places = c.put_place-at.new.arena;
+            stops = c.self.inside.stops;
+            marks = c.self.inside.marks;
+          })) c.self.view_is
+          (kept_added c.self.inside.held.state c.changed-self-inside.result.state
+          c.self.inside.places c.put_place-at.new.arena c.self.inside.stops c.self.inside.marks
+          g.P.Inx.PtrInxCore.number c.new.result (g.P.PtrCore.index c.put_place-at.result)
+          (g.P.PtrCore.generation c.put_place-at.result) put.added put.counter put.same_room);
+      refused = tt;
     }
