@@ -111,7 +111,6 @@ invariant_of-self g c =
 
 pub returns-clause-changes : goal.returns-clause-changes
 returns-clause-changes g c =
-    let put = c.put_place-at.ensures in
     record {
       gives = search rules;
       leaves = search rules;
