@@ -13,7 +13,18 @@ use Rattle.raw_box.specs.contracts.RawBox as Raw
 use Rattle.slot_map_c.specs.contracts.holder.Holder as Holder
 
 abbrev pub E : Bx
-E = record { row = Store.the_row; laws = store.the_row_laws; al = record { row = Heap.the_row; laws = heap.the_row_laws; g = ghosts; d = dict; drops = impl [] tnil dnil } }
+E = record {
+  row = Store.the_row;
+  laws = store.the_row_laws;
+  al = record {
+    row = Heap.the_row;
+    laws
+        = heap.the_row_laws;
+    g = ghosts;
+    d = dict;
+    drops = impl [] tnil dnil;
+  };
+}
 
 abbrev pub RawRow : RattleType
 RawRow = Raw.the_row Store.the_row Heap.the_row ghosts

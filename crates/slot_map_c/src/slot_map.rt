@@ -1,6 +1,6 @@
 //! A slot map of numbers: an arena that stops in place of giving a handle twice.
 ghost use Rattle.std.specs.Prelude.{◌≡◌, ◌≢◌, ◌⊎◌, ◌+◌, ◌-◌, ◌^◌, ◌<◌, ◌≤◌, ◌↔◌, ℕ, Some, None};
-ghost use Rattle.std.specs.Prelude.{IfSome, IfNone, IfOk, IsOk, OnOk, OnErr, IsErrOf, IsSome, IsNone};
+ghost use Rattle.std.specs.Prelude.{IfSome, IfNone, IfOk, IsOk, OnOk, OnErr, IsErrOf, IsSome};
 ghost use Rattle.std.specs.Prelude.{OnSome, IsTrue, false, length, take, drop, map, ◌∷◌, ◌++◌, []};
 ghost use Rattle.std.specs.Int.NonZero.{non_zero_u32_get};
 ghost use Rattle.triple_arena_stack.specs.Room.{room_after};
@@ -313,11 +313,8 @@ impl SlotMap {
     fn is_at_end(&self) -> bool
         ensures { IsTrue result ↔ IsAtEnd self.now }
     {
-        if self.is_spent {
-            return true;
-        }
         match self.arena.singular_generation() {
-            Some(counter) => counter.get() == u32::MAX,
+            Some(counter) => self.is_spent || counter.get() == u32::MAX,
             None => unreachable!(),
         }
     }
