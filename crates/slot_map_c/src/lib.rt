@@ -14,9 +14,11 @@ ghost use Rattle.std.specs.Prelude.{IsTrue, IsSome, true, false, length, take, d
 ghost use Rattle.std.specs.Prelude.{map as list_map};
 ghost use Rattle.triple_arena_stack.specs.Room.{room_after};
 ghost use Rattle.triple_arena.specs.Changes.{IsInserted, IsRemoved, IsCleared, IsCompressed};
-ghost use Rattle.triple_arena.specs.Compression.{pointer_of, value_of};
+ghost use Rattle.triple_arena.specs.Compression.{compacted, pointer_of, renewed, value_of};
 ghost use Rattle.triple_arena.specs.Content.{arena_capacity, entry_at, live_count, next_index};
 ghost use Rattle.triple_arena.specs.Content.{some_counter, with_value, reallocated};
+ghost use Rattle.triple_arena.specs.Content.{inserted as inserted_in, removed as removed_in};
+ghost use Rattle.triple_arena.specs.Content.{cleared as cleared_in, grown_if_full};
 ghost use Rattle.triple_arena.specs.Entries.{with_value_at};
 ghost use Rattle.triple_arena.specs.LiveEntries.{live_entries};
 ghost use Rattle.slot_map_c.specs.Held.{HasEnded, OnKept, count, spent, value_at};
@@ -144,6 +146,8 @@ pub extern "C" fn slot_map_insert(
     ensures inserted { result ≡ 0 → OnKept map.old.kept (λ was. OnKept map.new.kept (λ is.
         IsInserted entry_at live_count some_counter (next_index was.arena) handle.new.index
         handle.new.generation value was.arena is.arena)) }
+    ensures exact { result ≡ 0 → OnKept map.old.kept (λ was. OnKept map.new.kept (λ is.
+        is.arena ≡ inserted_in (grown_if_full was.arena) value)) }
     ensures found { result ≡ 0
         → value_at map.new.kept handle.new.index handle.new.generation ≡ Some value }
     ensures vacant { result ≡ 0
@@ -285,6 +289,8 @@ pub extern "C" fn slot_map_remove(
     ensures removed { result ≡ 0 → OnKept map.old.kept (λ was. OnKept map.new.kept
         (λ is. IsRemoved entry_at live_count some_counter (λ c. c.room) (Some greatest)
         handle.index was.arena is.arena)) }
+    ensures exact { result ≡ 0 → OnKept map.old.kept (λ was. OnKept map.new.kept
+        (λ is. is.arena ≡ removed_in (Some greatest) was.arena handle.index)) }
     ensures value { result ≡ 0
         → value_at map.old.kept handle.index handle.generation ≡ Some value.new }
     ensures live { result ≡ 0 → count map.new.kept + 1 ≡ count map.old.kept }
@@ -327,6 +333,8 @@ pub extern "C" fn slot_map_clear(alloc: Global, map: &mut Holder) -> u8
     ensures cleared { result ≡ 0 → OnKept map.old.kept (λ was. OnKept map.new.kept
         (λ is. IsCleared entry_at live_count some_counter (λ c. c.room) (Some greatest)
         was.arena is.arena)) }
+    ensures exact { result ≡ 0 → OnKept map.old.kept (λ was. OnKept map.new.kept
+        (λ is. is.arena ≡ cleared_in (Some greatest) was.arena)) }
     ensures none { (index generation : ℕ) → value_at map.new.kept index generation ≡ None }
     ensures live { count map.new.kept ≡ 0 }
     ensures ends { (index generation : ℕ) → IsSome (value_at map.old.kept index generation)
@@ -364,6 +372,9 @@ pub extern "C" fn slot_map_compress(
     ensures compressed { result ≡ 0 → OnKept map.old.kept (λ was. OnKept map.new.kept (λ is.
         IsCompressed entry_at live_count some_counter (λ c. c.room) (Some greatest) live_entries
         false was.arena is.arena)) }
+    ensures exact { result ≡ 0 → OnKept map.old.kept (λ was. OnKept map.new.kept (λ is. is.arena
+        ≡ compacted (renewed (Some greatest) false was.arena.counter)
+        (list_map value_of (live_entries was.arena)) was.arena)) }
     ensures values { result ≡ 0 → OnKept map.old.kept (λ was. OnKept map.new.kept (λ is.
         list_map value_of (live_entries is.arena) ≡ list_map value_of (live_entries was.arena))) }
     ensures count { result ≡ 0 → written.new ≡ count map.old.kept }

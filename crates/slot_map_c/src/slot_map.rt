@@ -5,9 +5,11 @@ ghost use Rattle.std.specs.Prelude.{OnSome, IsTrue, false, length, take, drop, m
 ghost use Rattle.std.specs.Int.NonZero.{non_zero_u32_get};
 ghost use Rattle.triple_arena_stack.specs.Room.{room_after};
 ghost use Rattle.triple_arena.specs.Changes.{IsInserted, IsRemoved, IsCleared, IsCompressed};
-ghost use Rattle.triple_arena.specs.Compression.{pointer_of, value_of};
+ghost use Rattle.triple_arena.specs.Compression.{compacted, pointer_of, renewed, value_of};
 ghost use Rattle.triple_arena.specs.Content.{arena_capacity, entry_at, get as get_of, live_count};
 ghost use Rattle.triple_arena.specs.Content.{next_index, some_counter, with_value, reallocated};
+ghost use Rattle.triple_arena.specs.Content.{inserted as inserted_in, removed as removed_in};
+ghost use Rattle.triple_arena.specs.Content.{cleared as cleared_in, grown_if_full};
 ghost use Rattle.triple_arena.specs.Entries.{with_value_at};
 ghost use Rattle.triple_arena.specs.LiveEntries.{live_entries};
 ghost use Rattle.slot_map_c.specs.State.{IsPast, IsAtEnd, fresh, greatest, entries_after, pair_of};
@@ -123,6 +125,8 @@ impl SlotMap {
     pub(crate) fn insert(&mut self, value: u64) -> Result<Handle, Refusal>
         ensures inserted { IfOk result (λ p. IsInserted entry_at live_count some_counter
             (next_index self.old.arena) p.index p.generation value self.old.arena self.new.arena) }
+        ensures exact { OnOk result (self.new.arena
+            ≡ inserted_in (grown_if_full self.old.arena) value) }
         ensures room { OnOk result (self.new.arena.room
             ≡ room_after (live_count self.old.arena) self.old.arena.room) }
         ensures ended { (index generation : ℕ) → IsPast self.old index generation
@@ -214,6 +218,8 @@ impl SlotMap {
         ensures value { result ≡ get_of self.old.arena handle.index handle.generation }
         ensures removed { OnSome result (IsRemoved entry_at live_count some_counter (λ c. c.room)
             (Some greatest) handle.index self.old.arena self.new.arena) }
+        ensures exact { IsSome result
+            → self.new.arena ≡ removed_in (Some greatest) self.old.arena handle.index }
         ensures ends { IsSome result → IsPast self.new handle.index handle.generation }
         ensures ended { (index generation : ℕ) → IsPast self.old index generation
             → IsPast self.new index generation }
@@ -238,6 +244,7 @@ impl SlotMap {
     pub(crate) fn clear(&mut self)
         ensures cleared { IsCleared entry_at live_count some_counter (λ c. c.room) (Some greatest)
             self.old.arena self.new.arena }
+        ensures exact { self.new.arena ≡ cleared_in (Some greatest) self.old.arena }
         ensures ends { (index generation : ℕ)
             → IsSome (get_of self.old.arena index generation) → IsPast self.new index generation }
         ensures ended { (index generation : ℕ) → IsPast self.old index generation
@@ -328,6 +335,9 @@ impl SlotMap {
     ) -> Result<usize, Refusal>
         ensures compressed { OnOk result (IsCompressed entry_at live_count some_counter
             (λ c. c.room) (Some greatest) live_entries false self.old.arena self.new.arena) }
+        ensures exact { OnOk result (self.new.arena
+            ≡ compacted (renewed (Some greatest) false self.old.arena.counter)
+            (map value_of (live_entries self.old.arena)) self.old.arena) }
         ensures values { OnOk result (map value_of (live_entries self.new.arena)
             ≡ map value_of (live_entries self.old.arena)) }
         ensures count { IfOk result (λ n. n ≡ live_count self.old.arena) }
