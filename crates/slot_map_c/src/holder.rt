@@ -8,8 +8,9 @@ use std::alloc::Global;
 use std::marker::Model;
 use std::{mem, ptr};
 
+/// What C keeps of a map: its box as a pointer. It is made of zeros, and keeps none then. It is not
+/// `Drop`, so that nothing lets one go that keeps a map.
 #[repr(C)]
-#[derive(Drop)]
 pub struct Holder {
     at: *mut u8,
     is_made: bool,
@@ -70,6 +71,16 @@ impl Holder {
         match held.into_raw(alloc) {
             Some(raw) => Some(raw.into_box()),
             None => None,
+        }
+    }
+
+    // Keeps a map. One that it kept before is freed.
+    pub(crate) fn put(&mut self, alloc: Global, map: Box<SlotMap>)
+        ensures { self.new.kept ≡ Some map.value }
+    {
+        let held = mem::replace(self, Holder::of(map));
+        if let Some(raw) = held.into_raw(alloc) {
+            drop(raw.into_box());
         }
     }
 }

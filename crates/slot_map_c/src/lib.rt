@@ -45,12 +45,12 @@ pub extern "C" fn slot_map_new(alloc: Global, map: &mut Holder) -> u8
     ensures statuses { (result ≡ 0) ⊎ ((result ≡ 1) ⊎ (result ≡ 6)) }
 {
     if let Some(own) = map.take(alloc) {
-        *map = Holder::of(own);
+        map.put(alloc, own);
         return 6;
     }
     match SlotMap::new(alloc) {
         Some(own) => {
-            *map = Holder::of(own);
+            map.put(alloc, own);
             0
         }
         None => 1,
@@ -79,7 +79,7 @@ pub extern "C" fn slot_map_length(alloc: Global, map: &mut Holder, length: &mut 
         return 5;
     };
     *length = own.len();
-    *map = Holder::of(own);
+    map.put(alloc, own);
     0
 }
 
@@ -98,7 +98,7 @@ pub extern "C" fn slot_map_capacity(alloc: Global, map: &mut Holder, capacity: &
         return 5;
     };
     *capacity = own.capacity();
-    *map = Holder::of(own);
+    map.put(alloc, own);
     0
 }
 
@@ -129,7 +129,7 @@ pub extern "C" fn slot_map_reserve(alloc: Global, map: &mut Holder, min: usize) 
         Ok(()) => 0,
         Err(refusal) => refusal.status(),
     };
-    *map = Holder::of(own);
+    map.put(alloc, own);
     status
 }
 
@@ -183,7 +183,7 @@ pub extern "C" fn slot_map_insert(
         }
         Err(refusal) => refusal.status(),
     };
-    *map = Holder::of(own);
+    map.put(alloc, own);
     status
 }
 
@@ -217,7 +217,7 @@ pub extern "C" fn slot_map_get(
         }
         None => 4,
     };
-    *map = Holder::of(own);
+    map.put(alloc, own);
     status
 }
 
@@ -239,7 +239,7 @@ pub extern "C" fn slot_map_contains(alloc: Global, map: &mut Holder, handle: Han
         Some(_) => 0,
         None => 4,
     };
-    *map = Holder::of(own);
+    map.put(alloc, own);
     status
 }
 
@@ -271,7 +271,7 @@ pub extern "C" fn slot_map_set(alloc: Global, map: &mut Holder, handle: Handle, 
         return 5;
     };
     let status = if own.set(handle, value) { 0 } else { 4 };
-    *map = Holder::of(own);
+    map.put(alloc, own);
     status
 }
 
@@ -321,7 +321,7 @@ pub extern "C" fn slot_map_remove(
         }
         None => 4,
     };
-    *map = Holder::of(own);
+    map.put(alloc, own);
     status
 }
 
@@ -350,7 +350,7 @@ pub extern "C" fn slot_map_clear(alloc: Global, map: &mut Holder) -> u8
         return 5;
     };
     own.clear();
-    *map = Holder::of(own);
+    map.put(alloc, own);
     0
 }
 
@@ -413,7 +413,7 @@ pub extern "C" fn slot_map_compress(
         }
         Err(refusal) => refusal.status(),
     };
-    *map = Holder::of(own);
+    map.put(alloc, own);
     status
 }
 
@@ -458,6 +458,6 @@ pub extern "C" fn slot_map_read(
     let (count, at) = own.read(*last, handles, values);
     *written = count;
     *last = at;
-    *map = Holder::of(own);
+    map.put(alloc, own);
     0
 }
