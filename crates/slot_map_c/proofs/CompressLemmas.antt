@@ -1,13 +1,13 @@
 -- What a compression gives: one generation for all, greater than each that was given before.
-use Rattle.std.proofs.Common.{◌≡◌, ◌≢◌, ◌∙◌, sym, ap, refl, ℕ, zero, suc, ◌+◌, ◌<◌, ◌≤◌, arith}
+use Rattle.std.proofs.Common.{◌≡◌, ◌≢◌, ◌∙◌, sym, ap, refl, ℕ, zero, suc, ◌+◌, ◌≤◌, arith}
 use Rattle.std.proofs.Common.{List, [], ◌∷◌, map, slice_get, false, inl, inr, Option, Some, None}
 use Rattle.std.proofs.Common.{IsSome, IfSome, is_some, true≢false, Bool, true, subst}
 use Rattle.std.specs.Option.{option_map}
 use Rattle.std.proofs.lemmas.Bool.{ne_eqb}
 use Rattle.triple_arena_ptr.specs.Generation.{next_generation}
 use Rattle.triple_arena.specs.Changes.{IsCompressed}
-use Rattle.triple_arena.specs.Compression.{entry_of_listed, generation_of, generation_given}
-use Rattle.triple_arena.specs.Content.{Content, entry_at, get, live_count, some_counter}
+use Rattle.triple_arena.specs.Compression.{entry_of_listed, generation_of}
+use Rattle.triple_arena.specs.Content.{entry_at, get, live_count, some_counter}
 use Rattle.triple_arena.specs.LiveEntries.{live_entries}
 use Rattle.triple_arena.specs.Content.{IsWellFormed}
 use Rattle.triple_arena.specs.ContentLaws.{entry_seen}

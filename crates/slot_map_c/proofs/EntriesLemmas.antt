@@ -1,5 +1,5 @@
 -- The entries past an index, by the steps of a walk.
-use Rattle.std.proofs.Common.{◌≡◌, ◌∙◌, sym, ap, refl, ℕ, zero, suc, ◌+◌, ◌<◌, ◌≤◌, arith, List}
+use Rattle.std.proofs.Common.{◌≡◌, sym, ap, refl, ℕ, zero, suc, ◌+◌, ◌<◌, ◌≤◌, arith, List}
 use Rattle.std.proofs.Common.{[], ◌∷◌, get_or, filter, nat_lt, false, inl, inr, Option, Some, None}
 use Rattle.std.proofs.Common.{IsSome, is_some, true≢false}
 use Rattle.std.proofs.lemmas.Bool.{lt-ltb, le-ltb}

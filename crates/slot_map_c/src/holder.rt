@@ -1,5 +1,5 @@
 //! What C keeps of a map: a pointer, and whether there is one.
-ghost use Rattle.std.specs.Prelude.{◌≡◌, ℕ, Option, Some, None};
+ghost use Rattle.std.specs.Prelude.{◌≡◌, Option, Some, None};
 ghost use Rattle.slot_map_c.specs.Held.{Kept, raw_kept, box_kept};
 
 use crate::slot_map::SlotMap;

@@ -9,8 +9,8 @@
 //! map, 6 it keeps one already, 7 the arrays are too short. At any but 0 nothing has changed.
 #![tactic(auto)]
 
-ghost use Rattle.std.specs.Prelude.{◌≡◌, ◌≢◌, ◌⊎◌, ◌+◌, ◌-◌, ◌^◌, ◌<◌, ◌≤◌, ◌↔◌, ℕ, Some, None};
-ghost use Rattle.std.specs.Prelude.{IsTrue, IsSome, true, false, length, take, drop, ◌++◌, []};
+ghost use Rattle.std.specs.Prelude.{◌≡◌, ◌≢◌, ◌⊎◌, ◌+◌, ◌<◌, ◌≤◌, ◌↔◌, ℕ, Some, None};
+ghost use Rattle.std.specs.Prelude.{IsTrue, IsSome, false, length, take, drop, ◌++◌, []};
 ghost use Rattle.std.specs.Prelude.{map as list_map};
 ghost use Rattle.triple_arena_stack.specs.Room.{room_after};
 ghost use Rattle.triple_arena.specs.Changes.{IsInserted, IsRemoved, IsCleared, IsCompressed};

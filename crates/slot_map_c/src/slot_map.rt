@@ -1,5 +1,5 @@
 //! A slot map of numbers: an arena that stops in place of giving a handle twice.
-ghost use Rattle.std.specs.Prelude.{◌≡◌, ◌≢◌, ◌⊎◌, ◌+◌, ◌-◌, ◌^◌, ◌<◌, ◌≤◌, ◌↔◌, ℕ, Some, None};
+ghost use Rattle.std.specs.Prelude.{◌≡◌, ◌⊎◌, ◌+◌, ◌<◌, ◌≤◌, ◌↔◌, ℕ, Some, None};
 ghost use Rattle.std.specs.Prelude.{IfSome, IfNone, IfOk, IsOk, OnOk, OnErr, IsErrOf, IsSome};
 ghost use Rattle.std.specs.Prelude.{OnSome, IsTrue, false, length, take, drop, map, ◌∷◌, ◌++◌, []};
 ghost use Rattle.std.specs.Int.NonZero.{non_zero_u32_get};
