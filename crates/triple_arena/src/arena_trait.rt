@@ -23,6 +23,7 @@ ghost use Rattle.std.specs.List.Sorted.{IsStrictlyIncreasing};
 ghost use Rattle.triple_arena.specs.Compression.{compression_wraps, index_of, generation_of};
 ghost use Rattle.triple_arena.specs.Compression.{value_of as value_of_entry, IsMapped};
 
+use crate::answers::{answer, valid};
 use crate::drain::Drain;
 use triple_arena_ptr::{
     Advancer, InvalidationOption, InvalidationResult, PtrCore, PtrGenCore, ReallocationError,
@@ -159,6 +160,12 @@ pub trait ArenaTrait<P: PtrCore, T: Drop> {
         ensures value { option_map P.Gen.number result ≡ counter self.now }
         ensures counted { IfSome result (λ g. IsGeneration P.Gen.last (P.Gen.number g)) };
 
+    /// Whether `p` points to a live entry.
+    fn contains(&self, p: P) -> bool
+        ensures value { IsTrue result ↔ IsSome
+            (value_if (P.generation p) (entry_at self.now (P.index p))) }
+        ensures counted { IsGeneration P.Gen.last (P.generation p) };
+
     /// The generation and the value at an index, if it is live.
     fn get_inx(&self, i: P::Inx) -> Option<(P::Gen, &T)>
         ensures { option_map (λ e. (P.Gen.number e.0, e.1.now)) result
@@ -207,18 +214,19 @@ pub trait ArenaTrait<P: PtrCore, T: Drop> {
         ensures falling_from { rev ≡ true
             → (walk result).high ≡ min (P.Inx.number i) (2 ^ 64 - 1) };
 
-    /// Removes the entry at an index, and steps the counter, if there is one. It returns
-    /// `InvalidPtr`, and changes nothing, if the index is not live.
-    fn remove_inx(&mut self, i: P::Inx) -> InvalidationResult<(P::Gen, T)>
-        ensures value { option_map (λ a. (P.Gen.number (value_of a).0, (value_of a).1))
-            (answer_of result) ≡ entry_at self.old (P.Inx.number i) }
-        ensures overflow { IfSome (answer_of result)
-            (λ a. overflowed a ≡ counter_wraps P.Gen.last (counter self.old)) }
-        ensures removed { OnSome (answer_of result) (IsRemoved entry_at live_count counter room
-            P.Gen.last (P.Inx.number i) self.old self.new) }
-        ensures exact { OnSome (answer_of result) (is_removed self.old (P.Inx.number i) self.new) }
-        ensures formed { is_formed self.new }
-        ensures invalid { IfNone (answer_of result) (self.new ≡ self.old) };
+    /// Removes the entry at an index that is live, steps the counter, if there is one, and says
+    /// whether the generations started again. The caller owes that the index is live: the call
+    /// makes no test. The entry is not wrapped in the answer, so that a caller who keeps a part of
+    /// it copies no more than that.
+    fn take_inx_unwrap(&mut self, i: P::Inx) -> ((P::Gen, T), bool)
+        requires { IsSome (entry_at self.old (P.Inx.number i)) }
+        ensures value { Some (P.Gen.number result.0.0, result.0.1)
+            ≡ entry_at self.old (P.Inx.number i) }
+        ensures overflow { result.1 ≡ counter_wraps P.Gen.last (counter self.old) }
+        ensures removed { IsRemoved entry_at live_count counter room P.Gen.last
+            (P.Inx.number i) self.old self.new }
+        ensures exact { is_removed self.old (P.Inx.number i) self.new }
+        ensures formed { is_formed self.new };
 
     /// Ends `p` and gives the entry another pointer, with the stepped generation, so that `p` finds
     /// nothing if generations are counted. If they are not, the pointer is equal to `p`. It returns
@@ -358,9 +366,10 @@ pub trait ArenaTrait<P: PtrCore, T: Drop> {
         ensures { option_copied result ≡ value_if (P.generation p)
             (entry_at self.now (P.index p)) }
     {
-        match self.get_inx(p.inx()) {
-            Some((generation, value)) if generation == p.generation() => Some(value),
-            _ => None,
+        if self.contains(p) {
+            Some(self.get_inx_unwrap(p.inx()))
+        } else {
+            None
         }
     }
 
@@ -371,7 +380,7 @@ pub trait ArenaTrait<P: PtrCore, T: Drop> {
         ensures value { option_copied_mut result
             ≡ value_if (P.generation p) (entry_at self.old (P.index p)) }
     {
-        if self.get(p).is_some() {
+        if self.contains(p) {
             Some(self.get_inx_mut_unwrap(p.inx()))
         } else {
             None
@@ -397,13 +406,31 @@ pub trait ArenaTrait<P: PtrCore, T: Drop> {
         if !self.contains(p) {
             return InvalidationResult::InvalidPtr;
         }
-        match self.remove_inx(p.inx()) {
-            InvalidationResult::Success((_, t)) => InvalidationResult::Success(t),
-            InvalidationResult::GenerationOverflow((_, t)) => {
-                InvalidationResult::GenerationOverflow(t)
-            }
-            InvalidationResult::InvalidPtr => unreached!(),
+        let ((_, value), wrapped) = self.take_inx_unwrap(p.inx());
+        valid(answer(wrapped, value))
+    }
+
+    /// Removes the entry at an index, and steps the counter, if there is one. It returns
+    /// `InvalidPtr`, and changes nothing, if the index is not live.
+    #[inline(always)]
+    final fn remove_inx(&mut self, i: P::Inx) -> InvalidationResult<(P::Gen, T)>
+        ensures value { option_map (λ a. (P.Gen.number (value_of a).0, (value_of a).1))
+            (answer_of result) ≡ entry_at self.old (P.Inx.number i) }
+        ensures overflow { IfSome (answer_of result)
+            (λ a. overflowed a ≡ counter_wraps P.Gen.last (counter self.old)) }
+        ensures removed { OnSome (answer_of result) (IsRemoved entry_at live_count counter room
+            P.Gen.last (P.Inx.number i) self.old self.new) }
+        ensures exact { OnSome (answer_of result) (is_removed self.old (P.Inx.number i) self.new) }
+        ensures formed { is_formed self.new }
+        ensures invalid { IfNone (answer_of result) (self.new ≡ self.old) }
+    {
+        // The arena is well-formed.
+        let _ = self.len();
+        if self.get_inx(i).is_none() {
+            return InvalidationResult::InvalidPtr;
         }
+        let (entry, wrapped) = self.take_inx_unwrap(i);
+        valid(answer(wrapped, entry))
     }
 
     /// Whether there is no entry.
@@ -411,17 +438,6 @@ pub trait ArenaTrait<P: PtrCore, T: Drop> {
         ensures { IsTrue result ↔ (live_count self.now ≡ 0) }
     {
         self.len() == 0
-    }
-
-    /// Whether `p` points to a live entry.
-    final fn contains(&self, p: P) -> bool
-        ensures value { IsTrue result ↔ IsSome
-            (value_if (P.generation p) (entry_at self.now (P.index p))) }
-        ensures counted { IsGeneration P.Gen.last (P.generation p) }
-    {
-        // It is one of the generations.
-        let _ = p.generation().generational_inc();
-        self.get(p).is_some()
     }
 
     /// The value at an index that is live.

@@ -17,7 +17,7 @@ use crate::lent_slots::{LentValue, SlotKey};
 use std::marker::Model;
 use std::mem;
 use std::num::NonZeroUsize;
-use triple_arena_ptr::{OptionalInx, PtrCore, PtrGenCore, PtrInxCore};
+use triple_arena_ptr::{FreeMark, OptionalInx, PtrCore, PtrGenCore, PtrInxCore};
 use triple_arena_stack::{NonZeroInxGenericStack, get_disjoint_mut};
 use unreached::unreached;
 
@@ -30,8 +30,9 @@ pub struct ArenaSlot<P: PtrCore, T> {
 
 #[derive(Drop)]
 enum SlotState<O, G, T> {
-    // The free index after it, and the one before it: in this order a removal's writes are fewest.
-    Free(O, O),
+    // A mark where the other has its generation, the free index after it, and the one before it: in
+    // this order a removal's writes are fewest.
+    Free(FreeMark, O, O),
     Used(G, T),
 }
 
@@ -58,7 +59,7 @@ impl<O, G, T> ValueMut<T> for SlotState<O, G, T> {
     fn value_mut(&mut self) -> &mut T {
         match self {
             SlotState::Used(_, value) => value,
-            SlotState::Free(_, _) => unreached!(),
+            SlotState::Free(_, _, _) => unreached!(),
         }
     }
 }
@@ -73,7 +74,7 @@ impl<O, G, T> LentValue<T> for SlotState<O, G, T> {
     fn value_mut_if(&mut self) -> Option<&mut T> {
         match self {
             SlotState::Used(_, value) => Some(value),
-            SlotState::Free(_, _) => None,
+            SlotState::Free(_, _, _) => None,
         }
     }
 }
@@ -108,7 +109,7 @@ impl<P: PtrCore, T> ArenaSlot<P, T> {
         ensures { result ≡ free (option_map P.Inx.number prev) (option_map P.Inx.number next) }
     {
         ArenaSlot {
-            state: SlotState::Free(next, prev),
+            state: SlotState::Free(FreeMark::new(), next, prev),
         }
     }
 
@@ -126,7 +127,7 @@ impl<P: PtrCore, T> ArenaSlot<P, T> {
     {
         match &self.state {
             SlotState::Used(generation, value) => Some((*generation, value)),
-            SlotState::Free(_, _) => None,
+            SlotState::Free(_, _, _) => None,
         }
     }
 
@@ -136,7 +137,7 @@ impl<P: PtrCore, T> ArenaSlot<P, T> {
     {
         match &mut self.state {
             SlotState::Used(own, _) => *own = generation,
-            SlotState::Free(_, _) => {}
+            SlotState::Free(_, _, _) => {}
         }
     }
 
@@ -146,23 +147,19 @@ impl<P: PtrCore, T> ArenaSlot<P, T> {
     {
         match &self.state {
             SlotState::Used(_, value) => Some(value),
-            SlotState::Free(_, _) => None,
+            SlotState::Free(_, _, _) => None,
         }
     }
 
-    // The value, if the slot is allocated with this generation.
-    pub(crate) fn get(&self, generation: P::Gen) -> Option<&T>
-        ensures { option_copied result ≡ value_if (P.Gen.number generation) (entry_of self.now) }
+    // Whether the slot is allocated with this generation. The mark of a free slot lies where an
+    // allocated one has its generation, and is none, so one comparison tells both.
+    pub(crate) fn is_at(&self, generation: P::Gen) -> bool
+        ensures { IsTrue result
+            ↔ IsSome (value_if (P.Gen.number generation) (entry_of self.now)) }
     {
         match &self.state {
-            SlotState::Used(own, value) => {
-                if *own == generation {
-                    Some(value)
-                } else {
-                    None
-                }
-            }
-            SlotState::Free(_, _) => None,
+            SlotState::Used(own, _) => *own == generation,
+            SlotState::Free(mark, _, _) => generation.is_free_mark(*mark),
         }
     }
 
@@ -172,7 +169,7 @@ impl<P: PtrCore, T> ArenaSlot<P, T> {
     {
         match &self.state {
             SlotState::Used(_, _) => None,
-            SlotState::Free(next, prev) => Some((*prev, *next)),
+            SlotState::Free(_, next, prev) => Some((*prev, *next)),
         }
     }
 
@@ -185,7 +182,7 @@ impl<P: PtrCore, T> ArenaSlot<P, T> {
     {
         match &self.state {
             SlotState::Used(_, _) => None,
-            SlotState::Free(next, prev) => Some((index_of::<P>(*prev), index_of::<P>(*next))),
+            SlotState::Free(_, next, prev) => Some((index_of::<P>(*prev), index_of::<P>(*next))),
         }
     }
 
@@ -196,7 +193,7 @@ impl<P: PtrCore, T> ArenaSlot<P, T> {
     {
         match &mut self.state {
             SlotState::Used(_, _) => false,
-            SlotState::Free(own_next, own_prev) => {
+            SlotState::Free(_, own_next, own_prev) => {
                 *own_prev = OptionalInx::none();
                 *own_next = next;
                 true
@@ -212,7 +209,7 @@ impl<P: PtrCore, T> ArenaSlot<P, T> {
     {
         match &mut self.state {
             SlotState::Used(_, _) => unreached!(),
-            SlotState::Free(_, own) => *own = prev,
+            SlotState::Free(_, _, own) => *own = prev,
         }
     }
 
@@ -224,7 +221,7 @@ impl<P: PtrCore, T> ArenaSlot<P, T> {
     {
         match &mut self.state {
             SlotState::Used(_, _) => unreached!(),
-            SlotState::Free(own, _) => *own = next,
+            SlotState::Free(_, own, _) => *own = next,
         }
     }
 
@@ -239,7 +236,7 @@ impl<P: PtrCore, T> ArenaSlot<P, T> {
         let ArenaSlot { state } = self;
         match state {
             SlotState::Used(_, _) => unreached!(),
-            SlotState::Free(next, _) => next,
+            SlotState::Free(_, next, _) => next,
         }
     }
 
@@ -252,7 +249,7 @@ impl<P: PtrCore, T> ArenaSlot<P, T> {
         let ArenaSlot { state } = self;
         match state {
             SlotState::Used(generation, value) => (generation, value),
-            SlotState::Free(_, _) => unreached!(),
+            SlotState::Free(_, _, _) => unreached!(),
         }
     }
 }
@@ -287,7 +284,7 @@ impl<P: PtrCore, T> EntrySlot<P, T> for ArenaSlot<P, T> {
         let ArenaSlot { state } = self;
         match state {
             SlotState::Used(generation, value) => Some((generation, value)),
-            SlotState::Free(_, _) => None,
+            SlotState::Free(_, _, _) => None,
         }
     }
 }
@@ -320,7 +317,7 @@ impl<P: PtrCore, T> SlotKey<P::Gen> for ArenaSlot<P, T> {
     fn slot_key(&mut self) -> Option<P::Gen> {
         match &self.state {
             SlotState::Used(generation, _) => Some(*generation),
-            SlotState::Free(_, _) => None,
+            SlotState::Free(_, _, _) => None,
         }
     }
 }

@@ -8,6 +8,7 @@ ghost use Rattle.triple_arena_ptr.specs.NonZeros.{u8_determined, u16_determined,
 ghost use Rattle.triple_arena_ptr.specs.NonZeros.{u64_determined, u128_determined};
 ghost use Rattle.triple_arena_ptr.specs.NonZeros.{usize_determined};
 
+use crate::free_mark::FreeMark;
 use crate::hexadecimal;
 use crate::ptr::{PtrGen, PtrGenCore};
 use std::fmt;
@@ -161,6 +162,11 @@ impl PtrGenCore for NonZeroU32 {
             Some(next) => (next, false),
             None => (NonZeroU32::two(), true),
         }
+    }
+
+    #[inline(always)]
+    fn is_free_mark(self, mark: FreeMark) -> bool {
+        mark.word == self.get()
     }
 
     fn fmt_hex<W: fmt::Write>(&self, f: &mut fmt::Formatter<W>) -> fmt::Result {

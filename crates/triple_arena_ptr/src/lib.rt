@@ -59,6 +59,7 @@
 
 mod advancer;
 mod errors;
+mod free_mark;
 mod generations;
 mod hexadecimal;
 mod indexes;
@@ -80,6 +81,7 @@ pub use errors::{
     AllocError, ChainInsertionError, DirectInsertionError, GetDisjointMutError,
     MaxCapacityReductionError, NotWithinCapacityError, OrdInsertionError, ReallocationError,
 };
+pub use free_mark::FreeMark;
 pub use indexes::{U64Word, UsizeWord};
 pub use invalidation::{InvalidationOption, InvalidationResult};
 pub use nzusize::{IntoNonZeroUsizeIterator, NonZeroUsizeIterator, nzusize_iter};

@@ -1,6 +1,6 @@
 //! What an index, a generation and a pointer are.
 ghost use Rattle.std.specs.Prelude.{◌≡◌, ℕ, ◌<◌, ◌≤◌, ◌^◌, ◌==◌, ◌&&◌, ◌↔◌, List, Option, Some};
-ghost use Rattle.std.specs.Prelude.{None, IsNone, IfSome};
+ghost use Rattle.std.specs.Prelude.{None, IsNone, IfSome, false};
 ghost use Rattle.std.specs.Ordering.{nat_cmp, on, then_cmp};
 ghost use Rattle.std.specs.Fmt.{WritesOnOk};
 ghost use Rattle.std.specs.Int.NonZero.{non_zero_usize_get};
@@ -10,6 +10,7 @@ ghost use Rattle.triple_arena_ptr.specs.Hexadecimal.{hexadecimal};
 ghost use Rattle.triple_arena_ptr.specs.Index.{max_index_of};
 ghost use Rattle.triple_arena_ptr.specs.Pointer.{generation_digits, pointer_text};
 
+use crate::free_mark::FreeMark;
 use std::fmt;
 use std::fmt::Debug;
 use std::hash::Hash;
@@ -42,6 +43,14 @@ pub trait PtrGenCore: Copy + PartialEq + Drop {
     fn fmt_hex<W: fmt::Write>(&self, f: &mut fmt::Formatter<W>) -> fmt::Result
         ensures { WritesOnOk W.write_str_gives f.old result
             (generation_digits last (number self.now)) f.new };
+
+    /// Whether the generation is the mark of a free slot: it never is. Generations of 32 bits
+    /// compare their bits, which lie where the mark does; no other type needs to write this.
+    fn is_free_mark(self, _mark: FreeMark) -> bool
+        ensures { result ≡ false }
+    {
+        false
+    }
 
     // If generations are counted, they count to 2 at least.
     ghost counts_to_two: { (g : ℕ) → last ≡ Some g → 2 ≤ g };

@@ -134,6 +134,12 @@ impl<P: PtrCore, T: Drop, S: ArenaSlots<P, T>> ArenaTrait<P, T> for Arena<P, T, 
         Some(self.counter)
     }
 
+    fn contains(&self, p: P) -> bool {
+        // It is one of the generations.
+        let _ = p.generation().generational_inc();
+        self.live_index(p).is_some()
+    }
+
     fn get_inx(&self, i: P::Inx) -> Option<(P::Gen, &T)> {
         // The number of slots is a `usize`, so no index past that is live.
         let _ = self.slots.len();
@@ -171,15 +177,13 @@ impl<P: PtrCore, T: Drop, S: ArenaSlots<P, T>> ArenaTrait<P, T> for Arena<P, T, 
         PtrAdvancer::from_index(i, self.slot_count(), rev)
     }
 
-    fn remove_inx(&mut self, i: P::Inx) -> InvalidationResult<(P::Gen, T)> {
-        // The arena is well-formed before.
-        self.recall_formed();
-        match self.live_inx(i) {
-            Some(_) => {
-                let (entry, wrapped) = self.take_inx_unwrap(i);
-                valid(answer(wrapped, entry))
-            }
-            None => InvalidationResult::InvalidPtr,
+    #[inline(always)]
+    fn take_inx_unwrap(&mut self, i: P::Inx) -> ((P::Gen, T), bool) {
+        // The number of slots is a `usize`, so no index past that is live.
+        let _ = self.slots.len();
+        match i.try_into_usize() {
+            Some(i) => self.remove_at(i),
+            None => unreached!(),
         }
     }
 

@@ -24,7 +24,7 @@ impl<P: PtrCore, T: Drop, S: ArenaSlots<P, T>> Arena<P, T, S> {
         match p.inx().try_into_usize() {
             Some(i) => match self.slots.get(i) {
                 Some(slot) => {
-                    if slot.get(p.generation()).is_some() {
+                    if slot.is_at(p.generation()) {
                         Some(i)
                     } else {
                         None

@@ -38,29 +38,6 @@ impl<P: PtrCore, T: Drop, S: ArenaSlots<P, T>> Arena<P, T, S> {
         (entry, wrapped)
     }
 
-    /// Removes the entry at an index that is live, steps the counter, and says whether the
-    /// generations started again. The caller owes that the index is live: the call makes no test.
-    /// The entry is not wrapped in the answer, so that a caller who keeps a part of it copies no
-    /// more than that.
-    #[inline(always)]
-    pub fn take_inx_unwrap(&mut self, i: P::Inx) -> ((P::Gen, T), bool)
-        requires { IsSome (entry_at self.old (P.Inx.number i)) }
-        ensures value { Some (P.Gen.number result.0.0, result.0.1)
-            ≡ entry_at self.old (P.Inx.number i) }
-        ensures overflow { result.1 ≡ next_wraps P.Gen.last self.old.counter }
-        ensures removed { IsRemoved entry_at live_count some_counter (λ c. c.room) P.Gen.last
-            (P.Inx.number i) self.old self.new }
-        ensures exact { self.new ≡ removed P.Gen.last self.old (P.Inx.number i) }
-        ensures formed { IsWellFormed self.new }
-    {
-        // The number of slots is a `usize`, so no index past that is live.
-        let _ = self.slots.len();
-        match i.try_into_usize() {
-            Some(i) => self.remove_at(i),
-            None => unreached!(),
-        }
-    }
-
     // Takes the entry at `i`, which is live, and leaves the counter.
     #[inline]
     pub(crate) fn take_at(&mut self, i: NonZeroUsize) -> (P::Gen, T)

@@ -121,6 +121,10 @@ impl<P: PtrCore, T: Drop, S: ChainSlots<P, T>> ArenaTrait<P, T> for ChainArena<P
         self.arena.singular_generation()
     }
 
+    fn contains(&self, p: P) -> bool {
+        self.arena.contains(p)
+    }
+
     fn get_inx(&self, i: P::Inx) -> Option<(P::Gen, &T)> {
         match self.arena.get_inx(i) {
             Some((generation, link)) => Some((generation, &link.t)),
@@ -148,16 +152,10 @@ impl<P: PtrCore, T: Drop, S: ChainSlots<P, T>> ArenaTrait<P, T> for ChainArena<P
         self.arena.advancer_inx(i, rev)
     }
 
-    fn remove_inx(&mut self, i: P::Inx) -> InvalidationResult<(P::Gen, T)> {
-        match self.remove_inx_link_no_gen(i) {
-            InvalidationResult::Success((generation, link)) => {
-                InvalidationResult::Success((generation, link.t))
-            }
-            InvalidationResult::GenerationOverflow((generation, link)) => {
-                InvalidationResult::GenerationOverflow((generation, link.t))
-            }
-            InvalidationResult::InvalidPtr => InvalidationResult::InvalidPtr,
-        }
+    #[inline(always)]
+    fn take_inx_unwrap(&mut self, i: P::Inx) -> ((P::Gen, T), bool) {
+        let ((generation, link), wrapped) = self.take_inx_link_unwrap(i);
+        ((generation, link.t), wrapped)
     }
 
     fn invalidate(&mut self, p: P) -> InvalidationResult<P> {

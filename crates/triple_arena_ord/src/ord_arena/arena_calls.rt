@@ -23,6 +23,7 @@ ghost use Rattle.triple_arena_ord.specs.States.{invalidated_in, cleared_in, drai
 
 use crate::ord_arena::compression::ends_of_list;
 use crate::ord_arena::mapping::compact_nodes;
+use crate::ord_arena::removal::neighbors;
 use crate::rebuild::rebuild;
 use crate::{OrdSlots, SimpleOrdArena};
 use triple_arena::arena_iterators::PtrAdvancer;
@@ -147,6 +148,10 @@ impl<P: PtrCore, T: Drop, S: OrdSlots<P, T>> ArenaTrait<P, T> for SimpleOrdArena
         self.chains.singular_generation()
     }
 
+    fn contains(&self, p: P) -> bool {
+        self.chains.contains(p)
+    }
+
     fn get_inx(&self, i: P::Inx) -> Option<(P::Gen, &T)> {
         match self.chains.get_inx(i) {
             Some((generation, node)) => Some((generation, &node.t)),
@@ -175,19 +180,11 @@ impl<P: PtrCore, T: Drop, S: OrdSlots<P, T>> ArenaTrait<P, T> for SimpleOrdArena
     }
 
     #[inline(always)]
-    fn remove_inx(&mut self, i: P::Inx) -> InvalidationResult<(P::Gen, T)> {
-        let Some((_, link)) = self.chains.get_inx_link_no_gen(i) else {
-            self.recall_formed();
-            return InvalidationResult::InvalidPtr;
-        };
-        let (prev, next) = (link.prev(), link.next());
-        let (entry, wrapped) = self.remove_live(i, prev, next);
+    fn take_inx_unwrap(&mut self, i: P::Inx) -> ((P::Gen, T), bool) {
+        let (prev, next) = neighbors(&self.chains, i);
+        let taken = self.remove_live(i, prev, next);
         self.recall_formed();
-        if wrapped {
-            InvalidationResult::GenerationOverflow(entry)
-        } else {
-            InvalidationResult::Success(entry)
-        }
+        taken
     }
 
     fn invalidate(&mut self, p: P) -> InvalidationResult<P> {
