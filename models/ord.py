@@ -109,17 +109,17 @@ ARENAS['copies'] += [('P1', 'copying-array')]
 ARENAS['searches'] += [('P0', 'array'), ('P1', 'array')]
 COMMON = {
     'lists': '''
-        insert insert insert insert remove remove_inx find_key invalidate advancer_ordered
-        walk_over_a_change get get_inx_link_no_gen show first last set_value walk_from
-        walk_back_from compare repair lower_bound upper_bound
+        insert insert insert insert get_or_insert get_or_insert_within_capacity remove remove_inx
+        find_key invalidate advancer_ordered walk_over_a_change get get_inx_link_no_gen show first
+        last set_value walk_from walk_back_from compare repair lower_bound upper_bound
     '''.split(),
     'copies': '''
         insert insert insert insert remove remove_inx find_key invalidate get get_inx show first
         last iter_ordered walk_from walk_back_from repair
     '''.split(),
     'searches': '''
-        insert insert insert_within_capacity insert_reallocating entry entry entry remove
-        remove_inx search search search search invalidate show check repair
+        insert insert insert_within_capacity insert_reallocating get_or_insert_counted entry entry
+        entry remove remove_inx search search search search invalidate show check repair
     '''.split(),
 }
 RARE = {
@@ -211,7 +211,7 @@ def a_call(r, s, verb, most, k, v, i, g, num):
         return verb, [i, g, k, v]
     if verb in ('set_inx', 'set_inx_unwrap'):
         return verb, [i, k, v]
-    if verb in ('insert', 'insert_within_capacity', 'insert_reallocating'):
+    if verb.startswith(('insert', 'get_or_insert')):
         return verb, [k, v]
     if verb in ('remove', 'invalidate', 'get', 'contains', 'index'):
         return verb, [i, g]

@@ -350,6 +350,13 @@ class Arena:
                 told = told.replace(word, '', 1).replace('),', ',', 1)
         return told, work
 
+    def get_or_insert(self, k, v, growing):
+        """The same of one that leaves an entry with the key as it is."""
+        n, is_there = self.kind_place('normal', k, 0, 0)
+        if is_there:
+            return f'Ok(({self.name(self.order[n])}, Some(({k}, {v}))))', self.work()
+        return self.insert(k, v, growing)
+
     def grow(self, kind, factor, last, num, start):
         worst, i = 'Nothing', self.i(start)
         if not self.ascends() or any(len(self.equals(k)) > 1 for k in range(1, last + 1)):
@@ -404,6 +411,9 @@ class Arena:
             return self.answer_named(verb, x, y, z, u, w)
         if verb in ('insert', 'insert_reallocating', 'insert_within_capacity'):
             told, work = self.insert(x, y, verb != 'insert_within_capacity')
+            return [f'({told}, {work})' if self.counting else told]
+        if verb.startswith('get_or_insert'):
+            told, work = self.get_or_insert(x, y, not verb.endswith('within_capacity'))
             return [f'({told}, {work})' if self.counting else told]
         if verb.startswith('find_') and not verb.endswith('inx_ptr'):
             place, work = self.search(verb, x, y, self.i(z), self.g(u))

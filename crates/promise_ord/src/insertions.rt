@@ -4,8 +4,8 @@ ghost use Rattle.std.specs.Prelude.{◌≡◌, ◌<◌, ℕ, Some, None, IsSome,
 ghost use Rattle.std.specs.Option.{option_map};
 ghost use Rattle.std.specs.Borrow.{sem, RestsIfErr};
 ghost use Rattle.triple_arena.specs.Content.{arena_capacity};
-ghost use Rattle.triple_arena_ord.specs.Inserted.{AddsAt, InsertsAt, InsertsByKey, Replaces};
-ghost use Rattle.triple_arena_ord.specs.Inserted.{under, within_room};
+ghost use Rattle.triple_arena_ord.specs.Inserted.{AddsAt, InsertsAt, InsertsByKey, GetsOrInserts};
+ghost use Rattle.triple_arena_ord.specs.Inserted.{Replaces, under, within_room};
 ghost use Rattle.triple_arena_ord.specs.InsertEntry.{entry_arena, entry_lender, entry_place};
 ghost use Rattle.triple_arena_ord.specs.InsertEntry.{IsReady, IsOrdAnswer};
 ghost use Rattle.triple_arena_ord.specs.Placing.{Meets, IsPlaceFor};
@@ -30,6 +30,18 @@ pub fn insert_within_capacity<P: PtrCore, T: SimpleOrdItem + Drop, S: OrdSlots<P
 {
     let inserted = arena.insert_within_capacity(t);
     inserted
+}
+
+/// The entry with an equal key, which stays as it is; or else an item in where its key belongs.
+pub fn get_or_insert<P: PtrCore, T: SimpleOrdItem + Drop, S: OrdSlots<P, T>>(
+    arena: &mut SimpleOrdArena<P, T, S>,
+    t: T,
+) -> Result<(P, Option<T>), OrdInsertionError>
+    ensures { GetsOrInserts P.Inx.number T.Key.cmp T.key_of P.index P.generation
+        (Some S.takes_memory) t result arena.old arena.new }
+{
+    let got = arena.get_or_insert(t);
+    got
 }
 
 /// Puts an item in at an entry that is live: in its place, or directly before or after it.

@@ -14,9 +14,11 @@ mod searches;
 
 pub use copies::clone_from;
 pub use insertions::{
-    entry_insert_within_capacity, insert_inx_manual, insert_inx_manual_within_capacity,
-    insert_within_capacity,
+    entry_insert_within_capacity, get_or_insert, insert_inx_manual,
+    insert_inx_manual_within_capacity, insert_within_capacity,
 };
 pub use layout::compress_canonical;
-pub use removals::remove;
-pub use searches::{bounds_of_small_arenas, find_key_counted, find_key_linear_counted};
+pub use removals::{pop_first, remove, the_first_taken_is_the_least};
+pub use searches::{
+    bounds_of_small_arenas, find_key_counted, find_key_linear_counted, lower_bound,
+};

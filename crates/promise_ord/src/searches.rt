@@ -1,9 +1,11 @@
 //! Searches by key: what each finds, and how often it compares.
-ghost use Rattle.std.specs.Prelude.{◌≡◌, ◌+◌, ◌≤◌, None, IsSome};
+ghost use Rattle.std.specs.Prelude.{◌≡◌, ◌+◌, ◌≤◌, Some, None, IsSome, IfSome};
+ghost use Rattle.std.specs.declared.cmp.Ordering.{Ordering as Way};
 ghost use Rattle.rank_tree.specs.Comparisons.{most_comparisons};
-ghost use Rattle.triple_arena.specs.Entries.{value_if};
+ghost use Rattle.triple_arena.specs.Entries.{generation_at, value_if};
 ghost use Rattle.rank_tree.specs.Search.{asked_down};
 ghost use Rattle.triple_arena_chain.specs.Chains.{On};
+ghost use Rattle.triple_arena_ord.specs.Bounds.{IsBound};
 ghost use Rattle.triple_arena_ord.specs.Near.{IsEndNear, IsKeyCounted, path_from};
 ghost use Rattle.triple_arena_ord.specs.Found.{IsFound};
 ghost use Rattle.triple_arena_ord.specs.Ordered.{IsAscending, tree_in, order_in, entry_in, size_in};
@@ -67,4 +69,20 @@ pub fn find_key_linear_counted<P: PtrCore, T: SimpleOrdItem + Drop, S: OrdSlots<
 {
     let found = arena.find_key_linear_counted(p_init, num, k, probes);
     found
+}
+
+/// Finds the first entry whose key is not less, in a list whose keys ascend: so the first of those
+/// with an equal key, if there is one.
+pub fn lower_bound<P: PtrCore, T: SimpleOrdItem + Drop, S: OrdSlots<P, T>>(
+    arena: &SimpleOrdArena<P, T, S>,
+    k: &T::Key,
+) -> Option<P>
+    ensures bound { IsAscending P.Inx.number T.Key.cmp T.key_of arena.now
+        → IsBound P.Inx.number P.index P.generation
+        (λ t. T.Key.cmp k.now (T.key_of t) ≡ Way.Greater) result arena.now }
+    ensures live { IfSome result (λ p. generation_at (entry_in arena.now) (P.index p)
+        ≡ Some (P.generation p)) }
+{
+    let bound = arena.lower_bound(k);
+    bound
 }

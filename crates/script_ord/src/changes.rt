@@ -20,6 +20,16 @@ impl<P: ShownPtr, S: OrdSlots<P, Item>> Writes for Pairs<P, S> {
         transcript.answer(call.line, &self.arena.insert(new));
     }
 
+    fn get_or_put(&mut self, transcript: &mut Transcript, call: &Call<'_>) {
+        let new = OrdPair::new(call.first, call.second);
+        transcript.answer(call.line, &self.arena.get_or_insert(new));
+    }
+
+    fn get_or_put_within_capacity(&mut self, transcript: &mut Transcript, call: &Call<'_>) {
+        let new = OrdPair::new(call.first, call.second);
+        transcript.answer(call.line, &self.arena.get_or_insert_within_capacity(new));
+    }
+
     fn write_item(&mut self, transcript: &mut Transcript, call: &Call<'_>) {
         let p = call.pointer();
         let is_live = self.arena.contains(p);

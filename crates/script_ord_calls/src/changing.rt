@@ -10,6 +10,11 @@ pub trait Writes {
     /// Puts the pair of the first two numbers in.
     fn put(&mut self, transcript: &mut Transcript, call: &Call<'_>);
 
+    /// Gets an entry with the key of that pair, or puts the pair in.
+    fn get_or_put(&mut self, transcript: &mut Transcript, call: &Call<'_>);
+
+    fn get_or_put_within_capacity(&mut self, transcript: &mut Transcript, call: &Call<'_>);
+
     /// Writes by `arena[p]`, if the pointer is valid, and says whether it is.
     fn write_item(&mut self, transcript: &mut Transcript, call: &Call<'_>);
 
@@ -28,6 +33,8 @@ pub fn changes<A: Writes>(arena: &mut A, transcript: &mut Transcript, call: &Cal
         "set_generation" => arena.write_generation(transcript, call),
         "inc_generation" => arena.step_generation(transcript, line),
         "insert" => arena.put(transcript, call),
+        "get_or_insert" => arena.get_or_put(transcript, call),
+        "get_or_insert_within_capacity" => arena.get_or_put_within_capacity(transcript, call),
         "index_set" => arena.write_item(transcript, call),
         "set_value" => arena.write_value(transcript, call),
         "pop_first" => arena.pop_first(transcript, line),

@@ -34,6 +34,15 @@ pub trait PutsIn<K> {
         limit: Limit,
     );
 
+    /// If no entry has the key; else that entry stays, and the item comes back.
+    fn gets_or_puts(
+        &mut self,
+        transcript: &mut Transcript,
+        line: &str,
+        item: &(K, u64),
+        limit: Limit,
+    );
+
     /// At the index of the third number, if it is live. No key is compared.
     fn puts_at(
         &mut self,
@@ -78,6 +87,7 @@ pub fn inserts<P: PtrCore, K: Counting, A: PutsIn<K> + ShowsKnots<P>>(
         "insert" => arena.puts(transcript, call.line, &new, limit),
         "insert_reallocating" => arena.puts_reallocating(transcript, call.line, &new, limit),
         "insert_within_capacity" => arena.puts_within_capacity(transcript, call.line, &new, limit),
+        "get_or_insert_counted" => arena.gets_or_puts(transcript, call.line, &new, limit),
         "insert_inx_manual:less" => arena.puts_at(transcript, call, &new, Ordering::Less),
         "insert_inx_manual:equal" => arena.puts_at(transcript, call, &new, Ordering::Equal),
         "insert_inx_manual:greater" => arena.puts_at(transcript, call, &new, Ordering::Greater),

@@ -5,7 +5,7 @@ use std::cmp::Ordering;
 use std::fmt::Debug;
 use test_kit::{Call, Transcript, index};
 use triple_arena::{ArenaTrait, PtrCore};
-use triple_arena_ord::{OrdPair, OrdSlots};
+use triple_arena_ord::{OrdPair, OrdSlots, Probes};
 
 impl<P: PtrCore, K: CountingKey, S: OrdSlots<P, Item<K>>> Pairs<P, K, S> {
     // The only entry, or why there can be none.
@@ -67,6 +67,21 @@ impl<P: PtrCore + Debug, K: CountingKey, S: OrdSlots<P, Item<K>>> PutsIn<K> for 
             .arena
             .insert_within_capacity(OrdPair::new(item.0, item.1));
         tell(transcript, line, &answer, limit, &since);
+    }
+
+    fn gets_or_puts(
+        &mut self,
+        transcript: &mut Transcript,
+        line: &str,
+        item: &(K, u64),
+        limit: Limit,
+    ) {
+        let since = Since::now(item.0);
+        let mut probes = Probes::new();
+        let new = OrdPair::new(item.0, item.1);
+        let answer = self.arena.get_or_insert_counted(new, &mut probes);
+        let work = limit.held(probes.count(), since.count());
+        transcript.answer(line, &(answer, work));
     }
 
     fn puts_at(

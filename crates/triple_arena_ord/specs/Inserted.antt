@@ -20,6 +20,7 @@ use Rattle.triple_arena_ord.specs.Node.{knots_in, items_in}
 use Rattle.rank_tree.specs.Search.{AllIn}
 use Rattle.triple_arena_ord.specs.Ordered.{Ordered, IsOrdered, IsAscending, StandsBeside}
 use Rattle.triple_arena_ord.specs.Ordered.{order_in, entry_in, size_in, asked_at}
+use Rattle.triple_arena_ord.specs.Found.{Answers}
 
 -- one more index stands where a search ended: before or after the index that was asked last, or
 -- alone
@@ -197,4 +198,13 @@ module _ {I T : Type 0} (number : I → ℕ) where
         pub ascending : IsAscending number cmp key old → IsAscending number cmp key new
         pub counter : new.chains.counter ≡ old.chains.counter
         pub room : new.chains.room ≡ room_left growth result (size_in old) old.chains.room
+        pub ordered : IsOrdered number new
+
+      -- the same, but an entry with an equal key stays: then nothing changes, and `t` comes back
+      pub record GetsOrInserts (growth : Option Bool) (t : T)
+          (result : Result (P × Option T) OrdInsertionError) (old new : Ordered I T) : Type 0 where
+        pub found : (p : P) (u : T) → result ≡ Ok (p, Some u) → (u ≡ t) × (new ≡ old)
+            × Answers index generation (asked_at cmp key (key t) old) old p Equal
+        pub inserted : ((p : P) (u : T) → result ≢ Ok (p, Some u))
+            → InsertsByKey growth t result old new
         pub ordered : IsOrdered number new

@@ -13,7 +13,7 @@ ghost use Rattle.triple_arena_ord.specs.Asked.{IsWay};
 ghost use Rattle.triple_arena_ord.specs.AskedLaws.{IsCutAt, last_greater, last_less};
 ghost use Rattle.triple_arena_ord.specs.CanonicalLayout.{IsLaidInOrder};
 ghost use Rattle.triple_arena_ord.specs.Indexed.{indexed};
-ghost use Rattle.triple_arena_ord.specs.Inserted.{InsertsAt, IsReplaced};
+ghost use Rattle.triple_arena_ord.specs.Inserted.{InsertsAt, IsAdded, IsReplaced};
 ghost use Rattle.triple_arena_ord.specs.ItemRecasting.{recasted_in};
 ghost use Rattle.triple_arena_ord.specs.Ordered.{Ordered, IsOrdered, IsAscending, tree_in};
 ghost use Rattle.triple_arena_ord.specs.Ordered.{order_in, ordered_entries, entry_in, size_in};
@@ -122,7 +122,8 @@ pub fn limits_keep_the_list<P: PtrCore, T>()
 {}
 
 /// A list whose keys ascend still does after an insertion at the place that was found for the
-/// item's key, and after one that goes directly before an entry with an equal key there.
+/// item's key, after one that goes directly before an entry with an equal key there, and after any
+/// that goes between keys that are not greater and keys that are not less.
 pub fn insertions_keep_keys_ascending<P: PtrCore, T: SimpleOrdItem>()
     ensures by_key { (place : Option (ℕ × Way)) (t : T) (result : Result (P × Option T) Refused)
         (old new : Ordered P.Inx T)
@@ -136,6 +137,14 @@ pub fn insertions_keep_keys_ascending<P: PtrCore, T: SimpleOrdItem>()
         → (growth : Option Bool) → IsOrdered P.Inx.number old
         → IsPlaceBeforeEqual P.Inx.number T.Key.cmp T.key_of (T.key_of t) old place
         → InsertsAt P.Inx.number P.index P.generation growth place t result old new
+        → IsAscending P.Inx.number T.Key.cmp T.key_of old
+        → IsAscending P.Inx.number T.Key.cmp T.key_of new }
+    ensures between { (before after : List ℕ) (i g : ℕ) (t : T) (old new : Ordered P.Inx T)
+        → IsOrdered P.Inx.number new → IsAdded P.Inx.number i g t old new
+        → order_in P.Inx.number old ≡ before ++ after
+        → order_in P.Inx.number new ≡ before ++ i ∷ after
+        → AllIn (λ j. asked_at T.Key.cmp T.key_of (T.key_of t) old j ≢ Way.Less) before
+        → AllIn (λ j. asked_at T.Key.cmp T.key_of (T.key_of t) old j ≢ Way.Greater) after
         → IsAscending P.Inx.number T.Key.cmp T.key_of old
         → IsAscending P.Inx.number T.Key.cmp T.key_of new }
 {}

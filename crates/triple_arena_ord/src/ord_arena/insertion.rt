@@ -9,6 +9,7 @@ ghost use Rattle.triple_arena_ord.specs.Inserted.{IsRenewed, IsReplaced, Replace
 ghost use Rattle.triple_arena_ord.specs.Inserted.{AddsAt, InsertsAt, InsertsByKey};
 
 pub(crate) mod entry;
+mod get_or_insert;
 mod growth;
 mod manual;
 mod placing;
@@ -100,6 +101,46 @@ impl<P: PtrCore, T: Drop, S: OrdSlots<P, T>> SimpleOrdArena<P, T, S> {
         }
     }
 
+    // An insertion of a new entry where a search ended, if there is room for it.
+    #[inline(always)]
+    pub(crate) fn add_at_within_capacity(
+        &mut self,
+        place: Option<(P::Inx, Ordering)>,
+        t: T,
+    ) -> Result<(P, Option<T>), OrdInsertionError>
+        requires free { IfSome place
+            (λ a. IsFreeAt a.1 (knots_in P.Inx.number self.old.chains (P.Inx.number a.0))) }
+        requires empty { place ≡ None → self.old.root ≡ None }
+        requires new { Replaces (option_map (λ a. (P.Inx.number a.0, a.1)) place) → ⊥ }
+        ensures { InsertsAt P.Inx.number P.index P.generation None
+            (option_map (λ a. (P.Inx.number a.0, a.1)) place) t result self.old self.new }
+    {
+        if self.chains.len() >= self.chains.capacity() {
+            return Err(OrdInsertionError::NotWithinCapacity);
+        }
+        Ok((self.put_at(place, t), None))
+    }
+
+    // The same, but the arena grows if there is no room.
+    #[inline(always)]
+    pub(crate) fn add_at_reallocating(
+        &mut self,
+        place: Option<(P::Inx, Ordering)>,
+        t: T,
+    ) -> Result<(P, Option<T>), OrdInsertionError>
+        requires free { IfSome place
+            (λ a. IsFreeAt a.1 (knots_in P.Inx.number self.old.chains (P.Inx.number a.0))) }
+        requires empty { place ≡ None → self.old.root ≡ None }
+        requires new { Replaces (option_map (λ a. (P.Inx.number a.0, a.1)) place) → ⊥ }
+        ensures { InsertsAt P.Inx.number P.index P.generation (Some S.takes_memory)
+            (option_map (λ a. (P.Inx.number a.0, a.1)) place) t result self.old self.new }
+    {
+        match self.make_room() {
+            Ok(_) => Ok((self.put_at(place, t), None)),
+            Err(error) => Err(grown_error(error)),
+        }
+    }
+
     // An insertion where a search ended.
     #[inline(always)]
     pub(crate) fn insert_at_within_capacity(
@@ -117,10 +158,7 @@ impl<P: PtrCore, T: Drop, S: OrdSlots<P, T>> SimpleOrdArena<P, T, S> {
             let (p, old) = self.replace_item(i, t);
             return Ok((p, Some(old)));
         }
-        if self.chains.len() >= self.chains.capacity() {
-            return Err(OrdInsertionError::NotWithinCapacity);
-        }
-        Ok((self.put_at(place, t), None))
+        self.add_at_within_capacity(place, t)
     }
 
     // The same, but the arena grows if a new entry is needed and there is no room.
@@ -138,10 +176,7 @@ impl<P: PtrCore, T: Drop, S: OrdSlots<P, T>> SimpleOrdArena<P, T, S> {
         if replaces(place) {
             return self.insert_at_within_capacity(place, t);
         }
-        match self.make_room() {
-            Ok(_) => Ok((self.put_at(place, t), None)),
-            Err(error) => Err(grown_error(error)),
-        }
+        self.add_at_reallocating(place, t)
     }
 }
 

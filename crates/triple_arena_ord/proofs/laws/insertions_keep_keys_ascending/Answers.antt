@@ -1,3 +1,4 @@
+use Rattle.triple_arena_ord.proofs.AscendingLemmas.{added_ascending}
 use Rattle.triple_arena_ord.proofs.PlacedLemmas.{placed_ascending, placed_before_ascending}
 use Rattle.triple_arena_ord.proofs.laws.insertions_keep_keys_ascending.Goals as goal
 
@@ -12,3 +13,10 @@ returns-clause-before_equal g c = λ place t result old new growth is at put asc
     placed_before_ascending g.P.Inx.PtrInxCore.number g.T.Key.Ord.cmp g.T.SimpleOrdItem.key_of
     g.met.T.Key.Ord.total old new g.P.PtrCore.index g.P.PtrCore.generation _ t place result is
     put.ordered at put.inserted ascending
+
+pub returns-clause-between : goal.returns-clause-between
+returns-clause-between g c = λ before after i n t old new ordered added was is low high ascending.
+    added_ascending g.T.Key.Ord.cmp g.T.SimpleOrdItem.key_of g.met.T.Key.Ord.total
+    g.P.Inx.PtrInxCore.number old new i n t ordered
+    (record { before = before; after = after; was = was; is = is; low = low; high = high }) added
+    ascending

@@ -2,7 +2,7 @@ use Rattle.std.proofs.Common.{rules, ◌<◌}
 use Rattle.triple_arena_stack.specs.Room.{capacity}
 use Rattle.triple_arena_ord.specs.Ordered.{size_in}
 use Rattle.triple_arena_ord.proofs.GrowthLemmas.{adds_within}
-use Rattle.triple_arena_ord.proofs.ord_arena.SimpleOrdArena.insert_at_within_capacity.Goals as goal
+use Rattle.triple_arena_ord.proofs.ord_arena.SimpleOrdArena.add_at_within_capacity.Goals as goal
 
 pub returns : goal.returns
 returns g c =

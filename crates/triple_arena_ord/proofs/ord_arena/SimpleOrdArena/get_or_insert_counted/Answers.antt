@@ -1,0 +1,31 @@
+use Rattle.std.proofs.Common.{◌≡◌, Some, subst}
+use Rattle.triple_arena.specs.Entries.{generation_at}
+use Rattle.triple_arena_ord.specs.Ordered.{entry_in}
+use Rattle.triple_arena_ord.proofs.KeyInsertionLemmas.{gets_found, inserts_unfound}
+use Rattle.triple_arena_ord.proofs.SeekLemmas.{few}
+use Rattle.triple_arena_ord.proofs.ord_arena.SimpleOrdArena.get_or_insert_counted.Goals as goal
+
+pub returns-in-Some-clause-gets : goal.returns-in-Some-clause-gets
+returns-in-Some-clause-gets g c =
+    let found = c.seek-place.ensures in
+    gets_found g.P.Inx.PtrInxCore.number g.T.Key.Ord.cmp g.T.SimpleOrdItem.key_of
+    g.met.T.Key.Ord.total g.P.PtrCore.index g.P.PtrCore.generation
+    (Some g.S.NonZeroInxGenericStack.takes_memory) c.args.self.now c.args.t _ c.key.ensures _
+    found.ordered found.answer c.in-Some.p (c.found_at.ensures.some _ c.in-Some.is)
+    (subst (λ z. generation_at (entry_in z) (g.P.PtrCore.index c.in-Some.p)
+    ≡ Some (g.P.PtrCore.generation c.in-Some.p)) c.self.view_is c.in-Some.ensures.live)
+
+pub returns-in-None-clause-gets : goal.returns-in-None-clause-gets
+returns-in-None-clause-gets g c =
+    let found = c.seek-place.ensures in
+    inserts_unfound g.P.Inx.PtrInxCore.number g.T.Key.Ord.cmp g.T.SimpleOrdItem.key_of
+    g.met.T.Key.Ord.total g.P.PtrCore.index g.P.PtrCore.generation
+    (Some g.S.NonZeroInxGenericStack.takes_memory) c.args.self.now c.add_at_reallocating.new.self
+    c.args.t _ c.key.ensures _ _ found.ordered found.answer
+    (c.found_at.ensures.none c.in-None.is) c.add_at_reallocating.ensures
+
+pub returns-in-Some-clause-few : goal.returns-in-Some-clause-few
+returns-in-Some-clause-few g c = few _ _ _ _ c.seek-place.ensures.ordered c.seek-place.ensures.bound
+
+pub returns-in-None-clause-few : goal.returns-in-None-clause-few
+returns-in-None-clause-few g c = few _ _ _ _ c.seek-place.ensures.ordered c.seek-place.ensures.bound

@@ -1,0 +1,63 @@
+//! Insertions that leave an entry with an equal key as it is.
+ghost use Rattle.std.specs.Prelude.{◌≡◌, ◌+◌, ◌≤◌, Some, None};
+ghost use Rattle.rank_tree.specs.Comparisons.{most_comparisons};
+ghost use Rattle.rank_tree.specs.Search.{asked_down};
+ghost use Rattle.triple_arena_ord.specs.Inserted.{GetsOrInserts};
+ghost use Rattle.triple_arena_ord.specs.Ordered.{asked_at, size_in, tree_in};
+
+use crate::ord_arena::search::found::found_at;
+use crate::{OrdSlots, SimpleOrdArena, SimpleOrdItem};
+use triple_arena::PtrCore;
+use triple_arena_ptr::{OrdInsertionError, Probes};
+
+impl<P: PtrCore, T: SimpleOrdItem + Drop, S: OrdSlots<P, T>> SimpleOrdArena<P, T, S> {
+    /// The pointer to the entry with an equal key that `find_key` finds, which stays as it is, and
+    /// `t`, which comes back. If none is found, it puts `t` in where its key belongs, and returns
+    /// the new pointer and `None`; `NotWithinCapacity`, if there is no room for it, changes
+    /// nothing, and `t` is dropped. It makes one search.
+    pub fn get_or_insert_within_capacity(
+        &mut self,
+        t: T,
+    ) -> Result<(P, Option<T>), OrdInsertionError>
+        ensures { GetsOrInserts P.Inx.number T.Key.cmp T.key_of P.index P.generation None
+            t result self.old self.new }
+    {
+        let place = self.seek(t.key(), &mut Probes::new());
+        match found_at(&self.chains, place) {
+            Some(p) => Ok((p, Some(t))),
+            None => self.add_at_within_capacity(place, t),
+        }
+    }
+
+    /// The same, but the arena grows if there is no room for a new entry, in the steps of
+    /// `insert_reallocating`. `BeyondMaxCapacity` and `AllocError` change nothing, and `t` is
+    /// dropped. It makes one search, and each comparison is a tick; there are as many at most as
+    /// `find_key_counted` says.
+    pub fn get_or_insert_counted(
+        &mut self,
+        t: T,
+        probes: &mut Probes,
+    ) -> Result<(P, Option<T>), OrdInsertionError>
+        ensures gets { GetsOrInserts P.Inx.number T.Key.cmp T.key_of P.index P.generation
+            (Some S.takes_memory) t result self.old self.new }
+        ensures ticks { probes.new ≡ probes.old
+            + asked_down (asked_at T.Key.cmp T.key_of (T.key_of t) self.old)
+            (tree_in P.Inx.number self.old) }
+        ensures few { probes.new ≤ probes.old + most_comparisons (size_in self.old) }
+    {
+        let place = self.seek(t.key(), probes);
+        match found_at(&self.chains, place) {
+            Some(p) => Ok((p, Some(t))),
+            None => self.add_at_reallocating(place, t),
+        }
+    }
+
+    /// What `get_or_insert_counted` does, with no count: the pointer to the entry with an equal
+    /// key, which stays, and `t` back, or the pointer to a new entry and `None`.
+    pub fn get_or_insert(&mut self, t: T) -> Result<(P, Option<T>), OrdInsertionError>
+        ensures { GetsOrInserts P.Inx.number T.Key.cmp T.key_of P.index P.generation
+            (Some S.takes_memory) t result self.old self.new }
+    {
+        self.get_or_insert_counted(t, &mut Probes::new())
+    }
+}
