@@ -4,3 +4,4 @@ pub mod MoveLemmas
 pub mod PlaylistLemmas
 pub mod ReversalLemmas
 pub mod SceneLemmas
+pub mod CacheLemmas

@@ -11,8 +11,11 @@
 //!   numbers.
 //! - [`add_after`], [`move_after`], [`reverse_pair`], [`play_from`]: playlists, which are lists in
 //!   a chain arena.
+//! - [`Cache`]: entries in the order of their last use, of which the one used longest ago makes
+//!   way.
 #![tactic(auto)]
 
+mod cache;
 mod document;
 mod follow;
 mod playlist;
@@ -20,6 +23,7 @@ mod scene;
 mod scheduler;
 mod sections;
 
+pub use cache::Cache;
 pub use document::tidy;
 pub use follow::{Moved, compress_and_follow, compress_with_table};
 pub use playlist::{add_after, move_after, play_from, reverse_pair};

@@ -1,26 +1,30 @@
--- What insertions and removals make of an order book.
-use Rattle.std.proofs.Common.{◌≡◌, ◌≢◌, ℕ, ◌≤◌, List, [], ◌∷◌, ◌++◌, Option, Some, None, Result, Ok}
-use Rattle.std.proofs.Common.{Err, option_map, refl, sym, ap, subst, ◌∙◌, inl, inr, IsSome, OnSome}
-use Rattle.std.proofs.Common.{arith, IsErrOf, IfErr, OnErr, IfOk, IfSome, IfNone, ◌↔◌, ◌<◌}
+-- What insertions and removals make of an order book, and which orders stand at its ends.
+use Rattle.std.proofs.Common.{◌≡◌, ◌≢◌, ℕ, ◌≤◌, ◌<◌, List, [], ◌∷◌, ◌++◌, Option, Some, None, map}
+use Rattle.std.proofs.Common.{option_map, filter_map, refl, sym, ap, subst, ◌∙◌, inl, inr, IsSome}
+use Rattle.std.proofs.Common.{OnSome, IfSome, IfNone, arith}
 use Rattle.std.specs.Cmp.{ranked, nat_cmp_is}
+use Rattle.std.specs.List.{AllByRecursion, cons_option}
 use Rattle.std.specs.Ordering.{nat_cmp}
 use Rattle.std.specs.declared.cmp.Ordering.{Ordering}
 use Rattle.std.specs.declared.cmp.Ordering.TheVariants.{Less, Equal, Greater}
-use Rattle.std.proofs.lemmas.Bool.Decides.{eqb_tells}
-use Rattle.triple_arena.specs.Content.{live_count, arena_capacity}
-use Rattle.triple_arena.specs.Entries.{with_entry, without}
-use Rattle.triple_arena_ptr.specs.declared.errors.OrdInsertionError.{OrdInsertionError}
-use Rattle.triple_arena_ptr.specs.declared.errors.OrdInsertionError.TheVariants.{NotWithinCapacity}
-use Rattle.triple_arena_chain.specs.Chains.{On, Apart, first_or}
+use Rattle.triple_arena.specs.Content.{entry_at}
+use Rattle.triple_arena_chain.specs.Chains.{Ends, Stands, Off, Apart, first_or, last_or}
+use Rattle.triple_arena_chain.specs.ChainLaws.{Off-not_on}
+use Rattle.triple_arena_chain.specs.Links.{ends_in, entry_ends, valued}
+use Rattle.triple_arena_chain.specs.LinkShape.{IndexLink}
+use Rattle.triple_arena_chain.specs.UniquenessLaws.{linear_apart}
 use Rattle.triple_arena_ord.specs.declared.pair.OrdPair.{OrdPair}
-use Rattle.triple_arena_ord.specs.Inserted.{IsKeyInserted, IsPlacedByKey, within_room}
-use Rattle.triple_arena_ord.specs.Ordered.{Ordered, IsOrdered, IsAscending, order_in, entry_in}
-use Rattle.triple_arena_ord.specs.Ordered.{asked_at, size_in}
+use Rattle.triple_arena_ord.specs.Bounds.{IsBound, first_entry}
+use Rattle.triple_arena_ord.specs.Inserted.{StandsAt, IsAdded}
+use Rattle.triple_arena_ord.specs.Node.{itemed}
+use Rattle.triple_arena_ord.specs.NodeShape.{IndexNode}
+use Rattle.triple_arena_ord.specs.Ordered.{Ordered, IsOrdered, order_in, entry_in, entries_at}
+use Rattle.triple_arena_ord.specs.Ordered.{asked_of, asked_at}
 use Rattle.triple_arena_ord.specs.OrderedWalks.{OrderedWalk, OrderedSteps, left_over}
 use Rattle.triple_arena_ord.specs.Removal.{IsEntryRemoved}
 use Rattle.rank_tree.specs.Search.{AllIn}
-use Rattle.ord_examples.specs.OrderBooks.{orders_in, price_in, IsFreePrice, IsNewOrder, IsBook}
-use Rattle.ord_examples.specs.OrderBooks.{IsNextPrice, IsLastPrice, as_order}
+use Rattle.ord_examples.specs.OrderBooks.{orders_in, price_in, AllPrices, IsBehind, IsBestAsk}
+use Rattle.ord_examples.specs.OrderBooks.{IsBestBid, IsNext, IsLast}
 
 -- what holds of each of a list holds of one that is on it
 at_of : (Q : ℕ → Type 0) (front : List ℕ) (i : ℕ) (back : List ℕ) → AllIn Q (front ++ i ∷ back)
@@ -28,387 +32,72 @@ at_of : (Q : ℕ → Type 0) (front : List ℕ) (i : ℕ) (back : List ℕ) → 
 at_of Q [] i back all = all.0
 at_of Q (x ∷ xs) i back all = at_of Q xs i back all.1
 
-joined : (Q : ℕ → Type 0) (xs ys : List ℕ) → AllIn Q xs → AllIn Q ys → AllIn Q (xs ++ ys)
-joined Q [] ys first second = second
-joined Q (x ∷ xs) ys first second = (first.0, joined Q xs ys first.1 second)
-
 weaker : (Q R : ℕ → Type 0) → ((i : ℕ) → Q i → R i) → (xs : List ℕ) → AllIn Q xs → AllIn R xs
 weaker Q R so [] all = tt
 weaker Q R so (x ∷ xs) all = (so x all.0, weaker Q R so xs all.1)
 
-greater_is_not_equal : (d : Ordering) → d ≡ Greater → d ≢ Equal
-greater_is_not_equal d is same = (let no : Greater ≡ Equal = sym is ∙ same in cc)
-
-less_is_not_equal : (d : Ordering) → d ≡ Less → d ≢ Equal
-less_is_not_equal d is same = (let no : Less ≡ Equal = sym is ∙ same in cc)
-
-module _ {A B E : Type 0} where
-  abbrev second_of : Result (A × Option B) E → Option B
-  second_of (Ok r) = r.1
-  second_of (Err e) = None
-
-  abbrev first_of : A → Result (A × Option B) E → A
-  first_of a (Ok r) = r.0
-  first_of a (Err e) = a
-
 some_is : {B : Type 0} (a b : B) → Some a ≡ Some b → a ≡ b
 some_is a b is = cc
 
-module _ {V : Type 0} where
-  -- the key of a pair
-  abbrev pub price_of : OrdPair ℕ V → ℕ
-  price_of pair = pair.k
+joined : (Q : ℕ → Type 0) (xs ys : List ℕ) → AllIn Q xs → AllIn Q ys → AllIn Q (xs ++ ys)
+joined Q [] ys first second = second
+joined Q (x ∷ xs) ys first second = (first.0, joined Q xs ys first.1 second)
 
-  -- an entry more in the orders
-  orders-with : (e : ℕ → Option (ℕ × OrdPair ℕ V)) (i g : ℕ) (t : OrdPair ℕ V) (k : ℕ)
-      → option_map (λ (e : ℕ × OrdPair ℕ V). (let order : ℕ × (ℕ × V) = (e.0, (e.1.k, e.1.v)) in
-      order)) (with_entry e i (g, t) k)
-      ≡ with_entry (λ j. option_map
-      (λ (e : ℕ × OrdPair ℕ V). (let order : ℕ × (ℕ × V) = (e.0, (e.1.k, e.1.v)) in order))
-      (e j)) i (g, (t.k, t.v)) k
-  orders-with e i g t k = elim (eqb_tells k i) [
-    | inl at ↦ rw at.0 refl
-    | inr other ↦ rw other.0 refl
-  ]
+later : (Q : ℕ → Type 0) (xs ys : List ℕ) → AllIn Q (xs ++ ys) → AllIn Q ys
+later Q [] ys all = all
+later Q (x ∷ xs) ys all = later Q xs ys all.1
 
-  orders-without : (e : ℕ → Option (ℕ × OrdPair ℕ V)) (i k : ℕ)
-      → option_map (λ (e : ℕ × OrdPair ℕ V). (let order : ℕ × (ℕ × V) = (e.0, (e.1.k, e.1.v)) in
-      order)) (without e i k)
-      ≡ without (λ j. option_map
-      (λ (e : ℕ × OrdPair ℕ V). (let order : ℕ × (ℕ × V) = (e.0, (e.1.k, e.1.v)) in order))
-      (e j)) i k
-  orders-without e i k = elim (eqb_tells k i) [
-    | inl at ↦ rw at.0 refl
-    | inr other ↦ rw other.0 refl
-  ]
+both_in : (Q R S : ℕ → Type 0) → ((i : ℕ) → Q i → R i → S i) → (xs : List ℕ) → AllIn Q xs
+    → AllIn R xs → AllIn S xs
+both_in Q R S so [] first second = tt
+both_in Q R S so (x ∷ xs) first second =
+    (so x first.0 second.0, both_in Q R S so xs first.1 second.1)
 
-  -- an order that takes the place of one with its price changes no price
-  same_price : (e : ℕ → Option (ℕ × OrdPair ℕ V)) (i g : ℕ) (t : OrdPair ℕ V)
-      → option_map (λ (e : ℕ × OrdPair ℕ V). e.1.k) (e i) ≡ Some t.k
-      → (k : ℕ) → option_map (λ (e : ℕ × OrdPair ℕ V). e.1.k) (with_entry e i (g, t) k)
-      ≡ option_map (λ (e : ℕ × OrdPair ℕ V). e.1.k) (e k)
-  same_price e i g t was k = elim (eqb_tells k i) [
-    | inl at ↦ rw (at.0, at.1) (sym was)
-    | inr other ↦ rw other.0 refl
-  ]
+regroup : (front : List ℕ) (i j : ℕ) → front ++ i ∷ j ∷ [] ≡ (front ++ i ∷ []) ++ j ∷ []
+regroup [] i j = refl
+regroup (x ∷ front) i j = ap (λ l. x ∷ l) (regroup front i j)
 
-  -- two prices that are the same stand at one index, also after an order with a new price is put in
-  apart_with : (e : ℕ → Option (ℕ × OrdPair ℕ V)) (n g : ℕ) (t : OrdPair ℕ V)
-      → ((i : ℕ) → option_map (λ (e : ℕ × OrdPair ℕ V). e.1.k) (e i) ≢ Some t.k)
-      → ((i j price : ℕ) → option_map (λ (e : ℕ × OrdPair ℕ V). e.1.k) (e i) ≡ Some price
-      → option_map (λ (e : ℕ × OrdPair ℕ V). e.1.k) (e j) ≡ Some price → i ≡ j)
-      → (i j price : ℕ) → option_map (λ (e : ℕ × OrdPair ℕ V). e.1.k) (with_entry e n (g, t) i)
-      ≡ Some price
-      → option_map (λ (e : ℕ × OrdPair ℕ V). e.1.k) (with_entry e n (g, t) j) ≡ Some price → i ≡ j
-  apart_with e n g t free apart i j price first second = elim (eqb_tells i n) [
-    | inl at ↦ elim (eqb_tells j n) [
-      | inl at' ↦ at.1 ∙ sym at'.1
-      | inr other ↦ absurd (
-          let own : Some t.k ≡ Some price = rw at.0 at first in
-          let there : option_map (λ (e : ℕ × OrdPair ℕ V). e.1.k) (e j) ≡ Some price =
-          rw other.0 at second in
-          free j (there ∙ sym own))
-    ]
-    | inr other ↦ elim (eqb_tells j n) [
-      | inl at ↦ absurd (
-          let own : Some t.k ≡ Some price = rw at.0 at second in
-          let there : option_map (λ (e : ℕ × OrdPair ℕ V). e.1.k) (e i) ≡ Some price =
-          rw other.0 at first in
-          free i (there ∙ sym own))
-      | inr other' ↦
-          let here : option_map (λ (e : ℕ × OrdPair ℕ V). e.1.k) (e i) ≡ Some price =
-          rw other.0 at first in
-          let there : option_map (λ (e : ℕ × OrdPair ℕ V). e.1.k) (e j) ≡ Some price =
-          rw other'.0 at second in
-          apart i j price here there
-    ]
-  ]
+no_first : (w : List ℕ) → first_or w None ≡ None → w ≡ []
+no_first [] is = refl
+no_first (x ∷ xs) is = absurd (cc)
 
-  -- nor where an order is taken out
-  apart_without : (e : ℕ → Option (ℕ × OrdPair ℕ V)) (n : ℕ)
-      → ((i j price : ℕ) → option_map (λ (e : ℕ × OrdPair ℕ V). e.1.k) (e i) ≡ Some price
-      → option_map (λ (e : ℕ × OrdPair ℕ V). e.1.k) (e j) ≡ Some price → i ≡ j)
-      → (i j price : ℕ) → option_map (λ (e : ℕ × OrdPair ℕ V). e.1.k) (without e n i) ≡ Some price
-      → option_map (λ (e : ℕ × OrdPair ℕ V). e.1.k) (without e n j) ≡ Some price → i ≡ j
-  apart_without e n apart i j price first second = elim (eqb_tells i n) [
-    | inl at ↦ absurd (let no : None ≡ Some price = rw at.0 at first in cc)
-    | inr other ↦ elim (eqb_tells j n) [
-      | inl at ↦ absurd (let no : None ≡ Some price = rw at.0 at second in cc)
-      | inr other' ↦
-          let here : option_map (λ (e : ℕ × OrdPair ℕ V). e.1.k) (e i) ≡ Some price =
-          rw other.0 at first in
-          let there : option_map (λ (e : ℕ × OrdPair ℕ V). e.1.k) (e j) ≡ Some price =
-          rw other'.0 at second in
-          apart i j price here there
-    ]
-  ]
+none_left : (xs ys : List ℕ) → xs ++ ys ≡ [] → (xs ≡ []) × (ys ≡ [])
+none_left [] ys is = (refl, is)
+none_left (x ∷ xs) ys is = absurd (cc)
 
-module _ {I V : Type 0} where
-  -- the price of an order is how it compares
-  asked_price : (o : Ordered I (OrdPair ℕ V)) (price i : ℕ) → price_in o i ≡ Some price
-      → asked_at nat_cmp price_of price o i ≡ Equal
-  asked_price o price i = by (entry_in o i)
-    where
-      by : (e : Option (ℕ × OrdPair ℕ V))
-          → option_map (λ (e : ℕ × OrdPair ℕ V). e.1.k) e ≡ Some price
-          → Rattle.triple_arena_ord.specs.Ordered.asked_of nat_cmp price_of price e ≡ Equal
-      by None is = refl
-      by (Some e) is = (let same : e.1.k ≡ price = cc in
-          subst (λ k. nat_cmp price k ≡ Equal) (sym same) (sym (nat_cmp_is price price Equal refl)))
+append_none : (xs : List ℕ) → xs ++ [] ≡ xs
+append_none [] = refl
+append_none (x ∷ xs) = ap (λ l. x ∷ l) (append_none xs)
 
-  price_there : (o : Ordered I (OrdPair ℕ V)) (price i : ℕ) → price_in o i ≡ Some price
-      → IsSome (entry_in o i)
-  price_there o price i = by (entry_in o i)
-    where
-      by : (e : Option (ℕ × OrdPair ℕ V))
-          → option_map (λ (e : ℕ × OrdPair ℕ V). e.1.k) e ≡ Some price → IsSome e
-      by None is = absurd (cc)
-      by (Some e) is = refl
+-- an index stands at one place of a list that has each once
+parts_once : (xs : List ℕ) (h : ℕ) (ys us vs : List ℕ) → Apart (xs ++ h ∷ ys)
+    → xs ++ h ∷ ys ≡ us ++ h ∷ vs → (xs ≡ us) × (ys ≡ vs)
+parts_once [] h ys [] vs apart e = let z : ys ≡ vs = cc in (refl, z)
+parts_once [] h ys (u ∷ us) vs apart e =
+    let tail : ys ≡ us ++ h ∷ vs = cc in
+    absurd (Off-not_on us vs h (subst (λ z. Off z h) tail apart.0))
+parts_once (x ∷ xs) h ys [] vs apart e =
+    let head : x ≡ h = cc in
+    absurd (Off-not_on xs ys h (subst (λ z. Off (xs ++ h ∷ ys) z) head apart.0))
+parts_once (x ∷ xs) h ys (u ∷ us) vs apart e =
+    let head : x ≡ u = cc in
+    let tail : xs ++ h ∷ ys ≡ us ++ h ∷ vs = cc in
+    let rest = parts_once xs h ys us vs apart.1 tail in
+    (ap (λ z. z ∷ xs) head ∙ ap (λ z. u ∷ z) rest.0, rest.1)
 
-  module _ (number : I → ℕ) (old new : Ordered I (OrdPair ℕ V)) where
-    -- a price before which all others are less, and after which all are greater, is no order's
-    free_by_key : (price i : ℕ) → ((j : ℕ) → IsSome (entry_in old j) → On (order_in number old) j)
-        → IsAscending number nat_cmp price_of old
-        → IsPlacedByKey number nat_cmp price_of price i old new → IsFreePrice old price
-    free_by_key price i listed ascending placed j is =
-        let Q : ℕ → Type 0 = λ k. asked_at nat_cmp price_of price old k ≢ Equal in
-        let low : AllIn Q placed.before =
-        weaker (λ k. asked_at nat_cmp price_of price old k ≡ Greater) Q
-        (λ k at. greater_is_not_equal (asked_at nat_cmp price_of price old k) at) placed.before
-        (placed.greater ascending) in
-        let high : AllIn Q placed.after =
-        weaker (λ k. asked_at nat_cmp price_of price old k ≡ Less) Q
-        (λ k at. less_is_not_equal (asked_at nat_cmp price_of price old k) at) placed.after
-        (placed.less ascending) in
-        let on : On (order_in number old) j = listed j (price_there old price j is) in
-        at_of Q on.front j on.back
-        (subst (AllIn Q) (sym placed.was ∙ on.is)
-        (joined Q placed.before placed.after low high)) (asked_price old price j is)
+starts : (w : List ℕ) (i : ℕ) → first_or w None ≡ Some i → (back : List ℕ) × (w ≡ i ∷ back)
+starts [] i is = absurd (cc)
+starts (x ∷ xs) i is = (xs, ap (λ y. y ∷ xs) (some_is x i is))
 
-    -- the book without an order
-    pub removed_book : (last : Option ℕ) (i : ℕ) → IsBook number old
-        → IsEntryRemoved number last i old new
-        → (IsAscending number nat_cmp price_of old → IsAscending number nat_cmp price_of new)
-        → IsBook number new
-    removed_book last i book removed ascending = record {
-      ascending = ascending book.ascending;
-      apart = λ j k price first second. apart_without (entry_in old) i book.apart j k price
-          (sym (ap (option_map (λ (e : ℕ × OrdPair ℕ V). e.1.k)) (removed.entries j)) ∙ first)
-          (sym (ap (option_map (λ (e : ℕ × OrdPair ℕ V). e.1.k)) (removed.entries k)) ∙ second);
-    }
+ends : (w : List ℕ) (i : ℕ) → last_or None w ≡ Some i → (front : List ℕ) × (w ≡ front ++ i ∷ [])
+ends [] i is = absurd (cc)
+ends (x ∷ []) i is = ([], ap (λ y. y ∷ []) (some_is x i is))
+ends (x ∷ y ∷ xs) i is = let rest = ends (y ∷ xs) i is in
+    (x ∷ rest.0, ap (λ l. x ∷ l) rest.1)
 
-    pub removed_orders : (last : Option ℕ) (i : ℕ) → IsEntryRemoved number last i old new
-        → (k : ℕ) → orders_in new k ≡ without (orders_in old) i k
-    removed_orders last i removed k =
-        ap (option_map (λ (e : ℕ × OrdPair ℕ V). (let order : ℕ × (ℕ × V) = (e.0, (e.1.k, e.1.v)) in
-        order))) (removed.entries k)
-        ∙ orders-without (entry_in old) i k
+tail_is : (x y : ℕ) (xs ys : List ℕ) → x ∷ xs ≡ y ∷ ys → xs ≡ ys
+tail_is x y xs ys is = cc
 
-    module _ {P : Type 0} (index generation : P → ℕ) (t : OrdPair ℕ V)
-        (result : Result (P × Option (OrdPair ℕ V)) OrdInsertionError) where
-      -- the book where an order took the place of one with its price
-      pub record Replaced (p : P) (u : OrdPair ℕ V) : Type 0 where
-        pub orders : (k : ℕ) → orders_in new k
-            ≡ with_entry (orders_in old) (index p) (generation p, (t.k, t.v)) k
-        pub was : orders_in old (index p) ≡ Some (generation p, (t.k, u.v))
-        pub taken : IsFreePrice old t.k → ⊥
-        pub book : IsBook number new
-
-      pub replaced : IsKeyInserted number nat_cmp price_of index generation
-          (within_room (size_in old) old.chains.room) t result old new
-          → (IsAscending number nat_cmp price_of old → IsAscending number nat_cmp price_of new)
-          → IsBook number old
-          → (p : P) (u : OrdPair ℕ V) → result ≡ Ok (p, Some u) → Replaced p u
-      replaced inserted ascending book p u is =
-          let both = inserted.replaced p u is in
-          let own : t.k ≡ u.k = ranked t.k u.k Equal (sym both.0) in
-          let price : price_in old (index p) ≡ Some t.k =
-          ap (option_map (λ (e : ℕ × OrdPair ℕ V). e.1.k)) both.1.was ∙ ap Some (sym own) in
-          let same : (k : ℕ) → price_in new k ≡ price_in old k = λ k.
-          ap (option_map (λ (e : ℕ × OrdPair ℕ V). e.1.k)) (both.1.entries k)
-          ∙ same_price (entry_in old) (index p) (generation p) t price k in
-          record {
-            orders = λ k. ap (option_map
-                (λ (e : ℕ × OrdPair ℕ V). (let order : ℕ × (ℕ × V) = (e.0, (e.1.k, e.1.v)) in
-                order))) (both.1.entries k)
-                ∙ orders-with (entry_in old) (index p) (generation p) t k;
-            was = ap (option_map (λ
-                (e : ℕ × OrdPair ℕ V). (let order : ℕ × (ℕ × V) = (e.0, (e.1.k, e.1.v)) in order)))
-                both.1.was
-                ∙ ap (λ (k : ℕ). (let o : Option (ℕ × (ℕ × V)) = Some (generation p, (k, u.v)) in
-                o)) (sym own);
-            taken = λ free. free (index p) price;
-            book = record {
-              ascending = ascending book.ascending;
-              apart = λ i j k first second. book.apart i j k (sym (same i) ∙ first)
-                  (sym (same j) ∙ second);
-            };
-          }
-
-      -- the book with one order more
-      pub record Grown (p : P) : Type 0 where
-        pub orders : (k : ℕ) → orders_in new k
-            ≡ with_entry (orders_in old) (index p) (generation p, (t.k, t.v)) k
-        pub fresh : IsNewOrder old t.k (index p) (generation p)
-        pub fits : arena_capacity old.chains ≤ live_count old.chains → ⊥
-        pub book : IsBook number new
-
-      pub grown : IsKeyInserted number nat_cmp price_of index generation
-          (within_room (size_in old) old.chains.room) t result old new
-          → ((j : ℕ) → IsSome (entry_in old j) → On (order_in number old) j)
-          → (IsAscending number nat_cmp price_of old → IsAscending number nat_cmp price_of new)
-          → IsBook number old
-          → (p : P) → result ≡ Ok (p, None) → Grown p
-      grown inserted listed ascending book p is =
-          let both = inserted.added p is in
-          let free : IsFreePrice old t.k = free_by_key t.k (index p) listed book.ascending both.0 in
-          record {
-            orders = λ k. ap (option_map
-                (λ (e : ℕ × OrdPair ℕ V). (let order : ℕ × (ℕ × V) = (e.0, (e.1.k, e.1.v)) in
-                order))) (both.1.entries k)
-                ∙ orders-with (entry_in old) (index p) (generation p) t k;
-            fresh = record {
-              free = free;
-              vacant = ap (option_map
-                  (λ (e : ℕ × OrdPair ℕ V). (let order : ℕ × (ℕ × V) = (e.0, (e.1.k, e.1.v)) in
-                  order))) both.1.vacant;
-              generation = both.1.generation;
-            };
-            fits = λ full. omega (arith, inserted.fits p is, full);
-            book = record {
-              ascending = ascending book.ascending;
-              apart = λ i j price first second. apart_with (entry_in old) (index p) (generation p) t
-                  free book.apart i j price
-                  (sym (ap (option_map (λ (e : ℕ × OrdPair ℕ V). e.1.k)) (both.1.entries i))
-                  ∙ first)
-                  (sym (ap (option_map (λ (e : ℕ × OrdPair ℕ V). e.1.k)) (both.1.entries j))
-                  ∙ second);
-            };
-          }
-
-      -- why an order is refused
-      pub record Full (error : OrdInsertionError) : Type 0 where
-        pub error_is : error ≡ NotWithinCapacity
-        pub free : IsFreePrice old t.k
-        pub full : arena_capacity old.chains ≤ live_count old.chains
-        pub same : new ≡ old
-
-      pub refused : IsKeyInserted number nat_cmp price_of index generation
-          (within_room (size_in old) old.chains.room) t result old new → IsBook number old
-          → (error : OrdInsertionError) → result ≡ Err error → Full error
-      refused inserted book error is =
-          let why = inserted.refused error is in
-          record {
-            error_is = why.0;
-            free = λ i price. inserted.absent error is book.ascending i
-                (by i (entry_in old i) price);
-            full = why.1;
-            same = inserted.same error is;
-          }
-        where
-          by : (i : ℕ) (e : Option (ℕ × OrdPair ℕ V))
-              → option_map (λ (e : ℕ × OrdPair ℕ V). e.1.k) e ≡ Some t.k
-              → option_map (λ (e : ℕ × OrdPair ℕ V). nat_cmp t.k e.1.k) e ≡ Some Equal
-          by i None price = absurd (cc)
-          by i (Some e) price = (let same : e.1.k ≡ t.k = cc in
-              ap Some (subst (λ k. nat_cmp t.k k ≡ Equal) (sym same)
-              (sym (nat_cmp_is t.k t.k Equal refl))))
-
--- what an order that is put in at a price comes to
-pub record Answered {P I V : Type 0} (index generation : P → ℕ) (number : I → ℕ)
-    (old new : Ordered I (OrdPair ℕ V)) (price : ℕ) (order : V)
-    (answer : Result (P × Option V) OrdInsertionError)
-    : Type 0 where
-  pub added : IfOk answer
-      (λ r. (k : ℕ) → orders_in new k
-      ≡ with_entry (orders_in old) (index r.0) (generation r.0, (price, order)) k)
-  pub replaced : (p : P) (was : V) → answer ≡ Ok (p, Some was)
-      → orders_in old (index p) ≡ Some (generation p, (price, was))
-  pub fresh : (p : P) → answer ≡ Ok (p, None) → IsNewOrder old price (index p) (generation p)
-  pub error : IfErr answer (λ e. e ≡ NotWithinCapacity)
-  pub full : IsErrOf answer NotWithinCapacity
-      ↔ (IsFreePrice old price × (arena_capacity old.chains ≤ live_count old.chains))
-  pub book : IsBook number new
-  pub err : OnErr answer (new ≡ old)
-
-module _ {P I V : Type 0} (index generation : P → ℕ) (number : I → ℕ)
-    (old new : Ordered I (OrdPair ℕ V)) (t : OrdPair ℕ V) where
-  answered_ok : (p : P) (o : Option (OrdPair ℕ V))
-      → IsKeyInserted number nat_cmp price_of index generation
-      (within_room (size_in old) old.chains.room) t (Ok (p, o)) old new
-      → ((j : ℕ) → IsSome (entry_in old j) → On (order_in number old) j)
-      → (IsAscending number nat_cmp price_of old → IsAscending number nat_cmp price_of new)
-      → IsBook number old
-      → Answered index generation number old new t.k t.v
-      (Ok (p, option_map (λ (pair : OrdPair ℕ V). pair.v) o))
-  answered_ok p None inserted listed ascending book =
-      let now = grown number old new index generation t (Ok (p, None)) inserted listed ascending
-      book p refl in
-      record {
-        added = now.orders;
-        replaced = λ q was is. absurd (let no : None ≡ Some was = ap second_of is in cc);
-        fresh = λ q is. subst (λ x. IsNewOrder old t.k (index x) (generation x))
-            (ap (first_of p) is) now.fresh;
-        error = tt;
-        full = (λ is. absurd (cc), λ no. absurd (now.fits no.1));
-        book = now.book;
-        err = tt;
-      }
-  answered_ok p (Some u) inserted listed ascending book =
-      let now = replaced number old new index generation t (Ok (p, Some u)) inserted ascending book
-      p u refl in
-      record {
-        added = now.orders;
-        replaced = λ q was is. (
-            subst (λ x. orders_in old (index x) ≡ Some (generation x, (t.k, was)))
-            (ap (first_of p) is)
-            (subst (λ v. orders_in old (index p) ≡ Some (generation p, (t.k, v)))
-            (some_is u.v was (ap second_of is)) now.was));
-        fresh = λ q is. absurd (let no : Some u.v ≡ None = ap second_of is in cc);
-        error = tt;
-        full = (λ is. absurd (cc), λ no. absurd (now.taken no.0));
-        book = now.book;
-        err = tt;
-      }
-
-  answered : (r : Result (P × Option (OrdPair ℕ V)) OrdInsertionError)
-      → IsKeyInserted number nat_cmp price_of index generation
-      (within_room (size_in old) old.chains.room) t r old new
-      → ((j : ℕ) → IsSome (entry_in old j) → On (order_in number old) j)
-      → (IsAscending number nat_cmp price_of old → IsAscending number nat_cmp price_of new)
-      → IsBook number old
-      → Answered index generation number old new t.k t.v (as_order r)
-  answered (Ok r) inserted listed ascending book =
-      answered_ok r.0 r.1 inserted listed ascending book
-  answered (Err e) inserted listed ascending book =
-      let now = refused number old new index generation t (Err e) inserted book e refl in
-      record {
-        added = tt;
-        replaced = λ q was is. absurd (cc);
-        fresh = λ q is. absurd (cc);
-        error = now.error_is;
-        full = (λ is. (now.free, now.full), λ no. ap Err now.error_is);
-        book = subst (IsBook number) (sym now.same) book;
-        err = now.same;
-      }
-
-  -- the same, of an order at a price
-  pub answered_as : (price : ℕ) (order : V) (answer : Result (P × Option V) OrdInsertionError)
-      (r : Result (P × Option (OrdPair ℕ V)) OrdInsertionError)
-      → t.k ≡ price → t.v ≡ order → answer ≡ as_order r
-      → IsKeyInserted number nat_cmp price_of index generation
-      (within_room (size_in old) old.chains.room) t r old new
-      → ((j : ℕ) → IsSome (entry_in old j) → On (order_in number old) j)
-      → (IsAscending number nat_cmp price_of old → IsAscending number nat_cmp price_of new)
-      → IsBook number old
-      → Answered index generation number old new price order answer
-  answered_as price order answer r own value is inserted listed ascending book =
-      subst (λ k. Answered index generation number old new k order answer) own
-      (subst (λ v. Answered index generation number old new t.k v answer) value
-      (subst (λ a. Answered index generation number old new t.k t.v a) (sym is)
-      (answered r inserted listed ascending book)))
-
--- the ends of a book
 not_greater : (x y : ℕ) → nat_cmp x y ≢ Greater → x ≤ y
 not_greater x y never = by (nat_cmp x y) refl
   where
@@ -416,65 +105,6 @@ not_greater x y never = by (nat_cmp x y) refl
     by Less is = omega (arith, ranked x y Less is)
     by Equal is = omega (arith, ranked x y Equal is)
     by Greater is = absurd (never (sym is))
-
-module _ {I V : Type 0} (number : I → ℕ) (o : Ordered I (OrdPair ℕ V)) where
-  -- where each one on a list is not less, none on the list is
-  pub least : (i j own price : ℕ) (back : List ℕ) → order_in number o ≡ i ∷ back
-      → ((k : ℕ) → IsSome (entry_in o k) → On (order_in number o) k)
-      → AllIn (λ k. asked_at nat_cmp price_of own o k ≢ Greater) back
-      → price_in o i ≡ Some own → price_in o j ≡ Some price → own ≤ price
-  least i j own price back is listed all here there = by on.front (sym is ∙ on.is)
-    where
-      on : On (order_in number o) j
-      on = listed j (price_there o price j there)
-
-      asked : (e : Option (ℕ × OrdPair ℕ V))
-          → option_map (λ (e : ℕ × OrdPair ℕ V). e.1.k) e ≡ Some price
-          → Rattle.triple_arena_ord.specs.Ordered.asked_of nat_cmp price_of own e ≢ Greater
-          → own ≤ price
-      asked None none never = absurd (cc)
-      asked (Some e) same never =
-          (let k : e.1.k ≡ price = cc in subst (λ k. own ≤ k) k (not_greater own e.1.k never))
-
-      by : (front : List ℕ) → i ∷ back ≡ front ++ j ∷ on.back → own ≤ price
-      by [] same = (let at : i ≡ j = cc in let one : Some own ≡ Some price = sym here
-          ∙ ap (price_in o) at ∙ there in omega (arith, some_is own price one))
-      by (x ∷ front) same = (let rest : back ≡ front ++ j ∷ on.back = cc in
-          asked (entry_in o j) there
-          (at_of (λ k. asked_at nat_cmp price_of own o k ≢ Greater) front j on.back
-          (subst (AllIn (λ k. asked_at nat_cmp price_of own o k ≢ Greater)) rest all)))
-
-starts : (w : List ℕ) (i : ℕ) → first_or w None ≡ Some i → (back : List ℕ) × (w ≡ i ∷ back)
-starts [] i is = absurd (cc)
-starts (x ∷ xs) i is = (xs, ap (λ y. y ∷ xs) (some_is x i is))
-
-module _ {P I V : Type 0} (index : P → ℕ) (number : I → ℕ) (o : Ordered I (OrdPair ℕ V)) where
-  -- the first of the list has the least price
-  pub best_of : (r : Option P) → option_map index r ≡ first_or (order_in number o) None
-      → ((k : ℕ) → IsSome (entry_in o k) → On (order_in number o) k)
-      → ((back : List ℕ) (i : ℕ) (entry : ℕ × OrdPair ℕ V) → order_in number o ≡ i ∷ back
-      → entry_in o i ≡ Some entry
-      → AllIn (λ k. asked_at nat_cmp price_of entry.1.k o k ≢ Greater) back)
-      → IfSome r (λ p. (j own price : ℕ) → price_in o (index p) ≡ Some own
-      → price_in o j ≡ Some price → own ≤ price)
-  best_of None at listed after = tt
-  best_of (Some p) at listed after = λ j own price here there.
-      by j own price here there (starts (order_in number o) (index p) (sym at))
-      (entry_in o (index p)) refl
-    where
-      by : (j own price : ℕ) → price_in o (index p) ≡ Some own → price_in o j ≡ Some price
-          → ((back : List ℕ) × (order_in number o ≡ index p ∷ back))
-          → (e : Option (ℕ × OrdPair ℕ V)) → entry_in o (index p) ≡ e → own ≤ price
-      by j own price here there first None is =
-          absurd (let no : None ≡ Some own =
-          sym (ap (option_map (λ (e : ℕ × OrdPair ℕ V). e.1.k)) is) ∙ here in cc)
-      by j own price here there first (Some e) is =
-          let k : e.1.k ≡ own =
-          some_is e.1.k own (sym (ap (option_map (λ (e : ℕ × OrdPair ℕ V). e.1.k)) is) ∙ here)
-          in
-          least number o (index p) j own price first.0 first.1 listed
-          (subst (λ k. AllIn (λ i. asked_at nat_cmp price_of k o i ≢ Greater) first.0) k
-          (after first.0 (index p) e first.1 is)) here there
 
 not_less : (x y : ℕ) → nat_cmp x y ≢ Less → y ≤ x
 not_less x y never = by (nat_cmp x y) refl
@@ -484,149 +114,455 @@ not_less x y never = by (nat_cmp x y) refl
     by Equal is = omega (arith, ranked x y Equal is)
     by Greater is = omega (arith, ranked x y Greater is)
 
-neighbors_differ : (front rest : List ℕ) (i j : ℕ) → Apart (front ++ i ∷ j ∷ rest) → i ≢ j
-neighbors_differ [] rest i j apart = λ same. apart.0.0 (sym same)
-neighbors_differ (x ∷ front) rest i j apart = neighbors_differ front rest i j apart.1
+-- where a bound parts the entries, it parts the list of their indexes
+module _ {I T P : Type 0} (number : I → ℕ) (index generation : P → ℕ) (B : T → Type 0)
+    (o : Ordered I T) where
+  abbrev listed : List ℕ → List (ℕ × (ℕ × T))
+  listed w = entries_at o w
 
-regroup : (front rest : List ℕ) (i j : ℕ) → front ++ i ∷ j ∷ rest ≡ (front ++ i ∷ []) ++ j ∷ rest
-regroup [] rest i j = refl
-regroup (x ∷ front) rest i j = ap (λ l. x ∷ l) (regroup front rest i j)
+  abbrev Known : ℕ × (ℕ × T) → Type 0
+  Known e = entry_in o e.0 ≡ Some e.1
 
-tail_is : (x y : ℕ) (xs ys : List ℕ) → x ∷ xs ≡ y ∷ ys → xs ≡ ys
-tail_is x y xs ys is = cc
+  abbrev Lives : List ℕ → Type 0
+  Lives = AllIn (λ j. IsSome (entry_in o j))
 
-module _ {P I V : Type 0} (index generation : P → ℕ) (number : I → ℕ) (o : Ordered I (OrdPair ℕ V))
+  pub record IsParted (r : Option P) : Type 0 where
+    pub low : List ℕ
+    pub high : List ℕ
+    pub is : order_in number o ≡ low ++ high
+    pub below : AllIn (λ j. (e : ℕ × T) → entry_in o j ≡ Some e → B e.1) low
+    pub above : AllIn (λ j. (e : ℕ × T) → entry_in o j ≡ Some e → B e.1 → ⊥) high
+    pub first : first_or high None ≡ option_map index r
+
+  -- the indexes of the list are those of its entries
+  record Split (w : List ℕ) (es fs : List (ℕ × (ℕ × T))) : Type 0 where
+    front : List ℕ
+    back : List ℕ
+    is : w ≡ front ++ back
+    front_is : listed front ≡ es
+    back_is : listed back ≡ fs
+
+  split : (w : List ℕ) → Lives w → (es fs : List (ℕ × (ℕ × T))) → listed w ≡ es ++ fs
+      → Split w es fs
+  split w lives [] fs e = record { front = []; back = w; is = refl; front_is = refl; back_is = e }
+  split [] lives (x ∷ es) fs e = absurd (cc)
+  split (i ∷ w) lives (x ∷ es) fs e =
+      by (λ rest. split w lives.1 es fs rest) (entry_in o i) refl lives.0
+    where
+      by : (listed w ≡ es ++ fs → Split w es fs) → (a : Option (ℕ × T)) → entry_in o i ≡ a
+          → IsSome a → Split (i ∷ w) (x ∷ es) fs
+      by next None at some = absurd (cc)
+      by next (Some a) at some =
+          let opened : listed (i ∷ w) ≡ (i, a) ∷ listed w =
+          ap (λ (z : Option (ℕ × T)). cons_option (option_map (λ e. (i, e)) z) (listed w)) at in
+          let both : (i, a) ∷ listed w ≡ x ∷ (es ++ fs) = sym opened ∙ e in
+          let head : (i, a) ≡ x = cc both in
+          let rest : listed w ≡ es ++ fs = cc both in
+          let s = next rest in
+          record {
+            front = i ∷ s.front;
+            back = s.back;
+            is = ap (λ l. i ∷ l) s.is;
+            front_is = (let here : listed (i ∷ s.front) ≡ (i, a) ∷ listed s.front =
+                ap (λ (z : Option (ℕ × T)). cons_option (option_map (λ e. (i, e)) z)
+                (listed s.front)) at in
+                here ∙ ap (λ l. (i, a) ∷ l) s.front_is ∙ ap (λ y. y ∷ es) head);
+            back_is = s.back_is;
+          }
+
+  -- what holds of the entries holds at the indexes
+  at_indexes : (Q : T → Type 0) (w : List ℕ)
+      → AllByRecursion (λ (e : ℕ × (ℕ × T)). Q e.1.1) (listed w)
+      → AllIn (λ j. (e : ℕ × T) → entry_in o j ≡ Some e → Q e.1) w
+  at_indexes Q [] all = tt
+  at_indexes Q (i ∷ w) all = by (λ left. at_indexes Q w left) (entry_in o i) refl
+    where
+      by : (AllByRecursion (λ (e : ℕ × (ℕ × T)). Q e.1.1) (listed w)
+          → AllIn (λ j. (e : ℕ × T) → entry_in o j ≡ Some e → Q e.1) w)
+          → (a : Option (ℕ × T)) → entry_in o i ≡ a
+          → AllIn (λ j. (e : ℕ × T) → entry_in o j ≡ Some e → Q e.1) (i ∷ w)
+      by next None at = (
+        λ e is. absurd (let never : None ≡ Some e = sym at ∙ is in cc),
+        next (subst (AllByRecursion (λ (e : ℕ × (ℕ × T)). Q e.1.1))
+            (let none : listed (i ∷ w) ≡ listed w = rw at refl in none) all),
+      )
+      by next (Some a) at =
+          let both : AllByRecursion (λ (e : ℕ × (ℕ × T)). Q e.1.1) ((i, a) ∷ listed w) =
+          subst (AllByRecursion (λ (e : ℕ × (ℕ × T)). Q e.1.1))
+          (let some : listed (i ∷ w) ≡ (i, a) ∷ listed w = rw at refl in some) all in (
+            λ e is. subst (λ (z : ℕ × T). Q z.1) (some_is a e (sym at ∙ is)) both.0,
+            next both.1,
+          )
+
+  first_index : (w : List ℕ) → Lives w → first_or w None
+      ≡ option_map (λ (e : ℕ × ℕ). e.0) (first_entry (listed w))
+  first_index [] lives = refl
+  first_index (i ∷ w) lives = by (entry_in o i) refl lives.0
+    where
+      by : (a : Option (ℕ × T)) → entry_in o i ≡ a → IsSome a
+          → Some i ≡ option_map (λ (e : ℕ × ℕ). e.0) (first_entry (listed (i ∷ w)))
+      by None at some = absurd (cc)
+      by (Some a) at some = rw at refl
+
+  pub parted : (r : Option P) → Lives (order_in number o) → IsBound number index generation B r o
+      → IsParted r
+  parted r lives bound =
+      let s = split (order_in number o) lives bound.low bound.high bound.is in
+      record {
+        low = s.front;
+        high = s.back;
+        is = s.is;
+        below = at_indexes B s.front
+            (subst (AllByRecursion (λ (e : ℕ × (ℕ × T)). B e.1.1)) (sym s.front_is)
+            bound.all_before);
+        above = at_indexes (λ t. B t → ⊥) s.back
+            (subst (AllByRecursion (λ (e : ℕ × (ℕ × T)). B e.1.1 → ⊥)) (sym s.back_is)
+            bound.none_before);
+        first = first_index s.back
+            (later (λ j. IsSome (entry_in o j)) s.front s.back (subst Lives s.is lives))
+            ∙ ap (λ l. option_map (λ (e : ℕ × ℕ). e.0) (first_entry l)) s.back_is
+            ∙ ap (option_map (λ (e : ℕ × ℕ). e.0)) (sym bound.first)
+            ∙ indexes r;
+      }
+    where
+      indexes : (q : Option P) → option_map (λ (e : ℕ × ℕ). e.0)
+          (option_map {U = ℕ × ℕ} (λ p. (index p, generation p)) q) ≡ option_map index q
+      indexes None = refl
+      indexes (Some p) = refl
+
+-- each index of the list is live
+module _ {I T : Type 0} (number : I → ℕ) (o : Ordered I T) where
+  lives_in : (b : Option ℕ) (w : List ℕ) → Stands (ends_in number o.chains) b w None
+      → AllIn (λ j. IsSome (entry_in o j)) w
+  lives_in b [] s = tt
+  lives_in b (i ∷ w) s = (by (entry_at o.chains i) s.0, lives_in (Some i) w s.1)
+    where
+      by : (e : Option (ℕ × IndexLink I (IndexNode I T)))
+          → option_map (entry_ends number) e ≡ Some (b, first_or w None)
+          → IsSome (option_map itemed (option_map valued e))
+      by None is = absurd (cc)
+      by (Some e) is = refl
+
+  pub all_live : IsOrdered number o → AllIn (λ j. IsSome (entry_in o j)) (order_in number o)
+  all_live is = lives_in None (order_in number o) is.linear
+
+  pub once : IsOrdered number o → Apart (order_in number o)
+  once is = linear_apart (ends_in number o.chains) None (order_in number o) is.linear
+
+module _ {V : Type 0} where
+  -- the key of a pair
+  abbrev pub price_of : OrdPair ℕ V → ℕ
+  price_of pair = pair.k
+
+module _ {I V : Type 0} where
+  price_there : (o : Ordered I (OrdPair ℕ V)) (price i : ℕ) → price_in o i ≡ Some price
+      → IsSome (entry_in o i)
+  price_there o price i = by (entry_in o i)
+    where
+      by : (e : Option (ℕ × OrdPair ℕ V))
+          → option_map (λ (e : ℕ × OrdPair ℕ V). e.1.k) e ≡ Some price → IsSome e
+      by None is = absurd (cc)
+      by (Some e) is = refl
+
+  -- the price of an entry
+  price_is : (o : Ordered I (OrdPair ℕ V)) (j price : ℕ) → price_in o j ≡ Some price
+      → (e : ℕ × OrdPair ℕ V) × (entry_in o j ≡ Some e) × (e.1.k ≡ price)
+  price_is o j price is = by (entry_in o j) refl
+    where
+      by : (a : Option (ℕ × OrdPair ℕ V)) → entry_in o j ≡ a
+          → (e : ℕ × OrdPair ℕ V) × (entry_in o j ≡ Some e) × (e.1.k ≡ price)
+      by None at = absurd
+          (let never : None ≡ Some price = sym (ap (option_map (λ (e : ℕ × OrdPair ℕ V). e.1.k)) at)
+          ∙ is in cc)
+      by (Some e) at = (
+        e,
+        at,
+        some_is e.1.k price (sym (ap (option_map (λ (e : ℕ × OrdPair ℕ V). e.1.k)) at) ∙ is),
+      )
+
+  -- what is said of entries, said of prices
+  prices_in : (Q : OrdPair ℕ V → Type 0) (R : ℕ → Type 0) → ((t : OrdPair ℕ V) → Q t → R t.k)
+      → (o : Ordered I (OrdPair ℕ V)) (w : List ℕ)
+      → AllIn (λ j. (e : ℕ × OrdPair ℕ V) → entry_in o j ≡ Some e → Q e.1) w → AllPrices R o w
+  prices_in Q R so o = weaker (λ j. (e : ℕ × OrdPair ℕ V) → entry_in o j ≡ Some e → Q e.1)
+      (λ j. (price : ℕ) → price_in o j ≡ Some price → R price)
+      (λ j all price is. let e = price_is o j price is in
+      subst R e.2 (so e.0.1 (all e.0 e.1)))
+
+  -- what was asked of each, said of prices
+  asked_prices : (d : Ordering) (own : ℕ) (R : ℕ → Type 0)
+      → ((other : ℕ) → nat_cmp own other ≢ d → R other)
+      → (o : Ordered I (OrdPair ℕ V)) (w : List ℕ)
+      → AllIn (λ j. asked_at nat_cmp price_of own o j ≢ d) w → AllPrices R o w
+  asked_prices d own R so o = weaker (λ j. asked_at nat_cmp price_of own o j ≢ d)
+      (λ j. (price : ℕ) → price_in o j ≡ Some price → R price)
+      (λ j never price is. let e = price_is o j price is in
+      subst R e.2 (so e.0.1.k (subst (λ z. asked_of nat_cmp price_of own z ≢ d) e.1 never)))
+
+  -- and the other way round
+  prices_asked : (d : Ordering) (own : ℕ) (R : ℕ → Type 0)
+      → (d ≢ Equal) → ((other : ℕ) → R other → nat_cmp own other ≢ d)
+      → (o : Ordered I (OrdPair ℕ V)) (w : List ℕ) → AllPrices R o w
+      → AllIn (λ j. asked_at nat_cmp price_of own o j ≢ d) w
+  prices_asked d own R turns so o = weaker (λ j. (price : ℕ) → price_in o j ≡ Some price → R price)
+      (λ j. asked_at nat_cmp price_of own o j ≢ d)
+      (λ j all. by (entry_in o j) all)
+    where
+      by : (a : Option (ℕ × OrdPair ℕ V))
+          → ((price : ℕ) → option_map (λ (e : ℕ × OrdPair ℕ V). e.1.k) a ≡ Some price → R price)
+          → asked_of nat_cmp price_of own a ≢ d
+      by None all = λ same. turns (sym same)
+      by (Some e) all = so e.1.k (all e.1.k refl)
+
+  live_entry : (o : Ordered I (OrdPair ℕ V)) (i : ℕ) → IsSome (entry_in o i)
+      → (e : ℕ × OrdPair ℕ V) × (entry_in o i ≡ Some e)
+  live_entry o i = by (entry_in o i) refl
+    where
+      by : (a : Option (ℕ × OrdPair ℕ V)) → entry_in o i ≡ a → IsSome a
+          → (e : ℕ × OrdPair ℕ V) × (entry_in o i ≡ Some e)
+      by None at some = absurd (cc)
+      by (Some e) at some = (e, at)
+
+-- what the order compares
+above : (x y : ℕ) → ((nat_cmp x y ≢ Less) → ⊥) → x < y
+above x y never = by (nat_cmp x y) refl
   where
-    -- what a step leaves of a walk
-    pub stepped : (before after : OrderedWalk) (given : Option P) (i : ℕ) (rest : List ℕ)
-        → OrderedSteps number o before (option_map (λ p. (index p, generation p)) given) after
-        → left_over number o before ≡ i ∷ rest → left_over number o after ≡ rest
-    stepped before after None i rest over is =
-        absurd (let none : i ∷ rest ≡ [] = sym is ∙ over.left in cc)
-    stepped before after (Some p) i rest given is =
-        sym (tail_is i (index p) rest (left_over number o after) (sym is ∙ given.left))
+    by : (d : Ordering) → nat_cmp x y ≡ d → x < y
+    by Less is = ranked x y Less (sym is)
+    by Equal is = absurd (never (λ e. let z : Less ≡ Equal = sym e ∙ is in cc))
+    by Greater is = absurd (never (λ e. let z : Less ≡ Greater = sym e ∙ is in cc))
 
-    -- how the prices along the list compare with that at an index
-    pub record Compared : Type 0 where
-      pub listed : (k : ℕ) → IsSome (entry_in o k) → On (order_in number o) k
-      pub before : (front back : List ℕ) (i : ℕ) (entry : ℕ × OrdPair ℕ V)
-          → order_in number o ≡ front ++ i ∷ back → entry_in o i ≡ Some entry
-          → AllIn (λ k. asked_at nat_cmp price_of entry.1.k o k ≢ Less) front
-      pub after : (front back : List ℕ) (i : ℕ) (entry : ℕ × OrdPair ℕ V)
-          → order_in number o ≡ front ++ i ∷ back → entry_in o i ≡ Some entry
-          → AllIn (λ k. asked_at nat_cmp price_of entry.1.k o k ≢ Greater) back
+module _ {I V P : Type 0} (number : I → ℕ) (index generation : P → ℕ)
+    (o : Ordered I (OrdPair ℕ V)) where
+  module _ (price : ℕ) where
+    abbrev NotAbove : OrdPair ℕ V → Type 0
+    NotAbove t = nat_cmp price t.k ≢ Less
 
-    asked_as : (Q : ℕ → Type 0) (d : Ordering) (own k price : ℕ) → price_in o k ≡ Some price
-        → asked_at nat_cmp price_of own o k ≢ d
-        → nat_cmp own price ≢ d
-    asked_as Q d own k price there never = by (entry_in o k) there never
+    behind : (r : Option P) (p : IsParted number index generation NotAbove o r) (w : List ℕ) (i : ℕ)
+        → w ≡ p.low ++ i ∷ p.high → IsBehind o price i (order_in number o) w
+    behind r p w i is = record {
+      before = p.low;
+      after = p.high;
+      was = p.is;
+      is = is;
+      not_greater = prices_in NotAbove (λ other. other ≤ price)
+          (λ t never. not_less price t.k never) o p.low p.below;
+      greater = prices_in (λ t. NotAbove t → ⊥) (λ other. price < other)
+          (λ t never. above price t.k never) o p.high p.above;
+    }
+
+    at_bound : IsOrdered number o → (r : Option P) → IsBound number index generation NotAbove r o
+        → IsParted number index generation NotAbove o r
+    at_bound ordered r bound =
+        parted number index generation NotAbove o r (all_live number o ordered) bound
+
+    -- directly before the first with a greater price
+    pub behind_next : IsOrdered number o → (r : Option P)
+        → IsBound number index generation NotAbove r o → (next : P) → r ≡ Some next
+        → (h : ℕ) → h ≡ index next → (w : List ℕ) (i : ℕ)
+        → StandsAt (Some (h, Less)) (order_in number o) w i
+        → IsBehind o price i (order_in number o) w
+    behind_next ordered r bound next is h at w i s =
+        let p = at_bound ordered r bound in
+        let high = starts p.high (index next) (p.first ∙ ap (option_map index) is) in
+        let here : order_in number o ≡ p.low ++ h ∷ high.0 =
+        p.is ∙ ap (λ l. p.low ++ l) high.1 ∙ ap (λ z. p.low ++ z ∷ high.0) (sym at) in
+        let parts = parts_once s.before h s.after p.low high.0
+        (subst Apart s.was (once number o ordered)) (sym s.was ∙ here) in
+        behind r p w i
+        (s.is ∙ ap (λ l. l ++ i ∷ h ∷ s.after) parts.0 ∙ ap (λ l. p.low ++ i ∷ h ∷ l) parts.1
+        ∙ ap (λ z. p.low ++ i ∷ z ∷ high.0) at ∙ ap (λ l. p.low ++ i ∷ l) (sym high.1))
+
+    -- behind the last, where none has a greater price
+    pub behind_last : IsOrdered number o → (r : Option P)
+        → IsBound number index generation NotAbove r o → r ≡ None
+        → (h : ℕ) → last_or None (order_in number o) ≡ Some h → (w : List ℕ) (i : ℕ)
+        → StandsAt (Some (h, Greater)) (order_in number o) w i
+        → IsBehind o price i (order_in number o) w
+    behind_last ordered r bound is h at w i s =
+        let p = at_bound ordered r bound in
+        let none = no_first p.high (p.first ∙ ap (option_map index) is) in
+        let e = ends (order_in number o) h at in
+        let parts = parts_once s.before h s.after e.0 []
+        (subst Apart s.was (once number o ordered)) (sym s.was ∙ e.1) in
+        let whole : s.before ++ h ∷ [] ≡ order_in number o =
+        ap (λ l. s.before ++ h ∷ l) (sym parts.1) ∙ sym s.was in
+        let low : order_in number o ≡ p.low =
+        p.is ∙ ap (λ l. p.low ++ l) none ∙ append_none p.low in
+        behind r p w i
+        (s.is ∙ ap (λ l. s.before ++ h ∷ i ∷ l) parts.1 ∙ regroup s.before h i
+        ∙ ap (λ l. l ++ i ∷ []) (whole ∙ low) ∙ ap (λ l. p.low ++ i ∷ l) (sym none))
+
+    -- alone
+    pub behind_none : IsOrdered number o → (r : Option P)
+        → IsBound number index generation NotAbove r o
+        → (w : List ℕ) (i : ℕ) → StandsAt None (order_in number o) w i
+        → IsBehind o price i (order_in number o) w
+    behind_none ordered r bound w i s =
+        let p = at_bound ordered r bound in
+        let none = none_left p.low p.high (sym p.is ∙ s.0) in
+        behind r p w i
+        (s.1 ∙ ap (λ l. l ++ i ∷ []) (sym none.0) ∙ ap (λ l. p.low ++ i ∷ l) (sym none.1))
+
+    -- what that says of the keys
+    pub not_less_before : (w : List ℕ) → AllPrices (λ other. other ≤ price) o w
+        → AllIn (λ j. asked_at nat_cmp price_of price o j ≢ Less) w
+    not_less_before = prices_asked Less price (λ other. other ≤ price) (λ same. cc)
+        (λ other most same. let less : price < other = ranked price other Less (sym same) in
+        omega (arith, most, less)) o
+
+    pub not_greater_behind : (w : List ℕ) → AllPrices (λ other. price < other) o w
+        → AllIn (λ j. asked_at nat_cmp price_of price o j ≢ Greater) w
+    not_greater_behind = prices_asked Greater price (λ other. price < other) (λ same. cc)
+        (λ other least same. let less : other < price = ranked price other Greater (sym same) in
+        omega (arith, least, less)) o
+
+  -- the first of the list
+  pub best_ask_of : IsOrdered number o → (r : Option P)
+      → option_map index r ≡ first_or (order_in number o) None
+      → ((back : List ℕ) (i : ℕ) (entry : ℕ × OrdPair ℕ V) → order_in number o ≡ i ∷ back
+      → entry_in o i ≡ Some entry
+      → AllIn (λ k. asked_at nat_cmp price_of entry.1.k o k ≢ Greater) back)
+      → IfSome r (λ p. IsBestAsk number o (index p))
+  best_ask_of ordered None at after = tt
+  best_ask_of ordered (Some p) at after =
+      let first = starts (order_in number o) (index p) (sym at) in
+      let e = live_entry o (index p)
+      (subst (AllIn (λ j. IsSome (entry_in o j))) first.1 (all_live number o ordered)).0 in
+      record {
+        own = e.0.1.k;
+        later = first.0;
+        is = first.1;
+        price = ap (option_map (λ (e : ℕ × OrdPair ℕ V). e.1.k)) e.1;
+        least = asked_prices Greater e.0.1.k (λ other. e.0.1.k ≤ other)
+            (λ other never. not_greater e.0.1.k other never) o first.0
+            (after first.0 (index p) e.0 first.1 e.1);
+      }
+
+  -- the first of those with the price of the last
+  pub record BestBid (r : Option P) : Type 0 where
+    pub pointer : P
+    pub is : r ≡ Some pointer
+    pub best : IsBestBid number o (index pointer)
+
+  pub bid_if : (r : Option P) → BestBid r → IfSome r (λ p. IsBestBid number o (index p))
+  bid_if None bid = absurd (let z = bid.is in cc)
+  bid_if (Some p) bid =
+      subst (λ q. IsBestBid number o (index q)) (some_is bid.pointer p (sym bid.is)) bid.best
+
+  pub bid_unless : (r : Option P) → BestBid r → (Q : Type 0) → IfNone r Q
+  bid_unless None bid Q = absurd (let z = bid.is in cc)
+  bid_unless (Some p) bid Q = tt
+
+  module _ (ordered : IsOrdered number o) (last own : ℕ)
+      (at : last_or None (order_in number o) ≡ Some last) (price : price_in o last ≡ Some own)
+      (before : (front back : List ℕ) (i : ℕ) (entry : ℕ × OrdPair ℕ V)
+      → order_in number o ≡ front ++ i ∷ back → entry_in o i ≡ Some entry
+      → AllIn (λ k. asked_at nat_cmp price_of entry.1.k o k ≢ Less) front) where
+    abbrev Lower : OrdPair ℕ V → Type 0
+    Lower t = nat_cmp own t.k ≡ Greater
+
+    most : AllPrices (λ other. other ≤ own) o (order_in number o)
+    most =
+        let e = ends (order_in number o) last at in
+        let entry = price_is o last own price in
+        let front = asked_prices Less entry.0.1.k (λ other. other ≤ own)
+        (λ other never. subst (λ z. other ≤ z) entry.2 (not_less entry.0.1.k other never)) o e.0
+        (before e.0 [] last entry.0 e.1 entry.1) in
+        subst (AllPrices (λ other. other ≤ own) o) (sym e.1)
+        (joined (λ j. (other : ℕ) → price_in o j ≡ Some other → other ≤ own) e.0 (last ∷ []) front
+        ((λ other there. omega (arith, some_is own other (sym price ∙ there))), tt))
+
+    pub best_bid_of : (r : Option P) → IsBound number index generation Lower r o → BestBid r
+    best_bid_of r bound = by r p.high refl p.first
       where
-        by : (e : Option (ℕ × OrdPair ℕ V))
-            → option_map (λ (e : ℕ × OrdPair ℕ V). e.1.k) e ≡ Some price
-            → Rattle.triple_arena_ord.specs.Ordered.asked_of nat_cmp price_of own e ≢ d
-            → nat_cmp own price ≢ d
-        by None none never = absurd (cc)
-        by (Some e) same never = subst (λ k. nat_cmp own k ≢ d) (some_is e.1.k price same) never
+        p : IsParted number index generation Lower o r
+        p = parted number index generation Lower o r (all_live number o ordered) bound
 
-    entry_of_price : (i own : ℕ) → price_in o i ≡ Some own
-        → (entry : ℕ × OrdPair ℕ V) × (entry_in o i ≡ Some entry) × (entry.1.k ≡ own)
-    entry_of_price i own is = by (entry_in o i) refl
-      where
-        by : (e : Option (ℕ × OrdPair ℕ V)) → entry_in o i ≡ e
-            → (entry : ℕ × OrdPair ℕ V) × (entry_in o i ≡ Some entry) × (entry.1.k ≡ own)
-        by None none = absurd
-            (let never : None ≡ Some own =
-            sym (ap (option_map (λ (e : ℕ × OrdPair ℕ V). e.1.k)) none)
-            ∙ is in cc)
-        by (Some e) there = (
-          e,
-          there,
-          some_is e.1.k own (sym (ap (option_map (λ (e : ℕ × OrdPair ℕ V). e.1.k)) there) ∙ is),
-        )
+        less : AllPrices (λ other. other < own) o p.low
+        less = prices_in Lower (λ other. other < own) (λ t is. ranked own t.k Greater (sym is)) o
+            p.low p.below
 
-    below : (c : Compared) (front back : List ℕ) (i own : ℕ) → order_in number o ≡ front ++ i ∷ back
-        → price_in o i ≡ Some own
-        → AllIn (λ k. (price : ℕ) → price_in o k ≡ Some price → price ≤ own) front
-    below c front back i own is here =
-        let e = entry_of_price i own here in
-        weaker (λ k. asked_at nat_cmp price_of e.0.1.k o k ≢ Less)
-        (λ k. (price : ℕ) → price_in o k ≡ Some price → price ≤ own)
-        (λ k never price there. subst (λ x. price ≤ x) e.2
-        (not_less e.0.1.k price (asked_as (λ k. Unit {0}) Less e.0.1.k k price there never)))
-        front (c.before front back i e.0 is e.1)
+        same : AllPrices (λ other. other ≡ own) o p.high
+        same = both_in (λ j. (other : ℕ) → price_in o j ≡ Some other → own ≤ other)
+            (λ j. (other : ℕ) → price_in o j ≡ Some other → other ≤ own)
+            (λ j. (other : ℕ) → price_in o j ≡ Some other → other ≡ own)
+            (λ j low high other there. omega (arith, low other there, high other there)) p.high
+            (prices_in (λ t. Lower t → ⊥) (λ other. own ≤ other)
+            (λ t never. not_greater own t.k never) o p.high p.above)
+            (later (λ j. (other : ℕ) → price_in o j ≡ Some other → other ≤ own) p.low p.high
+            (subst (AllPrices (λ other. other ≤ own) o) p.is most))
 
-    above : (c : Compared) (front back : List ℕ) (i own : ℕ) → order_in number o ≡ front ++ i ∷ back
-        → price_in o i ≡ Some own
-        → AllIn (λ k. (price : ℕ) → price_in o k ≡ Some price → own ≤ price) back
-    above c front back i own is here =
-        let e = entry_of_price i own here in
-        weaker (λ k. asked_at nat_cmp price_of e.0.1.k o k ≢ Greater)
-        (λ k. (price : ℕ) → price_in o k ≡ Some price → own ≤ price)
-        (λ k never price there. subst (λ x. x ≤ price) e.2
-        (not_greater e.0.1.k price
-        (asked_as (λ k. Unit {0}) Greater e.0.1.k k price there never)))
-        back (c.after front back i e.0 is e.1)
+        lives : AllIn (λ j. IsSome (entry_in o j)) p.high
+        lives = later (λ j. IsSome (entry_in o j)) p.low p.high
+            (subst (AllIn (λ j. IsSome (entry_in o j))) p.is (all_live number o ordered))
 
-    pub last_price : Compared → (front : List ℕ) (i : ℕ) → order_in number o ≡ front ++ i ∷ []
-        → IsLastPrice o i
-    last_price c front i is = λ own k price here there.
-        let Q : ℕ → Type 0 = λ k. (price : ℕ) → price_in o k ≡ Some price → price ≤ own in
-        let own_is : Q i = λ price there. omega (arith, some_is own price (sym here ∙ there)) in
-        let all : AllIn Q (front ++ i ∷ []) =
-        joined Q front (i ∷ []) (below c front [] i own is here) (own_is, tt) in
-        let on = c.listed k (price_there o price k there) in
-        at_of Q on.front k on.back (subst (AllIn Q) (sym is ∙ on.is) all) price there
+        by : (q : Option P) (w : List ℕ) → p.high ≡ w → first_or p.high None ≡ option_map index q
+            → BestBid q
+        by q [] none first =
+            let low : order_in number o ≡ p.low =
+            p.is ∙ ap (λ l. p.low ++ l) none ∙ append_none p.low in
+            let e = ends (order_in number o) last at in
+            let here =
+            at_of (λ j. (other : ℕ) → price_in o j ≡ Some other → other < own) e.0 last []
+            (subst (AllPrices (λ other. other < own) o) (sym low ∙ e.1) less) own price in
+            absurd (omega (arith, here))
+        by None (h ∷ w) some first =
+            absurd (let never : Some h ≡ None = sym (ap (λ l. first_or l None) some) ∙ first in cc)
+        by (Some q) (h ∷ w) some first =
+            let at : h ≡ index q =
+            some_is h (index q) (sym (ap (λ l. first_or l None) some) ∙ first) in
+            let split : p.high ≡ index q ∷ w = some ∙ ap (λ z. z ∷ w) at in
+            let all = subst (AllPrices (λ other. other ≡ own) o) split same in
+            let e = live_entry o (index q)
+            (subst (AllIn (λ j. IsSome (entry_in o j))) split lives).0 in
+            let price : price_in o (index q) ≡ Some e.0.1.k =
+            ap (option_map (λ (e : ℕ × OrdPair ℕ V). e.1.k)) e.1 in
+            record {
+              pointer = q;
+              is = refl;
+              best = record {
+                own = own;
+                lesser = p.low;
+                later = w;
+                is = p.is ∙ ap (λ l. p.low ++ l) split;
+                price = price ∙ ap Some (all.0 e.0.1.k price);
+                less = less;
+                same = all.1;
+              };
+            }
 
-    pub next_price : Compared → Apart (order_in number o)
-        → ((i j price : ℕ) → price_in o i ≡ Some price → price_in o j ≡ Some price → i ≡ j)
-        → (front rest : List ℕ) (i j : ℕ) → order_in number o ≡ front ++ i ∷ j ∷ rest
-        → IsNextPrice o i j
-    next_price c once apart front rest i j is = λ own next here there.
-        let up = (above c front (j ∷ rest) i own is here).0 next there in
-        let differ : own ≢ next =
-        λ same. neighbors_differ front rest i j (subst Apart is once)
-        (apart i j next (here ∙ ap Some same) there) in
-        let less : own < next = omega (arith, up, differ) in
-        let is' : order_in number o ≡ (front ++ i ∷ []) ++ j ∷ rest = is
-        ∙ regroup front rest i j in (
-          less,
-          λ k price at over.
-              let Q : ℕ → Type 0 = λ k. (price : ℕ) → price_in o k ≡ Some price → own < price
-              → next ≤ price in
-              let low : AllIn Q front =
-              weaker (λ k. (price : ℕ) → price_in o k ≡ Some price → price ≤ own) Q
-              (λ k most price at over. absurd (omega (arith, most price at, over))) front
-              (below c front (j ∷ rest) i own is here) in
-              let own_is : Q i = λ price at over. absurd
-              (omega (arith, some_is own price (sym here ∙ at), over)) in
-              let next_is : Q j = λ price at over. omega
-              (arith, some_is next price (sym there ∙ at))
-              in
-              let high : AllIn Q rest =
-              weaker (λ k. (price : ℕ) → price_in o k ≡ Some price → next ≤ price) Q
-              (λ k least price at over. least price at) rest
-              (above c (front ++ i ∷ []) rest j next is' there) in
-              let all : AllIn Q (front ++ i ∷ j ∷ rest) =
-              joined Q front (i ∷ j ∷ rest) low (own_is, (next_is, high)) in
-              let on = c.listed k (price_there o price k at) in
-              at_of Q on.front k on.back (subst (AllIn Q) (sym is ∙ on.is) all) price at over,
-        )
+  -- what a step leaves of a walk
+  pub stepped : (before after : OrderedWalk) (given : Option P) (i : ℕ) (rest : List ℕ)
+      → OrderedSteps number o before (option_map (λ p. (index p, generation p)) given) after
+      → left_over number o before ≡ i ∷ rest → left_over number o after ≡ rest
+  stepped before after None i rest over is =
+      absurd (let none : i ∷ rest ≡ [] = sym is ∙ over.left in cc)
+  stepped before after (Some p) i rest given is =
+      sym (tail_is i (index p) rest (left_over number o after) (sym is ∙ given.left))
 
-    -- what the step after that of an order gives
-    pub next_given : (Valid : Type 0) → Compared → Apart (order_in number o)
-        → ((i j price : ℕ) → price_in o i ≡ Some price → price_in o j ≡ Some price → i ≡ j)
-        → (front back : List ℕ) (i : ℕ) → order_in number o ≡ front ++ i ∷ back
-        → (before after : OrderedWalk) (given : Option P)
-        → OrderedSteps number o before (option_map (λ p. (index p, generation p)) given) after
-        → left_over number o before ≡ back
-        → IfSome given (λ q. IsNextPrice o i (index q)) × IfNone given (Valid → IsLastPrice o i)
-    next_given Valid c once apart front back i is before after None over left =
-        (tt, λ valid. last_price c front i (is ∙ ap (λ l. front ++ i ∷ l) (sym left ∙ over.left)))
-    next_given Valid c once apart front back i is before after (Some q) given left = (
-      next_price c once apart front (left_over number o after) i (index q)
-          (is ∙ ap (λ l. front ++ i ∷ l) (sym left ∙ given.left)),
-      tt,
-    )
+  -- what the step after that of an order gives
+  pub next_given : (Valid : Type 0) → (front back : List ℕ) (i : ℕ)
+      → order_in number o ≡ front ++ i ∷ back
+      → (before after : OrderedWalk) (given : Option P)
+      → OrderedSteps number o before (option_map (λ p. (index p, generation p)) given) after
+      → left_over number o before ≡ back
+      → IfSome given (λ q. IsNext number o i (index q)) × IfNone given (Valid → IsLast number o i)
+  next_given Valid front back i is before after None over left = (
+    tt,
+    λ valid. record {
+      before = front;
+      is = is ∙ ap (λ l. front ++ i ∷ l) (sym left ∙ over.left);
+    },
+  )
+  next_given Valid front back i is before after (Some q) given left = (
+    record {
+      before = front;
+      after = left_over number o after;
+      is = is ∙ ap (λ l. front ++ i ∷ l) (sym left ∙ given.left);
+    },
+    tt,
+  )
 
 -- what holds where there is an answer
 pub where_some : {A B Q : Type 0} (f : A → B) (o : Option A) (b : B) → option_map f o ≡ Some b

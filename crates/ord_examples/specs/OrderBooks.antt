@@ -1,9 +1,11 @@
--- Order books: orders by their prices, of which each price has one at most.
-use Rattle.std.specs.Prelude.{◌≡◌, ◌≢◌, ℕ, ◌<◌, ◌≤◌, Option, Some, None, Result, Ok, Err}
+-- Order books: the orders of one side of a market by price, and those of one price by arrival.
+use Rattle.std.specs.Prelude.{◌≡◌, ℕ, ◌<◌, ◌≤◌, List, [], ◌∷◌, ◌++◌}
+use Rattle.std.specs.Prelude.{Option, Some}
 use Rattle.std.specs.Option.{option_map}
 use Rattle.std.specs.Ordering.{nat_cmp}
+use Rattle.rank_tree.specs.Search.{AllIn}
 use Rattle.triple_arena_ord.specs.declared.pair.OrdPair.{OrdPair}
-use Rattle.triple_arena_ord.specs.Ordered.{Ordered, IsAscending, entry_in}
+use Rattle.triple_arena_ord.specs.Ordered.{Ordered, IsAscending, order_in, entry_in}
 
 -- the price and the order of an entry
 abbrev pub listed_order : {V : Type 0} → ℕ × (ℕ × OrdPair ℕ V) → ℕ × V
@@ -19,33 +21,50 @@ module _ {I V : Type 0} where
   abbrev pub price_in : Ordered I (OrdPair ℕ V) → ℕ → Option ℕ
   price_in o i = option_map (λ e. e.1.k) (entry_in o i)
 
-  -- no order has this price
-  abbrev pub IsFreePrice : Ordered I (OrdPair ℕ V) → ℕ → Type 0
-  IsFreePrice o price = (i : ℕ) → price_in o i ≢ Some price
+  -- the price at each of these indexes
+  abbrev pub AllPrices : (ℕ → Type 0) → Ordered I (OrdPair ℕ V) → List ℕ → Type 0
+  AllPrices Q o = AllIn (λ j. (price : ℕ) → price_in o j ≡ Some price → Q price)
 
-  -- a price and an index without an order, for one with a new generation
-  pub record IsNewOrder (o : Ordered I (OrdPair ℕ V)) (price i g : ℕ) : Type 0 where
-    pub free : IsFreePrice o price
-    pub vacant : orders_in o i ≡ None
-    pub generation : g ≡ o.chains.counter
+  -- an order comes into the list behind all whose price is not greater, and before the others
+  pub record IsBehind (o : Ordered I (OrdPair ℕ V)) (price i : ℕ) (old new : List ℕ)
+      : Type 0 where
+    pub before : List ℕ
+    pub after : List ℕ
+    pub was : old ≡ before ++ after
+    pub is : new ≡ before ++ i ∷ after
+    pub not_greater : AllPrices (λ other. other ≤ price) o before
+    pub greater : AllPrices (λ other. price < other) o after
 
-  -- the price at the second index is the next greater one after that at the first
-  abbrev pub IsNextPrice : Ordered I (OrdPair ℕ V) → ℕ → ℕ → Type 0
-  IsNextPrice o i j = (own next : ℕ) → price_in o i ≡ Some own → price_in o j ≡ Some next
-      → (own < next) × ((k price : ℕ) → price_in o k ≡ Some price → own < price → next ≤ price)
+  module _ (number : I → ℕ) where
+    -- the prices ascend along the list
+    abbrev pub IsBook : Ordered I (OrdPair ℕ V) → Type 0
+    IsBook o = IsAscending number nat_cmp (λ pair. pair.k) o
 
-  -- no price is greater than that at an index
-  abbrev pub IsLastPrice : Ordered I (OrdPair ℕ V) → ℕ → Type 0
-  IsLastPrice o i = (own k price : ℕ) → price_in o i ≡ Some own → price_in o k ≡ Some price
-      → price ≤ own
+    -- no order has a lesser price, and of those with this price none came before it
+    pub record IsBestAsk (o : Ordered I (OrdPair ℕ V)) (i : ℕ) : Type 0 where
+      pub own : ℕ
+      pub later : List ℕ
+      pub is : order_in number o ≡ i ∷ later
+      pub price : price_in o i ≡ Some own
+      pub least : AllPrices (λ other. own ≤ other) o later
 
-  -- the prices ascend, and no two are the same
-  pub record IsBook (number : I → ℕ) (o : Ordered I (OrdPair ℕ V)) : Type 0 where
-    pub ascending : IsAscending number nat_cmp (λ pair. pair.k) o
-    pub apart : (i j price : ℕ) → price_in o i ≡ Some price → price_in o j ≡ Some price → i ≡ j
+    -- no order has a greater price, and of those with this price none came before it
+    pub record IsBestBid (o : Ordered I (OrdPair ℕ V)) (i : ℕ) : Type 0 where
+      pub own : ℕ
+      pub lesser : List ℕ
+      pub later : List ℕ
+      pub is : order_in number o ≡ lesser ++ i ∷ later
+      pub price : price_in o i ≡ Some own
+      pub less : AllPrices (λ other. other < own) o lesser
+      pub same : AllPrices (λ other. other ≡ own) o later
 
--- what an insertion answers, with the order that it replaces alone
-abbrev pub as_order : {P V E : Type 0} → Result (P × Option (OrdPair ℕ V)) E
-    → Result (P × Option V) E
-as_order (Ok r) = Ok (r.0, option_map (λ pair. pair.v) r.1)
-as_order (Err e) = Err e
+    -- the one stands directly behind the other
+    pub record IsNext (o : Ordered I (OrdPair ℕ V)) (i j : ℕ) : Type 0 where
+      pub before : List ℕ
+      pub after : List ℕ
+      pub is : order_in number o ≡ before ++ i ∷ j ∷ after
+
+    -- it stands behind all others
+    pub record IsLast (o : Ordered I (OrdPair ℕ V)) (i : ℕ) : Type 0 where
+      pub before : List ℕ
+      pub is : order_in number o ≡ before ++ i ∷ []

@@ -1,8 +1,8 @@
 //! Examples of what ordered arenas are for, each a page to copy from. Those of the other arenas are
 //! in `examples`.
 //!
-//! - [`open_book`], [`add_order`], [`cancel_order`], [`best_order`], [`next_order`]: an order book,
-//!   in an ordered arena.
+//! - [`open_book`], [`add_order`], [`cancel_order`], [`best_ask`], [`best_bid`], [`next_order`]: an
+//!   order book, in an ordered arena whose entries are in the order in which they are matched.
 //! - [`move_orders`]: the orders of one book moved into another, as one over narrower pointers.
 //! - [`by_value`]: callers that take an ordered arena by value, and what they learn of its items.
 #![tactic(auto)]
@@ -12,6 +12,6 @@ mod order_book;
 mod order_moves;
 
 pub use order_book::{
-    OrderBook, OrderSlot, add_order, best_order, cancel_order, next_order, open_book,
+    OrderBook, OrderSlot, add_order, best_ask, best_bid, cancel_order, next_order, open_book,
 };
 pub use order_moves::move_orders;

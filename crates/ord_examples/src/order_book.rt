@@ -1,42 +1,35 @@
-//! Order books: orders by their prices in an ordered arena, one at a price at most, of which all is
-//! said by pointers and prices.
-ghost use Rattle.std.specs.Prelude.{◌≡◌, ◌≤◌, ◌↔◌, ℕ, None, Some, Ok, IsTrue, IsOk, IsSome, IfOk};
+//! Order books: the orders of one side of a market in an ordered arena, by price, and those of one
+//! price in the order in which they came. Two books are a market: of the one the best order is the
+//! first with the least price, of the other the first with the greatest.
+ghost use Rattle.std.specs.Prelude.{◌≡◌, ◌≤◌, ◌↔◌, ℕ, List, None, Some, IsTrue, IsOk, IsSome, IfOk};
 ghost use Rattle.std.specs.Prelude.{IfSome, IfNone, IfErr, OnErr, OnSome, IsErrOf};
+ghost use Rattle.std.specs.Option.{option_map};
 ghost use Rattle.triple_arena_stack.specs.Room.{capacity as capacity_of, IsBeyond};
 ghost use Rattle.triple_arena.specs.ArenaRoom.{room_of};
 ghost use Rattle.triple_arena.specs.Content.{live_count, arena_capacity};
 ghost use Rattle.triple_arena.specs.Entries.{with_entry, without, value_if, generation_at};
 ghost use Rattle.triple_arena_ptr.specs.Generation.{next_generation};
-ghost use Rattle.ord_examples.specs.OrderBooks.{orders_in, price_in, IsFreePrice, IsNewOrder};
-ghost use Rattle.ord_examples.specs.OrderBooks.{IsBook, IsNextPrice, IsLastPrice, as_order};
+ghost use Rattle.triple_arena_ord.specs.Inserted.{Replaces, StandsAt};
+ghost use Rattle.triple_arena_ord.specs.Ordered.{IsOrdered, entry_in, size_in, order_in};
+ghost use Rattle.triple_arena_ord.specs.Removal.{Loses};
+ghost use Rattle.ord_examples.specs.OrderBooks.{orders_in, IsBehind, IsBook, IsBestAsk};
+ghost use Rattle.ord_examples.specs.OrderBooks.{IsBestBid, IsNext, IsLast};
 
+use std::cmp::Ordering;
 use triple_arena::{
     Advancer, ArenaSlot, ArenaTrait, NonZeroInxGenericStack, PtrCore, ReallocationError,
 };
 use triple_arena_chain::LinkNoGen;
 use triple_arena_ord::laws::{
-    entries_stand_in_the_list, keys_ascend_along_the_list, removals_keep_keys_ascending,
+    insertions_keep_keys_ascending, keys_ascend_along_the_list, removals_keep_keys_ascending,
 };
 use triple_arena_ord::{OrdInsertionError, OrdPair, SimpleOrdArena, SimpleOrdArenaNode};
 
-/// Orders by their prices.
+/// The orders of one side, by their prices.
 pub type OrderBook<P, V, S> = SimpleOrdArena<P, OrdPair<u64, V>, S>;
 
 /// A slot of an order book.
 pub type OrderSlot<P, V> = ArenaSlot<P, LinkNoGen<P, SimpleOrdArenaNode<P, OrdPair<u64, V>>>>;
-
-// What an insertion answers, with the order that it replaces alone.
-fn as_order<P: PtrCore, V: Drop>(
-    inserted: Result<(P, Option<OrdPair<u64, V>>), OrdInsertionError>,
-) -> Result<(P, Option<V>), OrdInsertionError>
-    ensures { result ≡ as_order inserted }
-{
-    let (p, was) = inserted?;
-    match was {
-        Some(pair) => Ok((p, Some(pair.into_k_v().1))),
-        None => Ok((p, None)),
-    }
-}
 
 /// A book without an order, with room for so many. It returns `BeyondMaxCapacity` if no book of
 /// this type has so much room, and `AllocError` if the memory was refused.
@@ -55,38 +48,64 @@ pub fn open_book<P: PtrCore, V: Drop, S: NonZeroInxGenericStack<Item = OrderSlot
     SimpleOrdArena::with_min_capacity(alloc, orders)
 }
 
-/// Puts an order in at a price, and returns its pointer, with the order that it replaces, if one
-/// stands at the price. It returns `NotWithinCapacity` if none does and there is no room; the book
-/// stays as it is then.
+// Where an order goes that comes behind all whose price is not greater.
+fn place_behind<P: PtrCore, V: Drop, S: NonZeroInxGenericStack<Item = OrderSlot<P, V>> + Drop>(
+    book: &OrderBook<P, V, S>,
+    price: u64,
+) -> Option<(P::Inx, Ordering)>
+    requires { IsBook P.Inx.number book.now }
+    ensures live { IfSome result (λ a. IsSome (entry_in book.now (P.Inx.number a.0))) }
+    ensures empty { result ≡ None → size_in book.now ≡ 0 }
+    ensures new { Replaces (option_map (λ a. (P.Inx.number a.0, a.1)) result) → ⊥ }
+    ensures behind { (w : List ℕ) (i : ℕ)
+        → StandsAt (option_map (λ a. (P.Inx.number a.0, a.1)) result)
+        (order_in P.Inx.number book.now) w i
+        → IsBehind book.now price i (order_in P.Inx.number book.now) w }
+    ensures ordered { IsOrdered P.Inx.number book.now }
+{
+    // The book is ordered.
+    let _ = book.len();
+    match book.upper_bound(&price) {
+        Some(next) => Some((next.inx(), Ordering::Less)),
+        None => match book.last() {
+            Some(last) => Some((last.inx(), Ordering::Greater)),
+            None => None,
+        },
+    }
+}
+
+/// Puts an order in at a price, behind all that stand there, and returns its pointer. It returns
+/// `NotWithinCapacity` if there is no room; the book stays as it is then.
 pub fn add_order<P: PtrCore, V: Drop, S: NonZeroInxGenericStack<Item = OrderSlot<P, V>> + Drop>(
     book: &mut OrderBook<P, V, S>,
     price: u64,
     order: V,
-) -> Result<(P, Option<V>), OrdInsertionError>
+) -> Result<P, OrdInsertionError>
     requires { IsBook P.Inx.number book.old }
-    ensures added { IfOk result (λ r. (i : ℕ) → orders_in book.new i
-        ≡ with_entry (orders_in book.old) (P.index r.0) (P.generation r.0, (price, order)) i) }
-    ensures replaced { (p : P) (was : V) → result ≡ Ok (p, Some was)
-        → orders_in book.old (P.index p) ≡ Some (P.generation p, (price, was)) }
-    ensures fresh { (p : P) → result ≡ Ok (p, None)
-        → IsNewOrder book.old price (P.index p) (P.generation p) }
+    ensures added { IfOk result (λ p. (i : ℕ) → orders_in book.new i
+        ≡ with_entry (orders_in book.old) (P.index p) (P.generation p, (price, order)) i) }
+    ensures fresh { IfOk result (λ p. (orders_in book.old (P.index p) ≡ None)
+        × (P.generation p ≡ book.old.chains.counter)) }
+    ensures behind { IfOk result (λ p. IsBehind book.old price (P.index p)
+        (order_in P.Inx.number book.old) (order_in P.Inx.number book.new)) }
     ensures error { IfErr result (λ e. e ≡ OrdInsertionError.NotWithinCapacity) }
     ensures full { IsErrOf result OrdInsertionError.NotWithinCapacity
-        ↔ (IsFreePrice book.old price
-        × (arena_capacity book.old.chains ≤ live_count book.old.chains)) }
+        ↔ (arena_capacity book.old.chains ≤ live_count book.old.chains) }
     ensures counter { book.new.chains.counter ≡ book.old.chains.counter }
     ensures room { book.new.chains.room ≡ book.old.chains.room }
     ensures book { IsBook P.Inx.number book.new }
     ensures err { OnErr result (book.new ≡ book.old) }
 {
-    entries_stand_in_the_list::<P, OrdPair<u64, V>>();
-    // The book is ordered.
-    let _ = book.len();
-    as_order(book.insert_within_capacity(OrdPair::new(price, order)))
+    insertions_keep_keys_ascending::<P, OrdPair<u64, V>>();
+    if book.len() >= book.capacity() {
+        return Err(OrdInsertionError::NotWithinCapacity);
+    }
+    let place = place_behind(book, price);
+    Ok(book.insert_inx_manual_within_capacity(place, OrdPair::new(price, order)))
 }
 
-/// Takes the order that `p` points to out, with its price. All other pointers find their orders. It
-/// returns `None`, and changes nothing, if `p` points to none.
+/// Takes the order that `p` points to out, with its price. All other pointers find their orders,
+/// which stay in their order. It returns `None`, and changes nothing, if `p` points to none.
 pub fn cancel_order<P: PtrCore, V: Drop, S: NonZeroInxGenericStack<Item = OrderSlot<P, V>> + Drop>(
     book: &mut OrderBook<P, V, S>,
     p: P,
@@ -95,6 +114,8 @@ pub fn cancel_order<P: PtrCore, V: Drop, S: NonZeroInxGenericStack<Item = OrderS
     ensures order { result ≡ value_if (P.generation p) (orders_in book.old (P.index p)) }
     ensures gone { OnSome result
         ((i : ℕ) → orders_in book.new i ≡ without (orders_in book.old) (P.index p) i) }
+    ensures list { OnSome result
+        (Loses (order_in P.Inx.number book.old) (order_in P.Inx.number book.new) (P.index p)) }
     ensures counter { OnSome result
         (book.new.chains.counter ≡ next_generation P.Gen.last book.old.chains.counter) }
     ensures room { book.new.chains.room ≡ book.old.chains.room }
@@ -106,42 +127,57 @@ pub fn cancel_order<P: PtrCore, V: Drop, S: NonZeroInxGenericStack<Item = OrderS
     Some(pair.into_k_v())
 }
 
-/// The pointer to the order with the least price, or `None` if there is no order.
-pub fn best_order<P: PtrCore, V: Drop, S: NonZeroInxGenericStack<Item = OrderSlot<P, V>> + Drop>(
+/// The pointer to the order of a seller that is matched next: the one that came first of those with
+/// the least price. `None` if there is no order.
+pub fn best_ask<P: PtrCore, V: Drop, S: NonZeroInxGenericStack<Item = OrderSlot<P, V>> + Drop>(
     book: &OrderBook<P, V, S>,
 ) -> Option<P>
     requires { IsBook P.Inx.number book.now }
     ensures live { IfSome result
         (λ p. generation_at (orders_in book.now) (P.index p) ≡ Some (P.generation p)) }
-    ensures best { IfSome result (λ p. (j own price : ℕ) → price_in book.now (P.index p) ≡ Some own
-        → price_in book.now j ≡ Some price → own ≤ price) }
-    ensures none { IfNone result ((j : ℕ) → orders_in book.now j ≡ None) }
+    ensures best { IfSome result (λ p. IsBestAsk P.Inx.number book.now (P.index p)) }
+    ensures none { IfNone result (live_count book.now.chains ≡ 0) }
 {
-    entries_stand_in_the_list::<P, OrdPair<u64, V>>();
     keys_ascend_along_the_list::<P, OrdPair<u64, V>>();
     // The book is ordered.
     let _ = book.len();
     book.first()
 }
 
-/// The pointer to the order with the next greater price after that of the order that `p` points to.
-/// It returns `None` if `p` points to none, or no order has a greater price.
+/// The pointer to the order of a buyer that is matched next: the one that came first of those with
+/// the greatest price. `None` if there is no order.
+pub fn best_bid<P: PtrCore, V: Drop, S: NonZeroInxGenericStack<Item = OrderSlot<P, V>> + Drop>(
+    book: &OrderBook<P, V, S>,
+) -> Option<P>
+    requires { IsBook P.Inx.number book.now }
+    ensures live { IfSome result
+        (λ p. generation_at (orders_in book.now) (P.index p) ≡ Some (P.generation p)) }
+    ensures best { IfSome result (λ p. IsBestBid P.Inx.number book.now (P.index p)) }
+    ensures none { IfNone result (live_count book.now.chains ≡ 0) }
+{
+    keys_ascend_along_the_list::<P, OrdPair<u64, V>>();
+    // The book is ordered.
+    let _ = book.len();
+    let last = book.last()?;
+    let price = *book.get(last)?.k();
+    book.lower_bound(&price)
+}
+
+/// The pointer to the order directly behind that of `p`: the next one at its price, or else the
+/// first at the next greater price. It returns `None` if `p` points to none, or to the last.
 pub fn next_order<P: PtrCore, V: Drop, S: NonZeroInxGenericStack<Item = OrderSlot<P, V>> + Drop>(
     book: &OrderBook<P, V, S>,
     p: P,
 ) -> Option<P>
-    requires { IsBook P.Inx.number book.now }
     ensures from { IsSome result
         → IsSome (value_if (P.generation p) (orders_in book.now (P.index p))) }
     ensures live { IfSome result
         (λ q. generation_at (orders_in book.now) (P.index q) ≡ Some (P.generation q)) }
-    ensures next { IfSome result (λ q. IsNextPrice book.now (P.index p) (P.index q)) }
+    ensures next { IfSome result (λ q. IsNext P.Inx.number book.now (P.index p) (P.index q)) }
     ensures none { IfNone result
         (IsSome (value_if (P.generation p) (orders_in book.now (P.index p)))
-        → IsLastPrice book.now (P.index p)) }
+        → IsLast P.Inx.number book.now (P.index p)) }
 {
-    entries_stand_in_the_list::<P, OrdPair<u64, V>>();
-    keys_ascend_along_the_list::<P, OrdPair<u64, V>>();
     let mut walk = book.advancer_ordered(p, false)?;
     walk.advance(book)?;
     walk.advance(book)

@@ -1,26 +1,26 @@
-use Rattle.ord_examples.proofs.OrderBookLemmas.{answered_as}
+use Rattle.std.proofs.Common.{◌≢◌, sym, subst}
+use Rattle.std.specs.Ordering.{nat_cmp}
+use Rattle.std.specs.declared.cmp.Ordering.TheVariants.{Less, Greater}
+use Rattle.rank_tree.specs.Search.{AllIn}
+use Rattle.triple_arena_ord.specs.Ordered.{asked_at, order_in}
+use Rattle.ord_examples.proofs.OrderBookLemmas.{not_less_before, not_greater_behind, price_of}
 use Rattle.ord_examples.proofs.order_book.add_order.Goals as goal
 
-pub returns : goal.returns
-returns g c =
-    let old = c.args.book.now in
-    let new = c.insert_within_capacity.new.self in
-    let made = c.insert_within_capacity.ensures in
+pub returns-clause-book : goal.returns-clause-book
+returns-clause-book g c =
     let number = g.P.Inx.PtrInxCore.number in
-    let now = answered_as g.P.PtrCore.index g.P.PtrCore.generation number old new c.new.result
-    c.args.price c.args.order c.as_order.result
-    c.insert_within_capacity.result c.new.ensures.key c.new.ensures.value c.as_order.ensures
-    made.inserted
-    (λ j live. c.entries_stand_in_the_list.ensures old j c.len.ensures.formed.ordered live)
-    made.ascending c.requires in
-    record {
-      added = now.added;
-      replaced = now.replaced;
-      fresh = now.fresh;
-      error = now.error;
-      full = now.full;
-      counter = made.counter;
-      room = made.room;
-      book = now.book;
-      err = now.err;
-    }
+    let index = g.P.PtrCore.index in
+    let generation = g.P.PtrCore.generation in
+    let old = c.args.book.now in
+    let put = c.insert_inx_manual_within_capacity in
+    let i = index put.result in
+    let b = c.place_behind-place.ensures.behind (order_in number put.new.self) i put.ensures.stands
+    in
+    c.insertions_keep_keys_ascending.ensures.between b.before b.after i (generation put.result)
+    c.new.result old put.new.self put.ensures.ordered put.ensures.added b.was b.is
+    (subst (λ z. AllIn (λ j. asked_at nat_cmp price_of z old j ≢ Less) b.before)
+    (sym c.new.ensures.key)
+    (not_less_before number index generation old c.args.price b.before b.not_greater))
+    (subst (λ z. AllIn (λ j. asked_at nat_cmp price_of z old j ≢ Greater) b.after)
+    (sym c.new.ensures.key)
+    (not_greater_behind number index generation old c.args.price b.after b.greater)) c.requires

@@ -2,7 +2,7 @@ use Rattle.std.proofs.Common.{sym, ◌∙◌}
 use Rattle.triple_arena_ptr.specs.InvalidationOption.{value_of}
 use Rattle.triple_arena_ptr.specs.InvalidationResult.{answer_of}
 use Rattle.triple_arena_ord.specs.Removal.{IsEntryRemoved}
-use Rattle.ord_examples.proofs.OrderBookLemmas.{removed_book, where_some}
+use Rattle.ord_examples.proofs.OrderBookLemmas.{where_some}
 use Rattle.ord_examples.proofs.order_book.cancel_order.Goals as goal
 
 pub returns-clause-book : goal.returns-clause-book
@@ -15,5 +15,4 @@ returns-clause-book g c =
     let removed : IsEntryRemoved number last i old new =
     where_some value_of (answer_of c.remove.result) c.in_ok-pair.pair
     (sym c.allow.ensures ∙ c.in_ok-pair.was) c.remove.ensures.exact in
-    removed_book number old new last i c.requires removed
-    (λ ascending. c.removals_keep_keys_ascending.ensures last i old new removed ascending)
+    c.removals_keep_keys_ascending.ensures last i old new removed c.requires
