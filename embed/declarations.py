@@ -4,6 +4,7 @@ Of each library it compares the names of the functions, their parameters and res
 and the fields of the structs: those of crates/LIBRARY_c with embed/include/LIBRARY.h, and with the
 `extern` block of embed/rust. It prints each difference, and fails if there is one.
 """
+import os
 import re
 import sys
 
@@ -68,7 +69,8 @@ def of_header(library, text):
 
 def of_block(library, text):
     found = {}
-    for m in re.finditer(rf'^    fn ({library}_\w+)\(([^)]*)\)(?: -> (\w+))?;', text, re.M | re.S):
+    form = rf'^    fn ({library}_\w+)\(([^)]*)\)(?:\s+-> (\w+))?;'
+    for m in re.finditer(form, text, re.M | re.S):
         kinds = [it.split(':', 1)[1].strip() for it in m[2].split(',') if it.strip()]
         found[m[1]] = (kinds, m[3])
     return found
@@ -89,9 +91,12 @@ def compared_fields(library, folder, header, block):
         (read(f'{folder}/holder.rt'), 'pub struct Holder', holder),
         (block, f'struct Raw{camel(library)}', holder),
         (header, f'struct {library}', ['void *at', 'bool is_made']),
-        (read(f'{folder}/handle.rt'), 'pub struct Handle', handle),
-        (header, f'struct {library}_handle', ['uint32_t index', 'uint32_t generation']),
     ]
+    if os.path.exists(f'{folder}/handle.rt'):
+        places += [
+            (read(f'{folder}/handle.rt'), 'pub struct Handle', handle),
+            (header, f'struct {library}_handle', ['uint32_t index', 'uint32_t generation']),
+        ]
     for text, head, wanted in places:
         if fields(text, head) != wanted:
             yield f'{library}: {head} has the fields {fields(text, head)}'

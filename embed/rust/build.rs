@@ -11,7 +11,7 @@ fn main() {
         Some(folder) => PathBuf::from(folder),
         None => PathBuf::from(env!("CARGO_MANIFEST_DIR")).join("../out"),
     };
-    for name in ["slot_map_c", "heap"] {
+    for name in ["slot_map_c", "ord_map_c", "route_book_c", "heap"] {
         let archive = folder.join(format!("lib{name}.a"));
         println!("cargo:rerun-if-changed={}", archive.display());
         if !archive.is_file() {

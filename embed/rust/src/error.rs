@@ -13,6 +13,8 @@ pub enum Error {
     /// Each generation was given, after some four thousand million removals, so that no handle is
     /// left that was never given.
     Spent,
+    /// The rooms of a store are together more than there are indexes, which are 4,294,967,295.
+    TooLarge,
 }
 
 impl fmt::Display for Error {
@@ -21,6 +23,7 @@ impl fmt::Display for Error {
             Error::NoMemory => "the memory was refused",
             Error::Full => "there is an entry at each index",
             Error::Spent => "each handle was given",
+            Error::TooLarge => "the rooms are together more than there are indexes",
         })
     }
 }

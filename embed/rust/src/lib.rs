@@ -1,4 +1,5 @@
-//! Maps whose handles never come to mean another entry, over static libraries that are proved.
+//! Maps whose handles never come to mean another entry, and a store that answers lines of text,
+//! over static libraries that are proved.
 //!
 //! ```
 //! use route_arenas::SlotMap;
@@ -12,6 +13,16 @@
 //! # Ok::<(), route_arenas::Error>(())
 //! ```
 //!
+//! ```
+//! use route_arenas::RouteBook;
+//!
+//! let mut book = RouteBook::new(10, 10, 10)?;
+//! let mut replies = Vec::new();
+//! book.answer(b"place 50 oak\nstart 1\nshow 2\n", &mut replies);
+//! assert_eq!(replies, b"1\n2\nat 1\n");
+//! # Ok::<(), route_arenas::Error>(())
+//! ```
+//!
 //! What is proved is what each call of the library answers, writes and leaves. What stands on trust
 //! is this package, that its declarations in one module agree with the exports (a script of the
 //! repository compares them), and the program's heap.
@@ -20,7 +31,11 @@
 
 mod error;
 mod exports;
+mod ord_map;
+mod route_book;
 mod slot_map;
 
 pub use error::Error;
+pub use ord_map::{Nearest, OrdHandle, OrdIter, OrdMap};
+pub use route_book::{Progress, RouteBook};
 pub use slot_map::{Iter, SlotHandle, SlotMap};

@@ -1,0 +1,7 @@
+mod Values
+mod AsBox
+mod ListLemmas
+mod AlongLemmas
+mod SearchLemmas
+mod ChangeLemmas
+mod ReadLemmas

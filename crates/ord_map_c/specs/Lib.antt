@@ -1,0 +1,4 @@
+pub mod Entries
+pub mod State
+pub mod Changes
+pub mod Held

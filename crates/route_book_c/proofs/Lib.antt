@@ -1,0 +1,7 @@
+mod Values
+mod AsBox
+mod RoomLemmas
+mod ListLemmas
+mod KeptLemmas
+mod LengthLemmas
+mod AnswerLemmas

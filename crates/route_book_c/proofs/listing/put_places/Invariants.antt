@@ -1,0 +1,12 @@
+use Rattle.std.proofs.Common.{length}
+use Rattle.route_lines.specs.Reply.{place_line}
+use Rattle.route_book_c.proofs.ListLemmas.{Listed}
+use Rattle.route_book_c.proofs.listing.put_places.Given as goal
+
+abbrev pub invariant-loop-ticket : goal.invariant-loop-ticket
+invariant-loop-ticket g l = record {
+  listed : Listed place_line l.fn.places l.places l.fn.at l.end l.initial.room l.room;
+}
+
+abbrev pub decreases-loop-ticket : goal.decreases-loop-ticket
+decreases-loop-ticket g l = length l.places
