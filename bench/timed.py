@@ -26,7 +26,15 @@ TRACED = 50_000
 
 # By layer: our type, and then the title, the program, its first words, and how many bytes an entry
 # has in the table of what finds it. The first two are ours. What is not built is left out.
-OURS = {'arena': 'Arena', 'chains': 'ChainArena', 'ord': 'SimpleOrdArena', 'store': 'RouteBook'}
+OURS = {
+    'arena': 'Arena',
+    'chains': 'ChainArena',
+    'ord': 'SimpleOrdArena',
+    'store': 'RouteBook',
+    'slot_map_c': 'slot_map_c',
+    'ord_map_c': 'ord_map_c',
+    'route_book_c': 'route_book_c',
+}
 
 
 def ours(*words):
@@ -47,12 +55,30 @@ PROGRAMS = {
         ('`std::map`', 'std_map', [], 8),
     ],
     'store': [*ours(), ('the plain store', 'plain', [], 0)],
+    # A library for C has one program, and our own calls are a peer.
+    'slot_map_c': [
+        ('by calls', 'calls', ['map'], 8),
+        ('the same in Rattle', 'p3', ['timed-arena'], 8),
+        ('`SlotMap`', 'slotmap', ['timed'], 8),
+    ],
+    'ord_map_c': [
+        ('by calls', 'calls', ['ord'], 8),
+        ('the same in Rattle', 'p3', ['timed-ord'], 8),
+        ('`BTreeMap`', 'plain', ['timed', 'map'], 0),
+        ('`std::map`', 'std_map', [], 8),
+    ],
+    'route_book_c': [('by calls', 'calls', ['store'], 0), ('the program', 'p3', [], 0)],
 }
+# How many of a layer's programs are ours, in its tables.
+OWN = {'slot_map_c': 1, 'ord_map_c': 1, 'route_book_c': 1}
 OPERATIONS = {
     'arena': ['insert', 'find', 'remove', 'churn', 'walk', 'rewrite'],
     'chains': ['insert', 'remove', 'walk', 'canonical_walk'],
     'ord': ['insert', 'find', 'remove', 'cancel', 'walk', 'canonical_find', 'canonical_walk'],
     'store': ['places', 'all', 'churn'],
+    'slot_map_c': ['insert', 'find', 'remove', 'churn', 'walk'],
+    'ord_map_c': ['insert', 'find', 'remove', 'cancel', 'walk'],
+    'route_book_c': ['places', 'all', 'churn'],
 }
 NAMES = {
     'canonical_walk': 'walk, renumbered',
@@ -114,6 +140,7 @@ class Layer:
         self.name, self.build = name, pathlib.Path(build)
         self.programs = [it for it in PROGRAMS[name] if (self.build / it[1]).exists()]
         self.titles = [it[0] for it in self.programs]
+        self.own = OWN.get(name, 2)
 
     def does(self, operation):
         return [it for it in self.programs if (it[0], operation) not in NEVER]
@@ -157,12 +184,12 @@ class Layer:
         return (sizes[1] - sizes[0]) * 1024 / 1_000_000 - program[3]
 
     def tables(self, rows, names):
-        """A table for each peer: ours over both pointers, the peer, and the ratios to it.
+        """A table for each peer: ours, as over both pointers, the peer, and the ratios to it.
 
         `rows` has by operation the times of each size, by title.
         """
-        own = self.titles[:2]
-        for peer in self.titles[2:]:
+        own = self.titles[:self.own]
+        for peer in self.titles[self.own:]:
             head = [f'`{OURS[self.name]}`, to {peer}', *own, 'peer', *(f'ratio {it}' for it in own)]
             print('\n|', ' | '.join(head), '|')
             print('|' + '---|' * len(head))
@@ -185,8 +212,8 @@ class Layer:
             print(operation, 'is measured', file=sys.stderr, flush=True)
         sizes = {program[0]: self.bytes_of(program) for program in self.programs}
         for peer in self.tables(rows, NAMES):
-            of = [sizes[it] for it in (*self.titles[:2], peer)]
-            cells = [f'{it:.1f}' for it in of] + [f'{it / of[2]:.2f}' for it in of[:2]]
+            of = [sizes[it] for it in (*self.titles[:self.own], peer)]
+            cells = [f'{it:.1f}' for it in of] + [f'{it / of[-1]:.2f}' for it in of[:-1]]
             print('| bytes an entry |', ' | '.join(cells), '|', flush=True)
 
 
@@ -208,7 +235,7 @@ class Store(Layer):
         return path
 
     def command(self, program, count):
-        return [str(self.build / program[1]), *[str(count)] * 3]
+        return [str(self.build / program[1]), *program[2], *[str(count)] * 3]
 
     def run(self, program, count, path):
         """The nanoseconds of processor time that a run over a file takes."""
@@ -306,7 +333,7 @@ def plot(build):
 
 
 def layer_of(name, build):
-    return (Store if name == 'store' else Layer)(name, build)
+    return (Store if name in ('store', 'route_book_c') else Layer)(name, build)
 
 
 def main():
