@@ -32,7 +32,7 @@ struct ord_map_handle {
 };
 
 /* What a call answers. After any other than ORD_MAP_OK and ORD_MAP_REPLACED nothing has changed,
- * and nothing was written. */
+ * and after any other than these and ORD_MAP_FOUND nothing was written. */
 enum ord_map_status {
     ORD_MAP_OK = 0,
     ORD_MAP_NO_MEMORY = 1, /* malloc refused */
@@ -42,7 +42,8 @@ enum ord_map_status {
     ORD_MAP_NO_MAP = 5,    /* the struct keeps no map */
     ORD_MAP_MADE = 6,      /* the struct keeps a map already */
     ORD_MAP_NO_ENTRY = 7,  /* there is no such entry */
-    ORD_MAP_REPLACED = 8   /* it is done: the key had a value, which gave way */
+    ORD_MAP_REPLACED = 8,  /* it is done: the key had a value, which gave way */
+    ORD_MAP_FOUND = 9      /* it is done: the key has an entry, which stays as it is */
 };
 
 /* What `ord_map_nearest` found. */
@@ -76,6 +77,13 @@ uint8_t ord_map_reserve(struct ord_map *map, size_t min);
  * SPENT or NO_MAP. */
 uint8_t ord_map_insert(struct ord_map *map, uint64_t key, uint64_t value,
                        struct ord_map_handle *handle, uint64_t *was);
+
+/* Writes the handle of the entry with this key, and its value to `found`; the entry stays as it is
+ * (FOUND), and this takes no memory, also in a map that is full or spent. If no entry has the key,
+ * it puts in a new one with this value, as `ord_map_insert` does (OK), and `found` is not written.
+ * Answers OK, FOUND, NO_MEMORY, FULL, SPENT or NO_MAP. */
+uint8_t ord_map_get_or_insert(struct ord_map *map, uint64_t key, uint64_t value,
+                              struct ord_map_handle *handle, uint64_t *found);
 
 /* Writes the handle of the entry with this key. Answers OK, NO_ENTRY or NO_MAP. */
 uint8_t ord_map_find(struct ord_map *map, uint64_t key, struct ord_map_handle *handle);

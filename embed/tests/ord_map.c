@@ -68,6 +68,7 @@ static void without_a_map(void) {
     uint8_t side = 9;
     size_t size = 7;
     CHECK(ord_map_insert(&map, 1, 2, &handle, &value) == ORD_MAP_NO_MAP && value == 6);
+    CHECK(ord_map_get_or_insert(&map, 1, 2, &handle, &value) == ORD_MAP_NO_MAP && value == 6);
     CHECK(ord_map_find(&map, 1, &handle) == ORD_MAP_NO_MAP);
     CHECK(ord_map_nearest(&map, 1, &handle, &side) == ORD_MAP_NO_MAP && side == 9);
     CHECK(ord_map_lower_bound(&map, 1, &handle) == ORD_MAP_NO_MAP);
@@ -126,6 +127,12 @@ static void handles(void) {
     CHECK(ord_map_insert(&map, 20, 201, &again, &was) == ORD_MAP_REPLACED && was == 200);
     CHECK(are_same(again, b) && length_of(&map) == 3);
     CHECK(ord_map_get(&map, b, &key, &value) == ORD_MAP_OK && key == 20 && value == 201);
+    CHECK(ord_map_get_or_insert(&map, 20, 9, &again, &was) == ORD_MAP_FOUND && was == 201);
+    CHECK(are_same(again, b) && length_of(&map) == 3);
+    CHECK(ord_map_get(&map, b, &key, &value) == ORD_MAP_OK && key == 20 && value == 201);
+    CHECK(ord_map_get_or_insert(&map, 25, 250, &again, &was) == ORD_MAP_OK && was == 201);
+    CHECK(are_same(found(&map, 25), again) && length_of(&map) == 4);
+    CHECK(ord_map_remove(&map, again, &key, &value) == ORD_MAP_OK && key == 25 && value == 250);
     CHECK(are_same(found(&map, 10), a) && are_same(found(&map, 30), c));
     CHECK(ord_map_find(&map, 15, &again) == ORD_MAP_NO_ENTRY && are_same(again, b));
     CHECK(ord_map_first(&map, &again) == ORD_MAP_OK && are_same(again, a));
@@ -282,7 +289,7 @@ static void random_calls(void) {
     srand(1);
     CHECK(ord_map_new(&map) == ORD_MAP_OK);
     for (int step = 0; step < STEPS; step++) {
-        int kind = rand() % 8, key = rand() % KEYS;
+        int kind = rand() % 9, key = rand() % KEYS;
         uint64_t value = (uint64_t)step, was = 77, gone = 77;
         struct ord_map_handle handle;
         if (kind < 4) {
@@ -309,6 +316,15 @@ static void random_calls(void) {
             CHECK(ord_map_set(&map, m.handles[key], value) == status);
             if (m.lives[key])
                 m.values[key] = value;
+        } else if (kind == 7) {
+            uint8_t status = m.lives[key] ? ORD_MAP_FOUND : ORD_MAP_OK;
+            CHECK(ord_map_get_or_insert(&map, (uint64_t)key, value, &handle, &was) == status);
+            CHECK(was == (m.lives[key] ? m.values[key] : 77));
+            CHECK(!m.lives[key] || are_same(handle, m.handles[key]));
+            if (!m.lives[key]) {
+                m.length++;
+                m.lives[key] = true, m.values[key] = value, m.handles[key] = handle;
+            }
         } else {
             look_around(&map, &m, key);
         }
@@ -317,8 +333,11 @@ static void random_calls(void) {
     ord_map_free(&map);
 }
 
-/* Ten insertions with the n-th request refused: the map is as it was, and goes on. */
-static void refused_memory(void) {
+typedef uint8_t insertion(struct ord_map *map, uint64_t key, uint64_t value,
+                          struct ord_map_handle *handle, uint64_t *was);
+
+/* Ten insertions by a call with the n-th request refused: the map is as it was, and goes on. */
+static void refused_memory(insertion *insert) {
     bool was_refused = true;
     for (unsigned n = 1; was_refused; n++) {
         struct ord_map map = {0};
@@ -331,11 +350,11 @@ static void refused_memory(void) {
             CHECK(map.at == NULL && !map.is_made && ord_map_new(&map) == ORD_MAP_OK);
         }
         for (size_t k = 0; k < 10; k++) {
-            uint8_t status = ord_map_insert(&map, 9 - k, k, &given[k], &was);
+            uint8_t status = insert(&map, 9 - k, k, &given[k], &was);
             if (status == ORD_MAP_NO_MEMORY) {
                 was_refused = true;
                 CHECK(length_of(&map) == k);
-                status = ord_map_insert(&map, 9 - k, k, &given[k], &was);
+                status = insert(&map, 9 - k, k, &given[k], &was);
             }
             CHECK(status == ORD_MAP_OK);
         }
@@ -346,6 +365,7 @@ static void refused_memory(void) {
             CHECK(ord_map_reserve(&map, 1000) == ORD_MAP_NO_MEMORY && length_of(&map) == 10);
             refused_request = 1;
             CHECK(ord_map_insert(&map, 3, 30, &given[6], &was) == ORD_MAP_REPLACED && was == 6);
+            CHECK(ord_map_get_or_insert(&map, 3, 9, &given[6], &was) == ORD_MAP_FOUND && was == 30);
             CHECK(refused_request == 1);
         }
         refused_request = 0;
@@ -360,7 +380,8 @@ int main(void) {
     rooms();
     many_at_a_time();
     random_calls();
-    refused_memory();
+    refused_memory(ord_map_insert);
+    refused_memory(ord_map_get_or_insert);
     puts("ord_map: all as it should be");
     return 0;
 }

@@ -4,4 +4,5 @@ mod ListLemmas
 mod AlongLemmas
 mod SearchLemmas
 mod ChangeLemmas
+mod GetLemmas
 mod ReadLemmas

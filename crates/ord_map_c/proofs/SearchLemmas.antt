@@ -70,7 +70,7 @@ live_at o i g = by (entry_in o i) refl
     }
 
 module _ (o : Arena) (key i g : ℕ) (t : Pair) (is : entry_in o i ≡ Some (g, t)) where
-  asked_is : (d : Ordering) → asked_at nat_cmp key_in key o i ≡ d → nat_cmp key t.k ≡ d
+  pub asked_is : (d : Ordering) → asked_at nat_cmp key_in key o i ≡ d → nat_cmp key t.k ≡ d
   asked_is d way =
       sym (ap (Rattle.triple_arena_ord.specs.Ordered.asked_of nat_cmp key_in key) is) ∙ way
 

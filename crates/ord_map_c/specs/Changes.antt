@@ -67,3 +67,12 @@ pub record IsPut (key value : ℕ) (result : Result (Handle × Option ℕ) Refus
   pub refusals : OnErr result (IsErrOf result NoMemory ⊎ IsErrOf result Full)
   pub refused : OnErr result (new ≡ old)
   pub map : IsMap new
+
+-- the value that stands at a key once it was got, or put in: that which stood there, or else this
+abbrev pub standing : ℕ → Result (Handle × Option ℕ) Refusal → ℕ
+standing value (Ok r) = by r.1
+  where
+    by : Option ℕ → ℕ
+    by None = value
+    by (Some own) = own
+standing value (Err refusal) = value

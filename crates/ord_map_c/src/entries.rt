@@ -1,6 +1,6 @@
 //! The entries of a map in their arena.
 ghost use Rattle.std.specs.Prelude.{◌≡◌, ◌↔◌, ◌≤◌, ◌⊎◌, ℕ, Some, None, IfSome, IfNone, OnSome};
-ghost use Rattle.std.specs.Prelude.{◌≢◌, ◌<◌, IsSome, IsOk, OnOk, OnErr, IsErrOf};
+ghost use Rattle.std.specs.Prelude.{◌≢◌, ◌<◌, IsSome, IsOk, IfOk, OnOk, OnErr, IsErrOf};
 ghost use Rattle.std.specs.Prelude.{◌∷◌, ◌++◌, [], length, take, drop, map};
 ghost use Rattle.std.specs.Int.NonZero.{non_zero_u32_get};
 ghost use Rattle.std.specs.Option.{option_map};
@@ -12,7 +12,7 @@ ghost use Rattle.triple_arena_ord.specs.Ordered.{entry_in};
 ghost use Rattle.triple_arena_ord.specs.OrderedWalks.{entries_left};
 ghost use Rattle.triple_arena_ord.specs.Removal.{IsEntryRemoved};
 ghost use Rattle.triple_arena_ord.specs.States.{with_item, reallocated_in};
-ghost use Rattle.ord_map_c.specs.Changes.{IsPut, as_put, refusal_of};
+ghost use Rattle.ord_map_c.specs.Changes.{IsPut, as_put, refusal_of, standing};
 ghost use Rattle.ord_map_c.specs.Entries.{pointer_of, key_of, value_of, with_key, from_key};
 ghost use Rattle.ord_map_c.specs.Entries.{past_key, without_key, put_in, first_of, last_of, entry};
 ghost use Rattle.ord_map_c.specs.Entries.{pair as pair_with, place_of};
@@ -220,6 +220,29 @@ pub(crate) fn put(
 {
     entries_stand_in_the_list::<P3, OrdPair<u64, u64>>();
     as_put(entries.insert(OrdPair::new(key, value)))
+}
+
+// The entry with a key, which stays, and its value; or a value that is put in at the key.
+pub(crate) fn get_or_put(
+    entries: &mut Entries,
+    key: u64,
+    value: u64,
+) -> Result<(Handle, Option<u64>), Refusal>
+    requires { IsMap entries.old }
+    ensures put { IsPut key (standing value result) result entries.old entries.new }
+    ensures stays { IfOk result (λ r. IsSome r.1 → entries.new ≡ entries.old) }
+{
+    entries_stand_in_the_list::<P3, OrdPair<u64, u64>>();
+    match entries.get_or_insert(OrdPair::new(key, value)) {
+        Ok((p, Some(_))) => {
+            let Some(own) = entries.get(p) else {
+                unreachable!()
+            };
+            Ok((handle_of(p), Some(*own.v())))
+        }
+        Ok((p, None)) => Ok((handle_of(p), None)),
+        Err(error) => Err(refusal_of(error)),
+    }
 }
 
 // Takes out the entry at an index.

@@ -8,8 +8,8 @@
 //!
 //! Each call answers a status: 0 it is done, 1 the memory was refused, 2 there would be more
 //! entries than indexes, 3 the map is spent, 4 the handle finds no entry, 5 the holder keeps no
-//! map, 6 it keeps one already, 7 there is no such entry, 8 it is done, and a value gave way. At
-//! any but 0 and 8 nothing has changed.
+//! map, 6 it keeps one already, 7 there is no such entry, 8 it is done, and a value gave way, 9 it is
+//! done, and an entry was there, which stays. At any but 0 and 8 nothing has changed.
 #![tactic(auto)]
 
 ghost use Rattle.std.specs.Prelude.{◌≡◌, ◌≢◌, ◌⊎◌, ◌+◌, ◌<◌, ◌≤◌, ◌↔◌, ℕ, Some, None};
@@ -224,6 +224,83 @@ pub extern "C" fn ord_map_insert(
     status
 }
 
+/// Writes the handle of the entry with this key, and its value to `found`; or if no entry has it,
+/// puts a value in at the key, and writes the handle alone. An entry that is there stays as it is,
+/// and takes no memory, also in a map that is full or spent. It answers 0 for a new entry and 9 for
+/// one that was there; or 1 if the memory was refused, 2 if there is an entry at each index, 3 if
+/// the map is spent, or 5 if there is no map, and then it writes nothing. At any but 0 nothing
+/// changes.
+#[unsafe(no_mangle)]
+pub extern "C" fn ord_map_get_or_insert(
+    alloc: Global,
+    map: &mut Holder,
+    key: u64,
+    value: u64,
+    handle: &mut Handle,
+    found: &mut u64,
+) -> u8
+    ensures listed { result ≡ 0 → entries map.new.kept
+        ≡ put_in (entries map.old.kept) (entry handle.new.index handle.new.generation key value) }
+    ensures added { result ≡ 0 → OnKept map.old.kept (λ before. OnKept map.new.kept (λ is.
+        IsAdded non_zero_u32_get handle.new.index handle.new.generation (pair key value)
+        before.arena is.arena)) }
+    ensures gets { result ≡ 9 ↔ IsSome (with_key (entries map.old.kept) key) }
+    ensures stays { result ≢ 0 → map.new.kept ≡ map.old.kept }
+    ensures found { result ≡ 9
+        → option_map value_of (with_key (entries map.old.kept) key) ≡ Some found.new }
+    ensures same { result ≡ 9 → option_map pointer_of (with_key (entries map.old.kept) key)
+        ≡ Some (pair_of handle.new) }
+    ensures got { result ≡ 9 → pair_at map.new.kept handle.new.index handle.new.generation
+        ≡ Some (pair key found.new) }
+    ensures put { result ≡ 0 → pair_at map.new.kept handle.new.index handle.new.generation
+        ≡ Some (pair key value) }
+    ensures vacant { result ≡ 0
+        → pair_at map.old.kept handle.new.index handle.new.generation ≡ None }
+    ensures others { result ≡ 0 → (index generation : ℕ)
+        → (index ≢ handle.new.index) ⊎ (generation ≢ handle.new.generation)
+        → pair_at map.new.kept index generation ≡ pair_at map.old.kept index generation }
+    ensures live { result ≡ 0 → count map.new.kept ≡ count map.old.kept + 1 }
+    ensures room { result ≡ 0 → OnKept map.old.kept (λ before. OnKept map.new.kept (λ is.
+        is.arena.chains.room ≡ room_after (size_in before.arena) before.arena.chains.room)) }
+    ensures counter { result ≡ 0 → OnKept map.old.kept (λ before.
+        OnKept map.new.kept (λ is. is.arena.chains.counter ≡ before.arena.chains.counter)) }
+    ensures ended { (index generation : ℕ) → HasEnded map.old.kept index generation
+        → HasEnded map.new.kept index generation }
+    ensures lasts { spent map.new.kept ≡ spent map.old.kept }
+    ensures succeeds { spent map.old.kept ≡ false
+        → OnKept map.old.kept (λ m. size_in m.arena < arena_capacity m.arena.chains)
+        → (result ≡ 0) ⊎ (result ≡ 9) }
+    ensures memory { result ≡ 1
+        → OnKept map.old.kept (λ m. arena_capacity m.arena.chains ≤ size_in m.arena) }
+    ensures full { result ≡ 2 ↔ ((spent map.old.kept ≡ false)
+        × ((with_key (entries map.old.kept) key ≡ None) × (count map.old.kept ≡ greatest))) }
+    ensures spent { result ≡ 3 ↔ (IsTrue (spent map.old.kept)
+        × (with_key (entries map.old.kept) key ≡ None)) }
+    ensures no_map { result ≡ 5 ↔ (map.old.kept ≡ None) }
+    ensures unwritten { result ≢ 0 → result ≢ 9 → handle.new ≡ handle.old }
+    ensures none_found { result ≢ 9 → found.new ≡ found.old }
+    ensures statuses { (result ≡ 0) ⊎ ((result ≡ 1) ⊎ ((result ≡ 2) ⊎ ((result ≡ 3)
+        ⊎ ((result ≡ 5) ⊎ (result ≡ 9))))) }
+{
+    let Some(mut own) = map.take(alloc) else {
+        return 5;
+    };
+    let status = match own.get_or_insert(key, value) {
+        Ok((added, None)) => {
+            *handle = added;
+            0
+        }
+        Ok((there, Some(own_value))) => {
+            *handle = there;
+            *found = own_value;
+            9
+        }
+        Err(refusal) => refusal.status(),
+    };
+    map.put(alloc, own);
+    status
+}
+
 /// Writes the handle of the entry with this key. It answers 0; or 7 if no entry has it, or 5 if
 /// there is no map, and then it writes nothing.
 #[unsafe(no_mangle)]
@@ -323,6 +400,7 @@ pub extern "C" fn ord_map_lower_bound(
     map.put(alloc, own);
     status
 }
+
 /// Writes the handle of the first entry whose key is above this one. It answers 0; or 7 if there is
 /// none, or 5 if there is no map, and then it writes nothing.
 #[unsafe(no_mangle)]
@@ -553,6 +631,7 @@ pub extern "C" fn ord_map_first(alloc: Global, map: &mut Holder, handle: &mut Ha
     map.put(alloc, own);
     status
 }
+
 /// Writes the handle of the entry with the greatest key. It answers 0; or 7 if there is no entry,
 /// or 5 if there is no map, and then it writes nothing.
 #[unsafe(no_mangle)]
@@ -614,6 +693,7 @@ pub extern "C" fn ord_map_next(
     map.put(alloc, own);
     status
 }
+
 /// Writes the handle of the entry before that which the handle finds: the last one whose key is
 /// below its key. It answers 0; or 4 if the handle finds no entry, 7 if there is none before it, or
 /// 5 if there is no map, and then it writes nothing.

@@ -9,7 +9,7 @@ ghost use Rattle.triple_arena_ord.specs.Inserted.{IsReplaced};
 ghost use Rattle.triple_arena_ord.specs.Ordered.{entry_in, size_in};
 ghost use Rattle.triple_arena_ord.specs.Removal.{IsEntryRemoved};
 ghost use Rattle.triple_arena_ord.specs.States.{with_item, reallocated_in, cleared_in};
-ghost use Rattle.ord_map_c.specs.Changes.{IsPut};
+ghost use Rattle.ord_map_c.specs.Changes.{IsPut, standing};
 ghost use Rattle.ord_map_c.specs.Entries.{pointer_of, key_of, value_of, with_key, from_key, pair};
 ghost use Rattle.ord_map_c.specs.Entries.{past_key, without_key, put_in, entry};
 ghost use Rattle.ord_map_c.specs.Entries.{KeysRise};
@@ -209,6 +209,14 @@ impl OrdMap {
         self.is_spent || self.entries.generation().get() == u32::MAX
     }
 
+    // Whether a key would take a handle where none is left.
+    fn refuses(&self, key: u64) -> bool
+        ensures { IsTrue result ↔ (IsTrue self.now.is_spent
+            × (with_key (listed self.now.arena) key ≡ None)) }
+    {
+        self.is_spent && self.find(key).is_none()
+    }
+
     // Puts a value in at a key, and gives the handle, with the value that stood there.
     pub(crate) fn insert(&mut self, key: u64, value: u64) -> Result<(Handle, Option<u64>), Refusal>
         ensures put { (IsErrOf result Refusal.Spent → ⊥)
@@ -228,10 +236,41 @@ impl OrdMap {
             ⊎ (IsErrOf result Refusal.Full ⊎ IsErrOf result Refusal.Spent)) }
         ensures refused { OnErr result (self.new ≡ self.old) }
     {
-        if self.is_spent && self.find(key).is_none() {
+        if self.refuses(key) {
             return Err(Refusal::Spent);
         }
         entries::put(&mut self.entries, key, value)
+    }
+
+    // Gives the handle of the entry with a key, which stays, and its value; or puts a value in at the
+    // key, and gives the handle and `None`.
+    pub(crate) fn get_or_insert(
+        &mut self,
+        key: u64,
+        value: u64,
+    ) -> Result<(Handle, Option<u64>), Refusal>
+        ensures put { (IsErrOf result Refusal.Spent → ⊥) → IsPut key (standing value result)
+            result self.old.arena self.new.arena }
+        ensures stays { IfOk result (λ r. IsSome r.1 → self.new ≡ self.old) }
+        ensures lasts { self.new.is_spent ≡ self.old.is_spent }
+        ensures spent { IsErrOf result Refusal.Spent ↔ (IsTrue self.old.is_spent
+            × (with_key (listed self.old.arena) key ≡ None)) }
+        ensures full { IsErrOf result Refusal.Full ↔ ((self.old.is_spent ≡ false)
+            × ((with_key (listed self.old.arena) key ≡ None)
+            × (size_in self.old.arena ≡ greatest))) }
+        ensures gets { IsSome (with_key (listed self.old.arena) key) → IsOk result }
+        ensures succeeds { self.old.is_spent ≡ false
+            → size_in self.old.arena < arena_capacity self.old.arena.chains → IsOk result }
+        ensures ended { (index generation : ℕ) → IsPast self.old index generation
+            → IsPast self.new index generation }
+        ensures refusals { OnErr result (IsErrOf result Refusal.NoMemory
+            ⊎ (IsErrOf result Refusal.Full ⊎ IsErrOf result Refusal.Spent)) }
+        ensures refused { OnErr result (self.new ≡ self.old) }
+    {
+        if self.refuses(key) {
+            return Err(Refusal::Spent);
+        }
+        entries::get_or_put(&mut self.entries, key, value)
     }
 
     // Writes the value that the handle finds, and says whether there was one.

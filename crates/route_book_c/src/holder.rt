@@ -7,6 +7,7 @@ use raw_box::RawBox;
 use std::alloc::Global;
 use std::marker::Model;
 use std::{mem, ptr};
+use unreached::unreached;
 
 /// What C keeps of a store: its box as a pointer. It is made of zeros, and keeps none then. It is
 /// not `Drop`, so that nothing lets one go that keeps a store.
@@ -74,13 +75,15 @@ impl Holder {
         }
     }
 
-    // Keeps a store. One that it kept before is freed.
+    // Keeps a store, where it kept none. What it was then owns nothing, and is let go with no test.
     pub(crate) fn put(&mut self, alloc: Global, store: Box<Store>)
+        requires { self.old.kept ≡ None }
         ensures { self.new.kept ≡ Some store.value }
     {
-        let held = mem::replace(self, Holder::of(store));
-        if let Some(raw) = held.into_raw(alloc) {
-            drop(raw.into_box());
+        let none = mem::replace(self, Holder::of(store));
+        match none.into_raw(alloc) {
+            Some(_) => unreached!(),
+            None => {}
         }
     }
 }

@@ -7,7 +7,13 @@
 //! `Sync`.
 
 use crate::{OrdHandle, SlotHandle};
+use std::cell::UnsafeCell;
 use std::ptr;
+
+/// A struct that each export may write, also one that only reads. No reference to it is ever made,
+/// and no call on it is under way while another begins: an export calls nothing back, and a cell is
+/// not `Sync`.
+pub(crate) struct Own<T>(UnsafeCell<T>);
 
 /// What a holder of C keeps.
 #[repr(C)]
@@ -53,72 +59,77 @@ unsafe extern "C" {
     ) -> u8;
 }
 
-impl RawSlotMap {
+impl Own<RawSlotMap> {
     /// A struct of zeros, which keeps no map.
-    pub(crate) fn zeros() -> RawSlotMap {
-        RawSlotMap {
+    pub(crate) fn zeros() -> Own<RawSlotMap> {
+        Own(UnsafeCell::new(RawSlotMap {
             at: ptr::null_mut(),
             is_made: false,
-        }
+        }))
     }
 
-    pub(crate) fn make(&mut self) -> u8 {
-        // SAFETY: the struct was made of zeros, or by an export, and is borrowed for the call.
-        unsafe { slot_map_new(self) }
+    pub(crate) fn make(&self) -> u8 {
+        // SAFETY: the struct was made of zeros, or by an export, and stands in its cell.
+        unsafe { slot_map_new(self.0.get()) }
     }
 
-    pub(crate) fn free(&mut self) {
+    pub(crate) fn free(&self) {
         // SAFETY: as at `make`; what it keeps is freed, and it keeps nothing from then on.
-        unsafe { slot_map_free(self) }
+        unsafe { slot_map_free(self.0.get()) }
     }
 
-    pub(crate) fn length(&mut self, length: &mut usize) -> u8 {
+    pub(crate) fn length(&self, length: &mut usize) -> u8 {
         // SAFETY: as at `make`, and `length` is borrowed apart from it.
-        unsafe { slot_map_length(self, length) }
+        unsafe { slot_map_length(self.0.get(), length) }
     }
 
-    pub(crate) fn capacity(&mut self, capacity: &mut usize) -> u8 {
+    pub(crate) fn capacity(&self, capacity: &mut usize) -> u8 {
         // SAFETY: as at `length`.
-        unsafe { slot_map_capacity(self, capacity) }
+        unsafe { slot_map_capacity(self.0.get(), capacity) }
     }
 
-    pub(crate) fn reserve(&mut self, min: usize) -> u8 {
+    pub(crate) fn reserve(&self, min: usize) -> u8 {
         // SAFETY: as at `make`.
-        unsafe { slot_map_reserve(self, min) }
+        unsafe { slot_map_reserve(self.0.get(), min) }
     }
 
-    pub(crate) fn insert(&mut self, value: u64, handle: &mut SlotHandle) -> u8 {
+    #[inline]
+    pub(crate) fn insert(&self, value: u64, handle: &mut SlotHandle) -> u8 {
         // SAFETY: as at `length`.
-        unsafe { slot_map_insert(self, value, handle) }
+        unsafe { slot_map_insert(self.0.get(), value, handle) }
     }
 
-    pub(crate) fn get(&mut self, handle: SlotHandle, value: &mut u64) -> u8 {
+    #[inline]
+    pub(crate) fn get(&self, handle: SlotHandle, value: &mut u64) -> u8 {
         // SAFETY: as at `length`.
-        unsafe { slot_map_get(self, handle, value) }
+        unsafe { slot_map_get(self.0.get(), handle, value) }
     }
 
-    pub(crate) fn contains(&mut self, handle: SlotHandle) -> u8 {
+    #[inline]
+    pub(crate) fn contains(&self, handle: SlotHandle) -> u8 {
         // SAFETY: as at `make`.
-        unsafe { slot_map_contains(self, handle) }
+        unsafe { slot_map_contains(self.0.get(), handle) }
     }
 
-    pub(crate) fn set(&mut self, handle: SlotHandle, value: u64) -> u8 {
+    #[inline]
+    pub(crate) fn set(&self, handle: SlotHandle, value: u64) -> u8 {
         // SAFETY: as at `make`.
-        unsafe { slot_map_set(self, handle, value) }
+        unsafe { slot_map_set(self.0.get(), handle, value) }
     }
 
-    pub(crate) fn remove(&mut self, handle: SlotHandle, value: &mut u64) -> u8 {
+    #[inline]
+    pub(crate) fn remove(&self, handle: SlotHandle, value: &mut u64) -> u8 {
         // SAFETY: as at `length`.
-        unsafe { slot_map_remove(self, handle, value) }
+        unsafe { slot_map_remove(self.0.get(), handle, value) }
     }
 
-    pub(crate) fn clear(&mut self) -> u8 {
+    pub(crate) fn clear(&self) -> u8 {
         // SAFETY: as at `make`.
-        unsafe { slot_map_clear(self) }
+        unsafe { slot_map_clear(self.0.get()) }
     }
 
     pub(crate) fn compress(
-        &mut self,
+        &self,
         old: &mut [SlotHandle],
         new: &mut [SlotHandle],
         written: &mut usize,
@@ -126,7 +137,7 @@ impl RawSlotMap {
         // SAFETY: as at `length`; each pointer is that of a slice of the length beside it.
         unsafe {
             slot_map_compress(
-                self,
+                self.0.get(),
                 old.as_mut_ptr(),
                 old.len(),
                 new.as_mut_ptr(),
@@ -137,7 +148,7 @@ impl RawSlotMap {
     }
 
     pub(crate) fn read(
-        &mut self,
+        &self,
         last: &mut u32,
         handles: &mut [SlotHandle],
         values: &mut [u64],
@@ -146,7 +157,7 @@ impl RawSlotMap {
         // SAFETY: as at `compress`.
         unsafe {
             slot_map_read(
-                self,
+                self.0.get(),
                 last,
                 handles.as_mut_ptr(),
                 handles.len(),
@@ -167,6 +178,7 @@ pub(crate) struct RawOrdMap {
 
 pub(crate) const NO_ENTRY: u8 = 7;
 pub(crate) const REPLACED: u8 = 8;
+pub(crate) const FOUND: u8 = 9;
 
 unsafe extern "C" {
     fn ord_map_new(map: *mut RawOrdMap) -> u8;
@@ -180,6 +192,13 @@ unsafe extern "C" {
         value: u64,
         handle: *mut OrdHandle,
         was: *mut u64,
+    ) -> u8;
+    fn ord_map_get_or_insert(
+        map: *mut RawOrdMap,
+        key: u64,
+        value: u64,
+        handle: *mut OrdHandle,
+        found: *mut u64,
     ) -> u8;
     fn ord_map_find(map: *mut RawOrdMap, key: u64, handle: *mut OrdHandle) -> u8;
     fn ord_map_nearest(map: *mut RawOrdMap, key: u64, handle: *mut OrdHandle, side: *mut u8) -> u8;
@@ -208,118 +227,137 @@ unsafe extern "C" {
     ) -> u8;
 }
 
-impl RawOrdMap {
+impl Own<RawOrdMap> {
     /// A struct of zeros, which keeps no map.
-    pub(crate) fn zeros() -> RawOrdMap {
-        RawOrdMap {
+    pub(crate) fn zeros() -> Own<RawOrdMap> {
+        Own(UnsafeCell::new(RawOrdMap {
             at: ptr::null_mut(),
             is_made: false,
-        }
+        }))
     }
 
-    pub(crate) fn make(&mut self) -> u8 {
-        // SAFETY: the struct was made of zeros, or by an export, and is borrowed for the call.
-        unsafe { ord_map_new(self) }
+    pub(crate) fn make(&self) -> u8 {
+        // SAFETY: the struct was made of zeros, or by an export, and stands in its cell.
+        unsafe { ord_map_new(self.0.get()) }
     }
 
-    pub(crate) fn free(&mut self) {
+    pub(crate) fn free(&self) {
         // SAFETY: as at `make`; what it keeps is freed, and it keeps nothing from then on.
-        unsafe { ord_map_free(self) }
+        unsafe { ord_map_free(self.0.get()) }
     }
 
-    pub(crate) fn length(&mut self, length: &mut usize) -> u8 {
+    pub(crate) fn length(&self, length: &mut usize) -> u8 {
         // SAFETY: as at `make`, and `length` is borrowed apart from it.
-        unsafe { ord_map_length(self, length) }
+        unsafe { ord_map_length(self.0.get(), length) }
     }
 
-    pub(crate) fn capacity(&mut self, capacity: &mut usize) -> u8 {
+    pub(crate) fn capacity(&self, capacity: &mut usize) -> u8 {
         // SAFETY: as at `length`.
-        unsafe { ord_map_capacity(self, capacity) }
+        unsafe { ord_map_capacity(self.0.get(), capacity) }
     }
 
-    pub(crate) fn reserve(&mut self, min: usize) -> u8 {
+    pub(crate) fn reserve(&self, min: usize) -> u8 {
         // SAFETY: as at `make`.
-        unsafe { ord_map_reserve(self, min) }
+        unsafe { ord_map_reserve(self.0.get(), min) }
     }
 
-    pub(crate) fn insert(
-        &mut self,
+    #[inline]
+    pub(crate) fn insert(&self, key: u64, value: u64, handle: &mut OrdHandle, was: &mut u64) -> u8 {
+        // SAFETY: as at `length`; `handle` and `was` are borrowed apart from each other too.
+        unsafe { ord_map_insert(self.0.get(), key, value, handle, was) }
+    }
+
+    #[inline]
+    pub(crate) fn get_or_insert(
+        &self,
         key: u64,
         value: u64,
         handle: &mut OrdHandle,
-        was: &mut u64,
+        found: &mut u64,
     ) -> u8 {
-        // SAFETY: as at `length`; `handle` and `was` are borrowed apart from each other too.
-        unsafe { ord_map_insert(self, key, value, handle, was) }
-    }
-
-    pub(crate) fn find(&mut self, key: u64, handle: &mut OrdHandle) -> u8 {
-        // SAFETY: as at `length`.
-        unsafe { ord_map_find(self, key, handle) }
-    }
-
-    pub(crate) fn nearest(&mut self, key: u64, handle: &mut OrdHandle, side: &mut u8) -> u8 {
         // SAFETY: as at `insert`.
-        unsafe { ord_map_nearest(self, key, handle, side) }
+        unsafe { ord_map_get_or_insert(self.0.get(), key, value, handle, found) }
     }
 
-    pub(crate) fn lower_bound(&mut self, key: u64, handle: &mut OrdHandle) -> u8 {
+    #[inline]
+    pub(crate) fn find(&self, key: u64, handle: &mut OrdHandle) -> u8 {
         // SAFETY: as at `length`.
-        unsafe { ord_map_lower_bound(self, key, handle) }
+        unsafe { ord_map_find(self.0.get(), key, handle) }
     }
 
-    pub(crate) fn upper_bound(&mut self, key: u64, handle: &mut OrdHandle) -> u8 {
-        // SAFETY: as at `length`.
-        unsafe { ord_map_upper_bound(self, key, handle) }
-    }
-
-    pub(crate) fn get(&mut self, handle: OrdHandle, key: &mut u64, value: &mut u64) -> u8 {
+    #[inline]
+    pub(crate) fn nearest(&self, key: u64, handle: &mut OrdHandle, side: &mut u8) -> u8 {
         // SAFETY: as at `insert`.
-        unsafe { ord_map_get(self, handle, key, value) }
+        unsafe { ord_map_nearest(self.0.get(), key, handle, side) }
     }
 
-    pub(crate) fn set(&mut self, handle: OrdHandle, value: u64) -> u8 {
+    #[inline]
+    pub(crate) fn lower_bound(&self, key: u64, handle: &mut OrdHandle) -> u8 {
+        // SAFETY: as at `length`.
+        unsafe { ord_map_lower_bound(self.0.get(), key, handle) }
+    }
+
+    #[inline]
+    pub(crate) fn upper_bound(&self, key: u64, handle: &mut OrdHandle) -> u8 {
+        // SAFETY: as at `length`.
+        unsafe { ord_map_upper_bound(self.0.get(), key, handle) }
+    }
+
+    #[inline]
+    pub(crate) fn get(&self, handle: OrdHandle, key: &mut u64, value: &mut u64) -> u8 {
+        // SAFETY: as at `insert`.
+        unsafe { ord_map_get(self.0.get(), handle, key, value) }
+    }
+
+    #[inline]
+    pub(crate) fn set(&self, handle: OrdHandle, value: u64) -> u8 {
         // SAFETY: as at `make`.
-        unsafe { ord_map_set(self, handle, value) }
+        unsafe { ord_map_set(self.0.get(), handle, value) }
     }
 
-    pub(crate) fn remove(&mut self, handle: OrdHandle, key: &mut u64, value: &mut u64) -> u8 {
+    #[inline]
+    pub(crate) fn remove(&self, handle: OrdHandle, key: &mut u64, value: &mut u64) -> u8 {
         // SAFETY: as at `insert`.
-        unsafe { ord_map_remove(self, handle, key, value) }
+        unsafe { ord_map_remove(self.0.get(), handle, key, value) }
     }
 
-    pub(crate) fn remove_key(&mut self, key: u64, value: &mut u64) -> u8 {
+    #[inline]
+    pub(crate) fn remove_key(&self, key: u64, value: &mut u64) -> u8 {
         // SAFETY: as at `length`.
-        unsafe { ord_map_remove_key(self, key, value) }
+        unsafe { ord_map_remove_key(self.0.get(), key, value) }
     }
 
-    pub(crate) fn first(&mut self, handle: &mut OrdHandle) -> u8 {
+    #[inline]
+    pub(crate) fn first(&self, handle: &mut OrdHandle) -> u8 {
         // SAFETY: as at `length`.
-        unsafe { ord_map_first(self, handle) }
+        unsafe { ord_map_first(self.0.get(), handle) }
     }
 
-    pub(crate) fn last(&mut self, handle: &mut OrdHandle) -> u8 {
+    #[inline]
+    pub(crate) fn last(&self, handle: &mut OrdHandle) -> u8 {
         // SAFETY: as at `length`.
-        unsafe { ord_map_last(self, handle) }
+        unsafe { ord_map_last(self.0.get(), handle) }
     }
 
-    pub(crate) fn next(&mut self, handle: OrdHandle, next: &mut OrdHandle) -> u8 {
+    #[inline]
+    pub(crate) fn next(&self, handle: OrdHandle, next: &mut OrdHandle) -> u8 {
         // SAFETY: as at `length`.
-        unsafe { ord_map_next(self, handle, next) }
+        unsafe { ord_map_next(self.0.get(), handle, next) }
     }
 
-    pub(crate) fn previous(&mut self, handle: OrdHandle, previous: &mut OrdHandle) -> u8 {
+    #[inline]
+    pub(crate) fn previous(&self, handle: OrdHandle, previous: &mut OrdHandle) -> u8 {
         // SAFETY: as at `length`.
-        unsafe { ord_map_previous(self, handle, previous) }
+        unsafe { ord_map_previous(self.0.get(), handle, previous) }
     }
 
-    pub(crate) fn clear(&mut self) -> u8 {
+    pub(crate) fn clear(&self) -> u8 {
         // SAFETY: as at `make`.
-        unsafe { ord_map_clear(self) }
+        unsafe { ord_map_clear(self.0.get()) }
     }
 
     pub(crate) fn entries(
-        &mut self,
+        &self,
         from: &mut OrdHandle,
         handles: &mut [OrdHandle],
         keys: &mut [u64],
@@ -329,7 +367,7 @@ impl RawOrdMap {
         // SAFETY: as at `insert`; each pointer is that of a slice of the length beside it.
         unsafe {
             ord_map_entries(
-                self,
+                self.0.get(),
                 from,
                 handles.as_mut_ptr(),
                 handles.len(),
@@ -382,47 +420,47 @@ unsafe extern "C" {
     ) -> u8;
 }
 
-impl RawRouteBook {
+impl Own<RawRouteBook> {
     /// A struct of zeros, which keeps no store.
-    pub(crate) fn zeros() -> RawRouteBook {
-        RawRouteBook {
+    pub(crate) fn zeros() -> Own<RawRouteBook> {
+        Own(UnsafeCell::new(RawRouteBook {
             at: ptr::null_mut(),
             is_made: false,
-        }
+        }))
     }
 
-    pub(crate) fn make(&mut self, places: usize, stops: usize, marks: usize) -> u8 {
-        // SAFETY: the struct was made of zeros, or by an export, and is borrowed for the call.
-        unsafe { route_book_new(self, places, stops, marks) }
+    pub(crate) fn make(&self, places: usize, stops: usize, marks: usize) -> u8 {
+        // SAFETY: the struct was made of zeros, or by an export, and stands in its cell.
+        unsafe { route_book_new(self.0.get(), places, stops, marks) }
     }
 
-    pub(crate) fn free(&mut self) {
+    pub(crate) fn free(&self) {
         // SAFETY: as at `make`; what it keeps is freed, and it keeps nothing from then on.
-        unsafe { route_book_free(self) }
+        unsafe { route_book_free(self.0.get()) }
     }
 
-    pub(crate) fn places(&mut self, count: &mut usize) -> u8 {
+    pub(crate) fn places(&self, count: &mut usize) -> u8 {
         // SAFETY: as at `make`, and `count` is borrowed apart from it.
-        unsafe { route_book_places(self, count) }
+        unsafe { route_book_places(self.0.get(), count) }
     }
 
-    pub(crate) fn stops(&mut self, count: &mut usize) -> u8 {
+    pub(crate) fn stops(&self, count: &mut usize) -> u8 {
         // SAFETY: as at `places`.
-        unsafe { route_book_stops(self, count) }
+        unsafe { route_book_stops(self.0.get(), count) }
     }
 
-    pub(crate) fn marks(&mut self, count: &mut usize) -> u8 {
+    pub(crate) fn marks(&self, count: &mut usize) -> u8 {
         // SAFETY: as at `places`.
-        unsafe { route_book_marks(self, count) }
+        unsafe { route_book_marks(self.0.get(), count) }
     }
 
-    pub(crate) fn pack(&mut self) -> u8 {
+    pub(crate) fn pack(&self) -> u8 {
         // SAFETY: as at `make`.
-        unsafe { route_book_pack(self) }
+        unsafe { route_book_pack(self.0.get()) }
     }
 
     pub(crate) fn run(
-        &mut self,
+        &self,
         input: &[u8],
         room: &mut [u8],
         taken: &mut usize,
@@ -431,7 +469,7 @@ impl RawRouteBook {
         // SAFETY: as at `places`; each pointer is that of a slice of the length beside it.
         unsafe {
             route_book_run(
-                self,
+                self.0.get(),
                 input.as_ptr(),
                 input.len(),
                 room.as_mut_ptr(),

@@ -1,8 +1,9 @@
 //! An ordered map of 64-bit keys and values.
 
 use crate::Error;
-use crate::exports::{FULL, NO_ENTRY, NO_MEMORY, NOT_FOUND, OK, REPLACED, RawOrdMap, SPENT};
-use std::cell::RefCell;
+use crate::exports::{
+    FOUND, FULL, NO_ENTRY, NO_MEMORY, NOT_FOUND, OK, Own, REPLACED, RawOrdMap, SPENT,
+};
 use std::fmt;
 use std::ops::{Bound, RangeBounds};
 
@@ -70,8 +71,8 @@ pub enum Nearest {
 /// # Ok::<(), route_arenas::Error>(())
 /// ```
 pub struct OrdMap {
-    // The exports take the struct for writing, also where they only read.
-    raw: RefCell<RawOrdMap>,
+    // The exports write the struct, also where they only read.
+    raw: Own<RawOrdMap>,
 }
 
 fn error(status: u8) -> Error {
@@ -83,6 +84,7 @@ fn error(status: u8) -> Error {
     }
 }
 
+#[inline]
 fn done(status: u8) -> Result<(), Error> {
     if status == OK {
         Ok(())
@@ -91,6 +93,7 @@ fn done(status: u8) -> Result<(), Error> {
     }
 }
 
+#[inline]
 fn found(status: u8) -> bool {
     match status {
         OK => true,
@@ -105,18 +108,16 @@ impl OrdMap {
     /// # Errors
     /// `NoMemory` if the memory for the map itself was refused.
     pub fn new() -> Result<OrdMap, Error> {
-        let mut raw = RawOrdMap::zeros();
+        let raw = Own::<RawOrdMap>::zeros();
         done(raw.make())?;
-        Ok(OrdMap {
-            raw: RefCell::new(raw),
-        })
+        Ok(OrdMap { raw })
     }
 
     /// How many entries there are.
     #[must_use]
     pub fn len(&self) -> usize {
         let mut length = 0;
-        found(self.raw.borrow_mut().length(&mut length));
+        found(self.raw.length(&mut length));
         length
     }
 
@@ -130,7 +131,7 @@ impl OrdMap {
     #[must_use]
     pub fn capacity(&self) -> usize {
         let mut capacity = 0;
-        found(self.raw.borrow_mut().capacity(&mut capacity));
+        found(self.raw.capacity(&mut capacity));
         capacity
     }
 
@@ -139,7 +140,7 @@ impl OrdMap {
     /// # Errors
     /// `Full` if `min` is past 4,294,967,295, or `NoMemory`; the map is then as it was.
     pub fn reserve(&mut self, min: usize) -> Result<(), Error> {
-        done(self.raw.get_mut().reserve(min))
+        done(self.raw.reserve(min))
     }
 
     /// Puts a value in at a key, and gives the handle of the entry, and the value that gave way, if
@@ -147,38 +148,69 @@ impl OrdMap {
     ///
     /// # Errors
     /// `NoMemory`, `Full` or `Spent`, at a key that has no entry; the map is then as it was.
+    #[inline]
     pub fn insert(&mut self, key: u64, value: u64) -> Result<(OrdHandle, Option<u64>), Error> {
         let (mut handle, mut was) = (OrdHandle::NONE, 0);
-        match self.raw.get_mut().insert(key, value, &mut handle, &mut was) {
+        match self.raw.insert(key, value, &mut handle, &mut was) {
             OK => Ok((handle, None)),
             REPLACED => Ok((handle, Some(was))),
             other => Err(error(other)),
         }
     }
 
+    /// The handle and the value of the entry with this key; if there is none, this value is put in.
+    /// An entry that is there stays as it is, and no memory is taken.
+    ///
+    /// # Errors
+    /// `NoMemory`, `Full` or `Spent`, at a key that has no entry; the map is then as it was.
+    ///
+    /// ```
+    /// # use route_arenas::OrdMap;
+    /// let mut counts = OrdMap::new()?;
+    /// for word in [7, 3, 7] {
+    ///     let (handle, count) = counts.get_or_insert(word, 0)?;
+    ///     counts.set(handle, count + 1);
+    /// }
+    /// assert_eq!((counts.value(3), counts.value(7)), (Some(1), Some(2)));
+    /// # Ok::<(), route_arenas::Error>(())
+    /// ```
+    #[inline]
+    pub fn get_or_insert(&mut self, key: u64, value: u64) -> Result<(OrdHandle, u64), Error> {
+        let (mut handle, mut there) = (OrdHandle::NONE, 0);
+        match self.raw.get_or_insert(key, value, &mut handle, &mut there) {
+            OK => Ok((handle, value)),
+            FOUND => Ok((handle, there)),
+            other => Err(error(other)),
+        }
+    }
+
     // The handle that a call writes.
+    #[inline]
     fn handle_by(
         &self,
-        call: impl FnOnce(&mut RawOrdMap, &mut OrdHandle) -> u8,
+        call: impl FnOnce(&Own<RawOrdMap>, &mut OrdHandle) -> u8,
     ) -> Option<OrdHandle> {
         let mut handle = OrdHandle::NONE;
-        found(call(&mut self.raw.borrow_mut(), &mut handle)).then_some(handle)
+        found(call(&self.raw, &mut handle)).then_some(handle)
     }
 
     /// The handle of the entry with this key.
     #[must_use]
+    #[inline]
     pub fn find(&self, key: u64) -> Option<OrdHandle> {
         self.handle_by(|raw, handle| raw.find(key, handle))
     }
 
     /// Whether an entry has this key.
     #[must_use]
+    #[inline]
     pub fn contains_key(&self, key: u64) -> bool {
         self.find(key).is_some()
     }
 
     /// The value at this key.
     #[must_use]
+    #[inline]
     pub fn value(&self, key: u64) -> Option<u64> {
         Some(self.get(self.find(key)?)?.1)
     }
@@ -186,6 +218,7 @@ impl OrdMap {
     /// The entry with this key, or else one of the two neighbors of its place; which of them, if
     /// there are both, is the library's choice.
     #[must_use]
+    #[inline]
     pub fn nearest(&self, key: u64) -> Option<Nearest> {
         let mut side = 0;
         let handle = self.handle_by(|raw, handle| raw.nearest(key, handle, &mut side))?;
@@ -198,31 +231,36 @@ impl OrdMap {
 
     /// The handle of the first entry whose key is not below this one.
     #[must_use]
+    #[inline]
     pub fn lower_bound(&self, key: u64) -> Option<OrdHandle> {
         self.handle_by(|raw, handle| raw.lower_bound(key, handle))
     }
 
     /// The handle of the first entry whose key is above this one.
     #[must_use]
+    #[inline]
     pub fn upper_bound(&self, key: u64) -> Option<OrdHandle> {
         self.handle_by(|raw, handle| raw.upper_bound(key, handle))
     }
 
     /// The handle of the entry with the least key.
     #[must_use]
+    #[inline]
     pub fn first(&self) -> Option<OrdHandle> {
-        self.handle_by(RawOrdMap::first)
+        self.handle_by(Own::<RawOrdMap>::first)
     }
 
     /// The handle of the entry with the greatest key.
     #[must_use]
+    #[inline]
     pub fn last(&self) -> Option<OrdHandle> {
-        self.handle_by(RawOrdMap::last)
+        self.handle_by(Own::<RawOrdMap>::last)
     }
 
     /// The handle of the entry behind that which the handle finds, in the order of the keys. It is
     /// `None` if the handle finds none, or there is none behind it.
     #[must_use]
+    #[inline]
     pub fn next(&self, handle: OrdHandle) -> Option<OrdHandle> {
         self.handle_by(|raw, next| raw.next(handle, next))
     }
@@ -230,38 +268,43 @@ impl OrdMap {
     /// The handle of the entry before that which the handle finds, in the order of the keys. It is
     /// `None` if the handle finds none, or there is none before it.
     #[must_use]
+    #[inline]
     pub fn previous(&self, handle: OrdHandle) -> Option<OrdHandle> {
         self.handle_by(|raw, previous| raw.previous(handle, previous))
     }
 
     /// The key and the value that the handle finds.
     #[must_use]
+    #[inline]
     pub fn get(&self, handle: OrdHandle) -> Option<(u64, u64)> {
         let (mut key, mut value) = (0, 0);
-        found(self.raw.borrow_mut().get(handle, &mut key, &mut value)).then_some((key, value))
+        found(self.raw.get(handle, &mut key, &mut value)).then_some((key, value))
     }
 
     /// Puts a value in place of the one that the handle finds, and says whether it finds one. The
     /// key stays.
+    #[inline]
     pub fn set(&mut self, handle: OrdHandle, value: u64) -> bool {
-        found(self.raw.get_mut().set(handle, value))
+        found(self.raw.set(handle, value))
     }
 
     /// Removes the entry that the handle finds, and gives its key and its value.
+    #[inline]
     pub fn remove(&mut self, handle: OrdHandle) -> Option<(u64, u64)> {
         let (mut key, mut value) = (0, 0);
-        found(self.raw.get_mut().remove(handle, &mut key, &mut value)).then_some((key, value))
+        found(self.raw.remove(handle, &mut key, &mut value)).then_some((key, value))
     }
 
     /// Removes the entry with this key, and gives its value.
+    #[inline]
     pub fn remove_key(&mut self, key: u64) -> Option<u64> {
         let mut value = 0;
-        found(self.raw.get_mut().remove_key(key, &mut value)).then_some(value)
+        found(self.raw.remove_key(key, &mut value)).then_some(value)
     }
 
     /// Removes every entry. The capacity stays.
     pub fn clear(&mut self) {
-        found(self.raw.get_mut().clear());
+        found(self.raw.clear());
     }
 
     /// The handles, the keys and the values, in the order of the keys. They are read 64 at a time.
@@ -296,7 +339,7 @@ impl OrdMap {
 
 impl Drop for OrdMap {
     fn drop(&mut self) {
-        self.raw.get_mut().free();
+        self.raw.free();
     }
 }
 
@@ -334,11 +377,12 @@ pub struct OrdIter<'a> {
 impl Iterator for OrdIter<'_> {
     type Item = (OrdHandle, u64, u64);
 
+    #[inline]
     fn next(&mut self) -> Option<(OrdHandle, u64, u64)> {
         if self.at == self.end {
             let mut from = self.from.take()?;
             (self.at, self.end) = (0, 0);
-            found(self.map.raw.borrow_mut().entries(
+            found(self.map.raw.entries(
                 &mut from,
                 &mut self.handles,
                 &mut self.keys,

@@ -1,8 +1,7 @@
 //! A store of places, routes and marks that answers lines.
 
 use crate::Error;
-use crate::exports::{NO_MEMORY, OK, RawRouteBook, SHORT, TOO_LARGE};
-use std::cell::RefCell;
+use crate::exports::{NO_MEMORY, OK, Own, RawRouteBook, SHORT, TOO_LARGE};
 use std::fmt;
 
 /// How far lines were answered.
@@ -22,8 +21,8 @@ pub struct Progress {
 /// It takes its memory when it is made, and none later. It is neither `Send` nor `Sync`, since
 /// nothing proved speaks of threads.
 pub struct RouteBook {
-    // The exports take the struct for writing, also where they only read.
-    raw: RefCell<RawRouteBook>,
+    // The exports write the struct, also where they only read.
+    raw: Own<RawRouteBook>,
 }
 
 fn made(status: u8) -> Result<(), Error> {
@@ -53,11 +52,9 @@ impl RouteBook {
     /// # Errors
     /// `TooLarge` if the rooms together are past 4,294,967,295, or `NoMemory`.
     pub fn new(places: usize, stops: usize, marks: usize) -> Result<RouteBook, Error> {
-        let mut raw = RawRouteBook::zeros();
+        let raw = Own::<RawRouteBook>::zeros();
         made(raw.make(places, stops, marks))?;
-        Ok(RouteBook {
-            raw: RefCell::new(raw),
-        })
+        Ok(RouteBook { raw })
     }
 
     /// Carries out the whole lines of the input one after another, and writes their replies from
@@ -67,8 +64,7 @@ impl RouteBook {
     /// What follows the last LF is not taken: give it again, with what comes behind it.
     pub fn run(&mut self, input: &[u8], room: &mut [u8]) -> Progress {
         let (mut taken, mut written) = (0, 0);
-        let raw = self.raw.get_mut();
-        let status = raw.run(input, room, &mut taken, &mut written);
+        let status = self.raw.run(input, room, &mut taken, &mut written);
         Progress {
             taken,
             written,
@@ -108,7 +104,8 @@ impl RouteBook {
         let mut replies = vec![0; 1024];
         loop {
             let (mut taken, mut written) = (0, 0);
-            match RawRouteBook::answer(rooms, input, &mut replies, &mut taken, &mut written) {
+            match Own::<RawRouteBook>::answer(rooms, input, &mut replies, &mut taken, &mut written)
+            {
                 // The store is gone, so all is answered once more in a larger room.
                 SHORT => replies.resize(2 * replies.len(), 0),
                 status => {
@@ -120,39 +117,39 @@ impl RouteBook {
         }
     }
 
-    fn counted(&self, count: fn(&mut RawRouteBook, &mut usize) -> u8) -> usize {
+    fn counted(&self, count: fn(&Own<RawRouteBook>, &mut usize) -> u8) -> usize {
         let mut found = 0;
-        is_short(count(&mut self.raw.borrow_mut(), &mut found));
+        is_short(count(&self.raw, &mut found));
         found
     }
 
     /// How many places live.
     #[must_use]
     pub fn places(&self) -> usize {
-        self.counted(RawRouteBook::places)
+        self.counted(Own::<RawRouteBook>::places)
     }
 
     /// How many stops live.
     #[must_use]
     pub fn stops(&self) -> usize {
-        self.counted(RawRouteBook::stops)
+        self.counted(Own::<RawRouteBook>::stops)
     }
 
     /// How many marks live.
     #[must_use]
     pub fn marks(&self) -> usize {
-        self.counted(RawRouteBook::marks)
+        self.counted(Own::<RawRouteBook>::marks)
     }
 
     /// Moves all items to the front of their memory, as the line `pack` does. It changes no reply.
     pub fn pack(&mut self) {
-        is_short(self.raw.get_mut().pack());
+        is_short(self.raw.pack());
     }
 }
 
 impl Drop for RouteBook {
     fn drop(&mut self) {
-        self.raw.get_mut().free();
+        self.raw.free();
     }
 }
 

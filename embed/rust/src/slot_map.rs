@@ -1,8 +1,7 @@
 //! A slot map of 64-bit values.
 
 use crate::Error;
-use crate::exports::{FULL, NO_MEMORY, NOT_FOUND, OK, RawSlotMap, SPENT};
-use std::cell::RefCell;
+use crate::exports::{FULL, NO_MEMORY, NOT_FOUND, OK, Own, RawSlotMap, SPENT};
 use std::fmt;
 
 /// The handle of an entry of a `SlotMap`. It finds that entry, and nothing once that is removed,
@@ -46,10 +45,11 @@ impl fmt::Debug for SlotHandle {
 ///
 /// It is neither `Send` nor `Sync`, since nothing proved speaks of threads.
 pub struct SlotMap {
-    // The exports take the struct for writing, also where they only read.
-    raw: RefCell<RawSlotMap>,
+    // The exports write the struct, also where they only read.
+    raw: Own<RawSlotMap>,
 }
 
+#[inline]
 fn done(status: u8) -> Result<(), Error> {
     match status {
         OK => Ok(()),
@@ -60,6 +60,7 @@ fn done(status: u8) -> Result<(), Error> {
     }
 }
 
+#[inline]
 fn found(status: u8) -> bool {
     match status {
         OK => true,
@@ -74,18 +75,16 @@ impl SlotMap {
     /// # Errors
     /// `NoMemory` if the memory for the map itself was refused.
     pub fn new() -> Result<SlotMap, Error> {
-        let mut raw = RawSlotMap::zeros();
+        let raw = Own::<RawSlotMap>::zeros();
         done(raw.make())?;
-        Ok(SlotMap {
-            raw: RefCell::new(raw),
-        })
+        Ok(SlotMap { raw })
     }
 
     /// How many entries there are.
     #[must_use]
     pub fn len(&self) -> usize {
         let mut length = 0;
-        found(self.raw.borrow_mut().length(&mut length));
+        found(self.raw.length(&mut length));
         length
     }
 
@@ -99,7 +98,7 @@ impl SlotMap {
     #[must_use]
     pub fn capacity(&self) -> usize {
         let mut capacity = 0;
-        found(self.raw.borrow_mut().capacity(&mut capacity));
+        found(self.raw.capacity(&mut capacity));
         capacity
     }
 
@@ -108,46 +107,51 @@ impl SlotMap {
     /// # Errors
     /// `Full` if `min` is past 4,294,967,295, or `NoMemory`; the map is then as it was.
     pub fn reserve(&mut self, min: usize) -> Result<(), Error> {
-        done(self.raw.get_mut().reserve(min))
+        done(self.raw.reserve(min))
     }
 
     /// Stores a value, and gives its handle.
     ///
     /// # Errors
     /// `NoMemory`, `Full` or `Spent`; the map is then as it was.
+    #[inline]
     pub fn insert(&mut self, value: u64) -> Result<SlotHandle, Error> {
         let mut handle = SlotHandle::NONE;
-        done(self.raw.get_mut().insert(value, &mut handle))?;
+        done(self.raw.insert(value, &mut handle))?;
         Ok(handle)
     }
 
     /// The value that the handle finds.
     #[must_use]
+    #[inline]
     pub fn get(&self, handle: SlotHandle) -> Option<u64> {
         let mut value = 0;
-        found(self.raw.borrow_mut().get(handle, &mut value)).then_some(value)
+        found(self.raw.get(handle, &mut value)).then_some(value)
     }
 
     /// Whether the handle finds an entry.
     #[must_use]
+    #[inline]
     pub fn contains(&self, handle: SlotHandle) -> bool {
-        found(self.raw.borrow_mut().contains(handle))
+        found(self.raw.contains(handle))
     }
 
     /// Puts a value in place of the one that the handle finds, and says whether it finds one.
+    #[inline]
     pub fn set(&mut self, handle: SlotHandle, value: u64) -> bool {
-        found(self.raw.get_mut().set(handle, value))
+        found(self.raw.set(handle, value))
     }
 
     /// Removes the entry that the handle finds, and gives its value.
+    #[inline]
     pub fn remove(&mut self, handle: SlotHandle) -> Option<u64> {
         let mut value = 0;
-        found(self.raw.get_mut().remove(handle, &mut value)).then_some(value)
+        found(self.raw.remove(handle, &mut value)).then_some(value)
     }
 
     /// Removes every entry. The capacity stays.
     pub fn clear(&mut self) {
-        found(self.raw.get_mut().clear());
+        found(self.raw.clear());
     }
 
     /// Moves the entries to the indexes from 1 on, and gives the old and the new handle of each, in
@@ -160,11 +164,7 @@ impl SlotMap {
         let mut old = vec![SlotHandle::NONE; length];
         let mut new = old.clone();
         let mut written = 0;
-        done(
-            self.raw
-                .get_mut()
-                .compress(&mut old, &mut new, &mut written),
-        )?;
+        done(self.raw.compress(&mut old, &mut new, &mut written))?;
         Ok(old.into_iter().zip(new).take(written).collect())
     }
 
@@ -183,7 +183,7 @@ impl SlotMap {
 
 impl Drop for SlotMap {
     fn drop(&mut self) {
-        self.raw.get_mut().free();
+        self.raw.free();
     }
 }
 
@@ -216,11 +216,11 @@ pub struct Iter<'a> {
 impl Iterator for Iter<'_> {
     type Item = (SlotHandle, u64);
 
+    #[inline]
     fn next(&mut self) -> Option<(SlotHandle, u64)> {
         if self.at == self.end {
             self.at = 0;
-            let mut raw = self.map.raw.borrow_mut();
-            found(raw.read(
+            found(self.map.raw.read(
                 &mut self.last,
                 &mut self.handles,
                 &mut self.values,

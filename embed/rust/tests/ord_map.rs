@@ -92,7 +92,15 @@ fn random_calls_beside_a_tree_map() -> Result<(), Error> {
     for step in 0..100_000u64 {
         let (key, value) = (numbers.below(2_000), numbers.next());
         match numbers.below(100) {
-            0..40 => {
+            0..15 => {
+                let (handle, there) = map.get_or_insert(key, value)?;
+                let own = *model.entries.entry(key).or_insert((handle, value));
+                assert_eq!((handle, there), own);
+                assert_eq!(*model.keys.entry(handle).or_insert(key), key);
+                assert!(!model.stale.contains(&handle), "a handle was given twice");
+                given.push(handle);
+            }
+            15..40 => {
                 let (handle, was) = map.insert(key, value)?;
                 let old = model.entries.insert(key, (handle, value));
                 assert_eq!(was, old.map(|own| own.1));

@@ -1,7 +1,9 @@
 //! The store beside its model: the README's lines, and texts and replies that `models/store.py`
-//! wrote (`lines SEED 120`), cut at every length and answered in small rooms; each refusal.
+//! wrote (`lines SEED 120`), cut at every length and answered in small rooms; a thousand texts that
+//! `embed/build` leaves beside the archives, cut at every length; each refusal.
 
 use route_arenas::{Error, RouteBook};
+use std::{env, fs};
 
 /// The rooms of a store, lines, and their replies by the model.
 type Text = ([usize; 3], &'static [u8], &'static [u8]);
@@ -82,6 +84,44 @@ fn texts_cut_in_two_at_each_byte() -> Result<(), Error> {
             assert_eq!(answers, replies);
         }
     }
+    Ok(())
+}
+
+/// Takes the front of some bytes off.
+fn split_off<'a>(bytes: &mut &'a [u8], count: usize) -> &'a [u8] {
+    let (front, rest) = bytes.split_at(count);
+    *bytes = rest;
+    front
+}
+
+#[test]
+fn a_thousand_texts_cut_in_two_at_each_byte() -> Result<(), Error> {
+    let folder = env::var("EMBED_ARCHIVES")
+        .unwrap_or_else(|_| concat!(env!("CARGO_MANIFEST_DIR"), "/../out").to_owned());
+    let file = fs::read(folder + "/texts").expect("the texts that embed/build leaves");
+    let mut rest = file.as_slice();
+    let mut count = 0;
+    while let Some(end) = rest.iter().position(|byte| *byte == b'\n') {
+        let head = str::from_utf8(split_off(&mut rest, end + 1)).expect("numbers");
+        let numbers: Vec<usize> = head
+            .split_whitespace()
+            .map(|it| it.parse().unwrap())
+            .collect();
+        let [places, stops, marks, length, replied] = numbers[..] else {
+            panic!("a text has the head {head}");
+        };
+        let lines = split_off(&mut rest, length);
+        let replies = split_off(&mut rest, replied);
+        for cut in 0..=length {
+            let mut book = made([places, stops, marks])?;
+            let mut answers = Vec::new();
+            let taken = book.answer(&lines[..cut], &mut answers);
+            assert_eq!(book.answer(&lines[taken..], &mut answers), length - taken);
+            assert_eq!(answers, replies);
+        }
+        count += 1;
+    }
+    assert_eq!(count, 1000);
     Ok(())
 }
 
