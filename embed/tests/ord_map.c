@@ -115,7 +115,7 @@ static void without_an_entry(struct ord_map *map) {
 
 static void handles(void) {
     struct ord_map map = {0};
-    struct ord_map_handle a, b, c, again, other = {3, 4};
+    struct ord_map_handle a, b, c, d, again, other = {3, 4};
     uint64_t key = 1, value = 5, was = 6;
     uint8_t side = 9;
     CHECK(ord_map_new(&map) == ORD_MAP_OK && ord_map_new(&map) == ORD_MAP_MADE);
@@ -130,9 +130,9 @@ static void handles(void) {
     CHECK(ord_map_get_or_insert(&map, 20, 9, &again, &was) == ORD_MAP_FOUND && was == 201);
     CHECK(are_same(again, b) && length_of(&map) == 3);
     CHECK(ord_map_get(&map, b, &key, &value) == ORD_MAP_OK && key == 20 && value == 201);
-    CHECK(ord_map_get_or_insert(&map, 25, 250, &again, &was) == ORD_MAP_OK && was == 201);
-    CHECK(are_same(found(&map, 25), again) && length_of(&map) == 4);
-    CHECK(ord_map_remove(&map, again, &key, &value) == ORD_MAP_OK && key == 25 && value == 250);
+    CHECK(ord_map_get_or_insert(&map, 25, 250, &d, &was) == ORD_MAP_OK && was == 201);
+    CHECK(are_same(found(&map, 25), d) && length_of(&map) == 4);
+    CHECK(ord_map_remove(&map, d, &key, &value) == ORD_MAP_OK && key == 25 && value == 250);
     CHECK(are_same(found(&map, 10), a) && are_same(found(&map, 30), c));
     CHECK(ord_map_find(&map, 15, &again) == ORD_MAP_NO_ENTRY && are_same(again, b));
     CHECK(ord_map_first(&map, &again) == ORD_MAP_OK && are_same(again, a));

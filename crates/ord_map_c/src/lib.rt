@@ -8,8 +8,8 @@
 //!
 //! Each call answers a status: 0 it is done, 1 the memory was refused, 2 there would be more
 //! entries than indexes, 3 the map is spent, 4 the handle finds no entry, 5 the holder keeps no
-//! map, 6 it keeps one already, 7 there is no such entry, 8 it is done, and a value gave way, 9 it is
-//! done, and an entry was there, which stays. At any but 0 and 8 nothing has changed.
+//! map, 6 it keeps one already, 7 there is no such entry, 8 it is done, and a value gave way, 9 it
+//! is done, and an entry was there, which stays. At any but 0 and 8 nothing has changed.
 #![tactic(auto)]
 
 ghost use Rattle.std.specs.Prelude.{◌≡◌, ◌≢◌, ◌⊎◌, ◌+◌, ◌<◌, ◌≤◌, ◌↔◌, ℕ, Some, None};
@@ -37,6 +37,7 @@ mod ord_map;
 mod refusal;
 
 pub use handle::Handle;
+use handle::write_found;
 pub use holder::Holder;
 pub use ord_map::OrdMap;
 pub use refusal::Refusal;
@@ -319,13 +320,7 @@ pub extern "C" fn ord_map_find(alloc: Global, map: &mut Holder, key: u64, handle
     let Some(own) = map.take(alloc) else {
         return 5;
     };
-    let status = match own.find(key) {
-        Some(found) => {
-            *handle = found;
-            0
-        }
-        None => 7,
-    };
+    let status = write_found(own.find(key), handle);
     map.put(alloc, own);
     status
 }
@@ -390,13 +385,7 @@ pub extern "C" fn ord_map_lower_bound(
     let Some(own) = map.take(alloc) else {
         return 5;
     };
-    let status = match own.lower_bound(key) {
-        Some(found) => {
-            *handle = found;
-            0
-        }
-        None => 7,
-    };
+    let status = write_found(own.lower_bound(key), handle);
     map.put(alloc, own);
     status
 }
@@ -423,13 +412,7 @@ pub extern "C" fn ord_map_upper_bound(
     let Some(own) = map.take(alloc) else {
         return 5;
     };
-    let status = match own.upper_bound(key) {
-        Some(found) => {
-            *handle = found;
-            0
-        }
-        None => 7,
-    };
+    let status = write_found(own.upper_bound(key), handle);
     map.put(alloc, own);
     status
 }
@@ -621,13 +604,7 @@ pub extern "C" fn ord_map_first(alloc: Global, map: &mut Holder, handle: &mut Ha
     let Some(own) = map.take(alloc) else {
         return 5;
     };
-    let status = match own.first() {
-        Some(found) => {
-            *handle = found;
-            0
-        }
-        None => 7,
-    };
+    let status = write_found(own.first(), handle);
     map.put(alloc, own);
     status
 }
@@ -648,13 +625,7 @@ pub extern "C" fn ord_map_last(alloc: Global, map: &mut Holder, handle: &mut Han
     let Some(own) = map.take(alloc) else {
         return 5;
     };
-    let status = match own.last() {
-        Some(found) => {
-            *handle = found;
-            0
-        }
-        None => 7,
-    };
+    let status = write_found(own.last(), handle);
     map.put(alloc, own);
     status
 }

@@ -242,8 +242,8 @@ impl OrdMap {
         entries::put(&mut self.entries, key, value)
     }
 
-    // Gives the handle of the entry with a key, which stays, and its value; or puts a value in at the
-    // key, and gives the handle and `None`.
+    // Gives the handle of the entry with a key, which stays, and its value; or puts a value in at
+    // the key, and gives the handle and `None`.
     pub(crate) fn get_or_insert(
         &mut self,
         key: u64,
