@@ -1,6 +1,5 @@
 pub mod DocumentLemmas
 mod FollowLemmas
-pub mod MoveLemmas
 pub mod PlaylistLemmas
 pub mod ReversalLemmas
 pub mod SceneLemmas

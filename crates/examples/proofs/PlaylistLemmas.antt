@@ -8,19 +8,17 @@ use Rattle.std.proofs.lemmas.Bool.Decides.{eqb_tells}
 use Rattle.triple_arena.specs.Entries.{value_if, with_entry}
 use Rattle.triple_arena_chain.specs.Walks.{ChainWalk, ChainSteps, left_over, IsEnding}
 use Rattle.triple_arena_chain.specs.WalkLaws.{left-after, left-none}
-use Rattle.examples.specs.Playlists.{length_of, length_at, IsMoved}
+use Rattle.examples.specs.Playlists.{length_of, length_at}
 use Rattle.triple_arena.specs.Content.{Content}
 use Rattle.triple_arena_chain.specs.declared.kind.InsertKind.TheVariants.{NextTo}
 use Rattle.triple_arena_chain.specs.LinkShape.{IndexLink}
 use Rattle.triple_arena_chain.specs.declared.gap.Gap.{Gap}
-use Rattle.triple_arena_chain.specs.Chains.{Ends, next_at, IsAgreed, Off, IsLinear, IsRing}
+use Rattle.triple_arena_chain.specs.Chains.{Off, IsLinear, IsRing}
 use Rattle.triple_arena_chain.specs.InsertionListLaws.{linear-put_after, ring-put_after}
-use Rattle.triple_arena_chain.specs.InsertionListLaws.{others-put_after, linear-moved}
+use Rattle.triple_arena_chain.specs.InsertionListLaws.{others-put_after}
 use Rattle.triple_arena_chain.specs.KindLaws.{put-next_to}
 use Rattle.triple_arena_chain.specs.Links.{ends_in, values_in, gap_among, IsChained, IsLinkInserted}
-use Rattle.triple_arena_chain.specs.ListLaws.{turned}
-use Rattle.triple_arena_chain.specs.Lists.{Chain, Linear, Cyclic, members, IsChainOf, IsPutIn}
-use Rattle.triple_arena_chain.specs.Lists.{IsTaken}
+use Rattle.triple_arena_chain.specs.Lists.{Chain, members, IsChainOf}
 
 module _ {I T : Type 0} (number : I → ℕ) (c d : Content (IndexLink I T)) (i g : ℕ) (t : T) where
   -- what the gap tells where there is one
@@ -74,28 +72,6 @@ module _ {P E I T : Type 0} (index generation : P → ℕ) (number : I → ℕ)
             (gap_among index generation number c (NextTo p)) (there refl) inserted
             (λ gap at. at.counter);
       }
-
--- what was taken out stands directly after `q` once it is put in there
-pub moved : (old between new : ℕ → Option Ends) (p q n : ℕ) → IsTaken p old between
-    → IsAgreed between
-    → IsPutIn (Some q, next_at between q) n between new → IsMoved p q n old new
-moved old between new p q n taken agreed put =
-    record {
-      linear = linear-moved old between new p q n taken put;
-      ring = λ before after r.
-          ring-put_after between new q n put (after ++ before)
-          (turned between before q after (taken.from_ring (before ++ q ∷ after) r));
-      left = λ before after s off. others-put_after between new q n put agreed
-          (Linear (before ++ after)) (taken.from_linear before after s) off;
-      left_ring = λ rest r off. others-put_after between new q n put agreed (Cyclic rest)
-          (taken.from_ring rest r) off;
-      reached = λ before after s off. linear-put_after between new q n put before after
-          (taken.others (Linear (before ++ q ∷ after)) s off);
-      reached_ring = λ after r off. ring-put_after between new q n put after
-          (taken.others (Cyclic (q ∷ after)) r off);
-      others = λ c chain off off'. others-put_after between new q n put agreed c
-          (taken.others c chain off) off';
-    }
 
 seen : (g v : ℕ) (o : Option (ℕ × ℕ)) → value_if g o ≡ Some v → length_of o ≡ v
 seen g v None is = absurd (let no : None ≡ Some v = is in cc)

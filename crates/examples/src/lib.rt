@@ -9,8 +9,7 @@
 //!   its names.
 //! - [`number_paragraphs`]: a document whose sections are lists of paragraphs, which get successive
 //!   numbers.
-//! - [`add_after`], [`move_after`], [`reverse_pair`], [`play_from`]: playlists, which are lists in
-//!   a chain arena.
+//! - [`add_after`], [`reverse_pair`], [`play_from`]: playlists, which are lists in a chain arena.
 //! - [`Cache`]: entries in the order of their last use, of which the one used longest ago makes
 //!   way.
 #![tactic(auto)]
@@ -26,7 +25,7 @@ mod sections;
 pub use cache::Cache;
 pub use document::tidy;
 pub use follow::{Moved, compress_and_follow, compress_with_table};
-pub use playlist::{add_after, move_after, play_from, reverse_pair};
+pub use playlist::{add_after, play_from, reverse_pair};
 pub use scene::{Node, Scene};
 pub use scheduler::{Scheduler, Task};
 pub use sections::number_paragraphs;

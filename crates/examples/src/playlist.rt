@@ -1,19 +1,17 @@
 //! Playlists: songs in the chains of an arena, of which all is said in lists of indexes.
-ghost use Rattle.std.specs.Prelude.{◌≡◌, ◌≢◌, ◌<◌, ◌≤◌, ◌↔◌, ◌%◌, ◌^◌, ℕ, List, [], ◌∷◌, ◌++◌};
+ghost use Rattle.std.specs.Prelude.{◌≡◌, ◌<◌, ◌≤◌, ◌↔◌, ◌%◌, ◌^◌, ℕ, List, [], ◌∷◌, ◌++◌};
 ghost use Rattle.std.specs.Prelude.{map as list_map, None, Some, IsSome, IfSome, IfNone, IsOk};
 ghost use Rattle.std.specs.Prelude.{IfOk, OnSome, OnErr, IsErrOf};
 ghost use Rattle.std.specs.List.{sum};
-ghost use Rattle.triple_arena_ptr.specs.Generation.{next_generation};
 ghost use Rattle.triple_arena.specs.Content.{get, live_count, arena_capacity};
-ghost use Rattle.triple_arena.specs.Entries.{with_entry, without};
-ghost use Rattle.triple_arena_chain.specs.LinkShape.{IndexLink};
+ghost use Rattle.triple_arena.specs.Entries.{with_entry};
 ghost use Rattle.triple_arena_chain.specs.Chains.{Off, next_in, IsLinear, IsRing};
 ghost use Rattle.triple_arena_chain.specs.Links.{ends_in, ends_found, values_in};
 ghost use Rattle.triple_arena_chain.specs.Lists.{Chain, members, IsChainOf};
 ghost use Rattle.triple_arena_chain.specs.Walks.{IsWalkFrom};
-ghost use Rattle.examples.specs.Playlists.{length_at, IsMoved};
+ghost use Rattle.examples.specs.Playlists.{length_at};
 
-use triple_arena::{Advancer, ArenaTrait, Ptr, PtrCore};
+use triple_arena::{Advancer, ArenaTrait, PtrCore};
 use triple_arena_chain::{
     ChainArena, ChainArenaTrait, ChainInsertionError, ChainSlots, LinkInsertKind,
 };
@@ -50,39 +48,6 @@ pub fn add_after<P: PtrCore, T: Drop, S: ChainSlots<P, T>>(
     // The interlinks agree.
     let _ = songs.len();
     songs.insert_within_capacity(LinkInsertKind::NextTo(p), song)
-}
-
-/// Moves the song at `p` to directly after the one at `q`, in whatever lists or rings they stand,
-/// and returns its new pointer. It returns `None`, and changes nothing, if one of them is invalid
-/// or they are the same song.
-pub fn move_after<P: Ptr, T: Drop, S: ChainSlots<P, T>>(
-    songs: &mut ChainArena<P, T, S>,
-    p: P,
-    q: P,
-) -> Option<P>
-    ensures variant { IsSome result ↔ (IsSome (get songs.old (P.index p) (P.generation p))
-        × IsSome (get songs.old (P.index q) (P.generation q)) × (P.index p ≢ P.index q)) }
-    ensures moved { IfSome result (λ n. IsMoved (P.index p) (P.index q) (P.index n)
-        (ends_in P.Inx.number songs.old) (ends_in P.Inx.number songs.new)) }
-    ensures songs { IfSome result (λ n. (link : IndexLink P.Inx T)
-        → get songs.old (P.index p) (P.generation p) ≡ Some link → (j : ℕ) → values_in songs.new j
-        ≡ with_entry (without (values_in songs.old) (P.index p)) (P.index n)
-        (P.generation n, link.t) j) }
-    ensures live { live_count songs.new ≡ live_count songs.old }
-    ensures counter { OnSome result
-        (songs.new.counter ≡ next_generation P.Gen.last songs.old.counter) }
-    ensures room { songs.new.room ≡ songs.old.room }
-    ensures none { IfNone result (songs.new ≡ songs.old) }
-{
-    // The interlinks agree, and no more songs are there than fit.
-    let _ = songs.len();
-    if p == q || !songs.contains(q) {
-        return None;
-    }
-    let link = songs.remove_link_no_gen(p).allow()?;
-    songs
-        .insert_within_capacity(LinkInsertKind::NextTo(q), link.t)
-        .ok()
 }
 
 /// Turns the song at `p`, which is the next of `before`, and its own next round: `before, p, q` is
