@@ -1,8 +1,9 @@
 """declarations.py REPOSITORY LIBRARY..: compares what C and Rust declare with the exports.
 
-Of each library it compares the names of the functions, their parameters and results, the statuses,
-and the fields of the structs: those of crates/LIBRARY_c with embed/include/LIBRARY.h, and with the
-`extern` block of embed/rust. It prints each difference, and fails if there is one.
+Of each library it compares the names of the functions, their parameters and results, the numbers of
+the statuses, and the fields of the structs: those of crates/LIBRARY_c with embed/include/LIBRARY.h,
+and with the declarations of embed/rust, whose statuses must have the numbers that they have in the
+headers. It prints each difference, and fails if there is one.
 """
 import os
 import re
@@ -83,8 +84,9 @@ def fields(text, head):
     return [it for it in lines if not it.startswith(('//', 'ghost'))]
 
 
-def compared_fields(library, folder, header, block):
+def compared_fields(library, repository, header, block):
     """Whether what keeps a map, and a handle, have the same fields everywhere."""
+    folder = f'{repository}/crates/{library}_c/src'
     holder = ['at: *mut u8', 'is_made: bool']
     handle = ['index: u32', 'generation: u32']
     places = [
@@ -96,6 +98,11 @@ def compared_fields(library, folder, header, block):
         places += [
             (read(f'{folder}/handle.rt'), 'pub struct Handle', handle),
             (header, f'struct {library}_handle', ['uint32_t index', 'uint32_t generation']),
+            (
+                read(f'{repository}/embed/rust/src/{library}.rs'),
+                f"pub struct {in_rust(library, 'Handle')[0]}",
+                handle,
+            ),
         ]
     for text, head, wanted in places:
         if fields(text, head) != wanted:
@@ -106,6 +113,14 @@ def statuses(library, crate, header):
     told = set(re.findall(r'result (?:≡|≢) (\d+)', crate))
     listed = set(re.findall(rf'{library.upper()}_\w+ = (\d+)', header))
     return [] if told == listed else [f'{library}: statuses {sorted(told)} and {sorted(listed)}']
+
+
+def numbers(library, header, block):
+    """The statuses that have another number in Rust than in the header."""
+    here = dict(re.findall(rf'{library.upper()}_(\w+) = (\d+)', header))
+    for name, number in re.findall(r'const (\w+): u8 = (\d+);', block):
+        if here.get(name, number) != number:
+            yield f'{library}: {name} is {here[name]} in C and {number} in Rust'
 
 
 def differences(one, other, place):
@@ -123,7 +138,8 @@ def main(repository, *libraries):
         found += differences(of_exports(library, crate, in_c), of_header(library, header), 'C')
         found += differences(of_exports(library, crate, in_rust), of_block(library, block), 'Rust')
         found += statuses(library, crate, header)
-        found += compared_fields(library, f'{repository}/crates/{library}_c/src', header, block)
+        found += numbers(library, header, block)
+        found += compared_fields(library, repository, header, block)
         print(f'{library}: {len(of_header(library, header))} declarations in C and Rust')
     for it in found:
         print(it, file=sys.stderr)

@@ -136,7 +136,8 @@ uint8_t ord_map_next(struct ord_map *map, struct ord_map_handle handle,
 uint8_t ord_map_previous(struct ord_map *map, struct ord_map_handle handle,
                          struct ord_map_handle *previous);
 
-/* Removes every entry, by one generation for all. The capacity stays. Answers OK or NO_MAP. */
+/* Removes every entry, by one generation for all, which is taken also if there is none. The
+ * capacity stays. Answers OK or NO_MAP. */
 uint8_t ord_map_clear(struct ord_map *map);
 
 /* Writes the handles, the keys and the values of the entries from that which `*from` finds on, in

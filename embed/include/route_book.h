@@ -63,8 +63,8 @@ uint8_t route_book_pack(struct route_book *book);
  * give it again, with what comes behind it. Of a long one 70 bytes are enough, since a line of more
  * than 69 is answered `bad`. No memory is taken.
  *
- * A line is carried out only if its reply has room: a list (`all`, `walk`) as much as it takes, and
- * each other line ROUTE_BOOK_LINE bytes.
+ * A line is carried out if its reply has room: a list (`all`, `walk`) as much as it takes, and each
+ * other line ROUTE_BOOK_LINE bytes. A line that is not carried out changes nothing.
  *
  * Answers OK if all such lines are carried out; behind the replies the room is as it was. Answers
  * SHORT if the next line has no room for its reply: that line is not carried out, and behind the

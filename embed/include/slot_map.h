@@ -77,7 +77,8 @@ uint8_t slot_map_set(struct slot_map *map, struct slot_map_handle handle, uint64
  * after some four thousand million the map is spent. Answers OK, NOT_FOUND or NO_MAP. */
 uint8_t slot_map_remove(struct slot_map *map, struct slot_map_handle handle, uint64_t *value);
 
-/* Removes every entry, by one generation for all. The capacity stays. Answers OK or NO_MAP. */
+/* Removes every entry, by one generation for all, which is taken also if there is none. The
+ * capacity stays. Answers OK or NO_MAP. */
 uint8_t slot_map_clear(struct slot_map *map);
 
 /* Moves the entries to the indexes from 1 on, in the order that they have, and gives each a new

@@ -4,7 +4,7 @@
 //! What a call owes: the struct is made of zeros, is never copied, and is used by one thread at a
 //! time; no two references overlap; those to arrays are not null. References of Rust are just that,
 //! and what holds one of the structs is neither `Clone` nor, since that is a raw pointer, `Send` or
-//! `Sync`.
+//! `Sync`. It may move, since no export keeps its address, and nothing uses it where it was.
 
 use crate::{OrdHandle, SlotHandle};
 use std::cell::UnsafeCell;
