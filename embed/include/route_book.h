@@ -1,5 +1,6 @@
 /* A store of places, routes of stops and marks, which answers lines of text. Its language is that
- * of the program `route_book`: `place 50 oak`, `start 1`, `walk 4`, and 15 more.
+ * of the program `route_book`, which docs/MODEL.md lists: `place 50 oak`, `start 1`, `walk 4`, and
+ * 14 more.
  *
  * A store is made of zeros: `struct route_book book = {0};`. It keeps nothing then, and each call
  * says so by ROUTE_BOOK_NO_BOOK. `route_book_new` puts a store into it, and `route_book_free` frees
