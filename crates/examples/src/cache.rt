@@ -2,6 +2,7 @@
 ghost use Rattle.std.specs.Prelude.{◌≡◌, ◌≤◌, ◌↔◌, ℕ, List, [], ◌∷◌, ◌++◌, Some, None, IsSome};
 ghost use Rattle.std.specs.Prelude.{IsTrue, IfOk, IfSome, IfNone, IfErr, OnSome, OnErr, IsOk};
 ghost use Rattle.std.specs.Prelude.{IsErrOf, option_copied};
+ghost use Rattle.triple_arena_ptr.specs.Generation.{next_generation};
 ghost use Rattle.triple_arena_stack.specs.Room.{capacity as capacity_of, IsBeyond};
 ghost use Rattle.triple_arena.specs.ArenaRoom.{room_of};
 ghost use Rattle.triple_arena.specs.Content.{get, live_count, arena_capacity};
@@ -73,6 +74,9 @@ impl<P: PtrCore, T: Drop, S: ChainSlots<P, T>> Cache<P, T, S> {
         ensures vacant { IfOk result (λ p. values_in self.old.entries (P.index p) ≡ None) }
         ensures added { IfOk result (λ p. (i : ℕ) → values_in self.new.entries i
             ≡ with_entry (values_in self.old.entries) (P.index p) (P.generation p, t) i) }
+        ensures fresh { IfOk result (λ p. P.generation p ≡ self.old.entries.counter) }
+        ensures counter { self.new.entries.counter ≡ self.old.entries.counter }
+        ensures room { self.new.entries.room ≡ self.old.entries.room }
         ensures error { IfErr result (λ e. e ≡ ChainInsertionError.NotWithinCapacity) }
         ensures full { IsErrOf result ChainInsertionError.NotWithinCapacity
             ↔ (arena_capacity self.old.entries ≤ live_count self.old.entries) }
@@ -98,6 +102,8 @@ impl<P: PtrCore, T: Drop, S: ChainSlots<P, T>> Cache<P, T, S> {
             → AreByUse P.index P.generation P.Inx.number self.new.entries self.new.latest
             (P.index p ∷ front ++ back)) }
         ensures values { (i : ℕ) → values_in self.new.entries i ≡ values_in self.old.entries i }
+        ensures counter { self.new.entries.counter ≡ self.old.entries.counter }
+        ensures room { self.new.entries.room ≡ self.old.entries.room }
         ensures cache { IsCache P.index P.generation P.Inx.number
             self.new.entries self.new.latest }
         ensures none { IfNone result (self.new ≡ self.old) }
@@ -139,6 +145,9 @@ impl<P: PtrCore, T: Drop, S: ChainSlots<P, T>> Cache<P, T, S> {
             (λ e. values_in self.old.entries (P.index e.0) ≡ Some (P.generation e.0, e.1)) }
         ensures gone { IfSome result (λ e. (i : ℕ) → values_in self.new.entries i
             ≡ without (values_in self.old.entries) (P.index e.0) i) }
+        ensures counter { OnSome result
+            (self.new.entries.counter ≡ next_generation P.Gen.last self.old.entries.counter) }
+        ensures room { self.new.entries.room ≡ self.old.entries.room }
         ensures cache { IsCache P.index P.generation P.Inx.number
             self.new.entries self.new.latest }
         ensures none { IfNone result (((i : ℕ) → values_in self.old.entries i ≡ None)

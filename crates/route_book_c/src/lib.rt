@@ -1,8 +1,8 @@
 //! A store of places, routes and marks that answers lines, for C.
 //!
 //! A holder keeps a store, or none: `kept`. `route_book_run` carries out lines of the store's
-//! language, and writes their replies into room of the caller: `Answers`. A line is carried out
-//! only if there is room for its reply: as much as a list takes, and 59 bytes for each other line.
+//! language, and writes their replies into room of the caller: `Answers`. It stops at the first
+//! line that lacks room for its reply: as much as a list takes, and 59 bytes for each other line.
 //!
 //! Each call answers a status: 0 it is done, 1 the memory was refused, 2 the rooms together are
 //! more than there are indexes, 5 the holder keeps no store, 6 it keeps one already, 7 a line had
