@@ -2,11 +2,10 @@
 use Rattle.std.proofs.Common.{◌≡◌, sym, ap, refl, ℕ, zero, suc, ◌+◌, ◌<◌, ◌≤◌, arith, List}
 use Rattle.std.proofs.Common.{[], ◌∷◌, get_or, filter, nat_lt, false, inl, inr, Option, Some, None}
 use Rattle.std.proofs.Common.{IsSome, is_some, true≢false}
+use Rattle.std.specs.Option.{option_map}
 use Rattle.std.proofs.lemmas.Bool.{lt-ltb, le-ltb}
 use Rattle.std.proofs.lemmas.Bool.Decides.{leb_tells}
 use Rattle.triple_arena.specs.Content.{Content, entry_at}
-use Rattle.triple_arena.specs.ContentLaws.{entry_seen}
-use Rattle.triple_arena.specs.Entries.{value_if}
 use Rattle.triple_arena.specs.LiveEntries.{listed_from, live_entries}
 use Rattle.triple_arena.specs.Walk.{Walk, Steps}
 use Rattle.triple_arena.specs.WalkLaws.{step_is, end_all}
@@ -93,14 +92,22 @@ module _ {T : Type 0} where
   -- a step of a rising walk over the indexes past n gives the first entry past n
   pub step_after : (c : Content T) (n i g : ℕ) (t : T) (w v : Walk) → w.falls ≡ false
       → w.low ≡ n + 1 → Steps (entry_at c) w (Some (i, g)) v
-      → value_if g (entry_at c i) ≡ Some t
+      → option_map (λ e. e.1) (entry_at c i) ≡ Some t
       → entries_after c n ≡ (i, (g, t)) ∷ entries_after c i
   step_after c n i g t w v rises low step value =
       let s = step_is (entry_at c) w v rises i g step in
-      let at = entry_seen g (entry_at c i) t value in
+      let at = both (entry_at c i) s.live value in
       let up : n < i = omega (arith, s.up, low) in
       by_index i at up (λ j less below. s.between j (omega (arith, low, less)) below)
     where
+      both : (o : Option (ℕ × T)) → option_map (λ e. e.0) o ≡ Some g
+          → option_map (λ e. e.1) o ≡ Some t → o ≡ Some (g, t)
+      both None live value = absurd (true≢false (ap is_some (sym live)))
+      both (Some (h, u)) live value =
+          let first : h ≡ g = cc in
+          let second : u ≡ t = cc in
+          rw (first, second) refl
+
       by_index : (i : ℕ) → entry_at c i ≡ Some (g, t) → n < i
           → ((j : ℕ) → n < j → j < i → entry_at c j ≡ None)
           → entries_after c n ≡ (i, (g, t)) ∷ entries_after c i

@@ -1,8 +1,9 @@
 -- What is seen of a slot map.
-use Rattle.std.specs.Prelude.{◌≡◌, ◌⊎◌, ℕ, ◌-◌, ◌^◌, ◌<◌, ◌≤◌, List, filter, nat_lt, Bool, false}
-use Rattle.std.specs.Prelude.{Option, Some, None, IfSome, IsTrue}
+use Rattle.std.specs.Prelude.{◌≡◌, ◌⊎◌, ℕ, ◌+◌, ◌-◌, ◌^◌, ◌<◌, ◌≤◌, List, filter, nat_lt, Bool}
+use Rattle.std.specs.Prelude.{false, Option, Some, None, IfSome, IsSome, IsTrue}
 use Rattle.triple_arena.specs.Content.{Content, empty, entry_at, get, IsWellFormed}
 use Rattle.triple_arena.specs.LiveEntries.{live_entries}
+use Rattle.triple_arena.specs.Walk.{Walk}
 use Rattle.slot_map_c.specs.declared.handle.Handle.{Handle}
 use Rattle.slot_map_c.specs.declared.refusal.Refusal.{Refusal}
 use Rattle.slot_map_c.specs.declared.refusal.Refusal.TheVariants.{NoMemory, Full, Spent, Short}
@@ -42,6 +43,12 @@ IsAtEnd s = IsTrue s.is_spent ⊎ (s.arena.counter ≡ greatest)
 -- the live entries at the indexes past this one, by rising index
 abbrev pub entries_after : {T : Type 0} → Content T → ℕ → List (ℕ × (ℕ × T))
 entries_after c n = filter (λ e. nat_lt n e.0) (live_entries c)
+
+-- a rising walk has all entries past this index ahead of it, and no other
+pub record GoesPast {T : Type 0} (c : Content T) (w : Walk) (n : ℕ) : Type 0 where
+  pub rises : w.falls ≡ false
+  pub low : w.low ≡ n + 1
+  pub reaches : (j : ℕ) → IsSome (entry_at c j) → j ≤ w.high
 
 -- the status that a refusal is told by
 abbrev pub status_of : Refusal → ℕ

@@ -12,13 +12,15 @@ ghost use Rattle.triple_arena.specs.Content.{inserted as inserted_in, removed as
 ghost use Rattle.triple_arena.specs.Content.{cleared as cleared_in, grown_if_full};
 ghost use Rattle.triple_arena.specs.Entries.{with_value_at};
 ghost use Rattle.triple_arena.specs.LiveEntries.{live_entries};
-ghost use Rattle.slot_map_c.specs.State.{IsPast, IsAtEnd, fresh, greatest, entries_after, pair_of};
+ghost use Rattle.slot_map_c.specs.State.{IsPast, IsAtEnd, fresh, greatest, pair_of};
+ghost use Rattle.slot_map_c.specs.State.{entries_after, GoesPast};
 
 use crate::handle::Handle;
 use crate::refusal::Refusal;
 use std::alloc::Global;
 use std::marker::Model;
 use std::num::NonZeroU32;
+use triple_arena::arena_iterators::PtrAdvancer;
 use triple_arena::{
     Advancer, ArenaInsertTrait, ArenaTrait, HeapArena, InvalidationOption, InvalidationResult, P3,
     PtrCore, ReallocationError,
@@ -42,10 +44,9 @@ impl Model for SlotMap {
     ghost invariant = { λ s. IsSound (record { arena = s.arena; is_spent = s.is_spent }) };
 }
 
-// The handle and the value of the first entry past an index.
-fn first_after(arena: &HeapArena<P3, u64, Global>, last: u32) -> Option<(Handle, u64)>
-    ensures first { IfSome result (λ e. entries_after arena.now last
-        ≡ (e.0.index, (e.0.generation, e.1)) ∷ entries_after arena.now e.0.index) }
+// A walk over the entries past an index. It is `None` if there is none.
+fn walk_past(arena: &HeapArena<P3, u64, Global>, last: u32) -> Option<PtrAdvancer<P3>>
+    ensures past { IfSome result (λ w. GoesPast arena.now w last) }
     ensures none { IfNone result (entries_after arena.now last ≡ []) }
 {
     // No index is past the capacity.
@@ -53,18 +54,32 @@ fn first_after(arena: &HeapArena<P3, u64, Global>, last: u32) -> Option<(Handle,
         return None;
     }
     let first = NonZeroU32::MIN.saturating_add(last);
-    let mut walk = arena.advancer_inx(first, false);
+    Some(arena.advancer_inx(first, false))
+}
+
+// The handle and the value of the first entry past the index `at`. The walk goes on past that, and
+// `at` is its index.
+fn step(
+    arena: &HeapArena<P3, u64, Global>,
+    walk: &mut PtrAdvancer<P3>,
+    at: &mut u32,
+) -> Option<(Handle, u64)>
+    requires { GoesPast arena.now walk.old at.old }
+    ensures first { IfSome result (λ e. entries_after arena.now at.old
+        ≡ (e.0.index, (e.0.generation, e.1)) ∷ entries_after arena.now at.new) }
+    ensures past { OnSome result (GoesPast arena.now walk.new at.new) }
+    ensures none { IfNone result (entries_after arena.now at.old ≡ []) }
+    ensures stays { IfNone result (at.new ≡ at.old) }
+{
     let Some(p) = walk.advance(arena) else {
         return None;
     };
-    let Some(value) = arena.get(p) else {
-        unreachable!()
-    };
+    *at = p.inx().get();
     let handle = Handle {
         index: p.inx().get(),
         generation: p.generation().get(),
     };
-    Some((handle, *value))
+    Some((handle, *arena.get_inx_unwrap(p.inx())))
 }
 
 impl SlotMap {
@@ -257,15 +272,6 @@ impl SlotMap {
         }
     }
 
-    // The handle and the value of the first entry past an index.
-    fn next_entry(&self, last: u32) -> Option<(Handle, u64)>
-        ensures first { IfSome result (λ e. entries_after self.now.arena last
-            ≡ (e.0.index, (e.0.generation, e.1)) ∷ entries_after self.now.arena e.0.index) }
-        ensures none { IfNone result (entries_after self.now.arena last ≡ []) }
-    {
-        first_after(&self.arena, last)
-    }
-
     // Writes the handles and the values of the entries past an index, by rising index, as many as
     // both arrays take. It gives how many were written, and the index of the last one, or the one
     // that it was given if there is none.
@@ -282,16 +288,18 @@ impl SlotMap {
         ensures rest { drop result.0 handles.new ≡ drop result.0 handles.old }
         ensures rest_of_values { drop result.0 values.new ≡ drop result.0 values.old }
     {
+        let Some(mut walk) = walk_past(&self.arena, last) else {
+            return (0, last);
+        };
         let most = handles.len().min(values.len());
         let mut count = 0;
         let mut at = last;
         'read: while count < most {
-            let Some((handle, value)) = self.next_entry(at) else {
+            let Some((handle, value)) = step(&self.arena, &mut walk, &mut at) else {
                 break;
             };
             handles[count] = handle;
             values[count] = value;
-            at = handle.index;
             count += 1;
         }
         (count, at)
@@ -306,11 +314,11 @@ impl SlotMap {
         ensures length { length handles.new ≡ length handles.old }
         ensures rest { drop result handles.new ≡ drop result handles.old }
     {
+        let mut walk = self.arena.advancer();
         let mut count = 0;
         let mut at = 0;
-        'list: while let Some((handle, _)) = self.next_entry(at) {
+        'list: while let Some((handle, _)) = step(&self.arena, &mut walk, &mut at) {
             handles[count] = handle;
-            at = handle.index;
             count += 1;
         }
         count
