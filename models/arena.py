@@ -418,8 +418,7 @@ OF_DIRECT = ['direct_insert'] * 14 + ['pop_free_end_slots'] * 2
 SELDOM = ['clear', 'compress', 'drain', 'walk_and_remove']
 POINTS = {'remove', 'invalidate', 'set', 'get', 'contains', 'swap'}
 AT_INDEX = '''
-    remove_inx get_inx get_inx_unwrap walk_from walk_back_from reallocate_min_capacity drain
-    free_links
+    remove_inx get_inx get_inx_unwrap walk_from walk_back_from reallocate_min_capacity free_links
 '''.split()
 
 
@@ -458,6 +457,9 @@ class Random:
                 words += self.pointer(arena, top)
             elif verb == 'set':
                 words.append(self.random.randrange(1000))
+        elif verb == 'drain':
+            # Each step is a line of the answer.
+            words = [min(self.index(top), 256)]
         elif verb in AT_INDEX:
             words = [self.index(top)]
         elif verb == 'swap_inx':
