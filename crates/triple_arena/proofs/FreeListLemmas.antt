@@ -272,19 +272,16 @@ module _ {T : Type 0} where
   head_within {es} {len} {i} {room} is s = (head_of es len i room (rw is at s)).slot.within
 
   -- an index of a free slot is within what the number of slots is within
-  pub place_fits : {I : Type 0} (number : I → ℕ) (o : Option I) (es : List (Slot T)) {n m : ℕ}
-      → n ≡ length es → n < m
-      → ((i : ℕ) → option_map number o ≡ Some i → IsSome (links_at es i))
-      → IfSome o (λ i. number i < m)
-  place_fits number None es count small vacant = tt
-  place_fits number (Some i) es count small vacant =
-      omega (arith, free_within es (number i) (vacant (number i) refl), count, small)
+  pub place_fits : (o : Option ℕ) (es : List (Slot T)) {n m : ℕ} → n ≡ length es → n < m
+      → ((i : ℕ) → o ≡ Some i → IsSome (links_at es i)) → IfSome o (λ i. i < m)
+  place_fits None es count small vacant = tt
+  place_fits (Some i) es count small vacant =
+      omega (arith, free_within es i (vacant i refl), count, small)
 
-  pub head_fits : {I : Type 0} (number : I → ℕ) (o : Option I) {es : List (Slot T)}
-      {len n m : ℕ} {room : Room} → n ≡ length es → n < m → IsSound es len (option_map number o) room
-      → IfSome o (λ i. number i < m)
-  head_fits number None count small sound = tt
-  head_fits number (Some i) count small sound =
+  pub head_fits : (o : Option ℕ) {es : List (Slot T)} {len n m : ℕ} {room : Room}
+      → n ≡ length es → n < m → IsSound es len o room → IfSome o (λ i. i < m)
+  head_fits None count small sound = tt
+  head_fits (Some i) count small sound =
       omega (arith, head_within refl sound, count, small)
 
   -- its slot is free, and what follows it is one of the slots

@@ -1,15 +1,10 @@
 -- The list that free slots make, over a plain function from an index to its two neighbors. It has a
 -- value if the slot is free.
 use Rattle.std.specs.Prelude.{◌≡◌, ℕ, ◌==◌, List, [], ◌∷◌, Option, Some, None, if◌then◌else◌}
-use Rattle.std.specs.Option.{option_map}
 
 -- the previous and the next index
 abbrev pub Ends : Type 0
 Ends = Option ℕ × Option ℕ
-
--- the numbers of two optional indexes
-abbrev pub numbered : {I : Type 0} → (I → ℕ) → Option I × Option I → Ends
-numbered number ends = (option_map number ends.0, option_map number ends.1)
 
 -- the first of a list, or what follows the list
 abbrev pub first_or : List ℕ → Option ℕ → Option ℕ

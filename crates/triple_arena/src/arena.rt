@@ -64,7 +64,6 @@ pub struct Arena<P: PtrCore, T: Drop, S: ArenaSlots<P, T>> {
 }
 
 impl<P: PtrCore, T: Drop, S: ArenaSlots<P, T>> Model for Arena<P, T, S> {
-    ghost use Rattle.std.specs.Option.{option_map};
     ghost use Rattle.triple_arena.specs.ArenaRoom.{room_of};
     ghost use Rattle.triple_arena.specs.Content.{Content, content_code};
     ghost use Rattle.triple_arena.specs.Layout.{content_of, IsSound};
@@ -74,10 +73,10 @@ impl<P: PtrCore, T: Drop, S: ArenaSlots<P, T>> Model for Arena<P, T, S> {
     ghost coded = { content_code T.code };
 
     ghost view = { λ a. content_of (S.items a.slots) (room_of P.Inx.greatest (S.room a.slots))
-        (P.Gen.number a.counter) (option_map P.Inx.number a.head) };
+        (P.Gen.number a.counter) a.head };
 
-    ghost invariant = { λ a. IsSound (S.items a.slots) a.len
-        (option_map P.Inx.number a.head) (room_of P.Inx.greatest (S.room a.slots)) };
+    ghost invariant = { λ a. IsSound (S.items a.slots) a.len a.head
+        (room_of P.Inx.greatest (S.room a.slots)) };
 }
 
 /// An arena in a vector, which grows without a limit of its own.

@@ -18,7 +18,7 @@ pub(crate) type FreeInx<P> = OptionalInx<
 pub(crate) fn free_at<P: PtrCore>(i: NonZeroUsize) -> FreeInx<P>
     requires fits { non_zero_usize_get i ≤ P.Inx.greatest }
     requires no_more { ⊤ }
-    ensures { option_map P.Inx.number result ≡ Some (non_zero_usize_get i) }
+    ensures { result ≡ Some (non_zero_usize_get i) }
 {
     match P::Inx::try_from_usize(i) {
         Some(i) => OptionalInx::some(i),
@@ -29,9 +29,9 @@ pub(crate) fn free_at<P: PtrCore>(i: NonZeroUsize) -> FreeInx<P>
 // The number of the index, which is a `usize`, if there is one.
 #[inline(always)]
 pub(crate) fn place_of<P: PtrCore>(i: FreeInx<P>) -> Option<NonZeroUsize>
-    requires fits { IfSome i (λ i. P.Inx.number i < 2 ^ 64) }
+    requires fits { IfSome i (λ i. i < 2 ^ 64) }
     requires no_more { ⊤ }
-    ensures { option_map non_zero_usize_get result ≡ option_map P.Inx.number i }
+    ensures { option_map non_zero_usize_get result ≡ i }
 {
     match i.get() {
         Some(i) => match i.try_into_usize() {

@@ -4,7 +4,6 @@ ghost use Rattle.std.specs.Prelude.{IsTrue, ◌↔◌, IsSome, ⊤};
 ghost use Rattle.std.specs.Borrow.{Lends, sem};
 ghost use Rattle.std.specs.Int.NonZero.{non_zero_usize_get};
 ghost use Rattle.std.specs.Option.{option_map};
-ghost use Rattle.triple_arena.specs.FreeLinks.{numbered};
 ghost use Rattle.triple_arena.specs.Slot.{Slot, entry_of, free, used, value_of, links_of};
 ghost use Rattle.triple_arena.specs.Slot.{index_up_to, free_links as free_links_of, with_links};
 ghost use Rattle.triple_arena.specs.Slot.{with_prev, with_next, with_slot_value};
@@ -95,18 +94,17 @@ pub(crate) trait EntrySlot<P: PtrCore, T> {
 }
 
 impl<P: PtrCore, T> Model for ArenaSlot<P, T> {
-    ghost use Rattle.std.specs.Option.{option_map};
     ghost use Rattle.triple_arena.specs.Slot.{Slot};
     ghost use Rattle.triple_arena.specs.SlotState.{slot_of};
 
     ghost Value = { Slot T };
 
-    ghost view = { λ s. slot_of (option_map P.Inx.number) P.Gen.number s.state };
+    ghost view = { λ s. slot_of P.Gen.number s.state };
 }
 
 impl<P: PtrCore, T> ArenaSlot<P, T> {
     pub(crate) fn free(prev: FreeInx<P>, next: FreeInx<P>) -> Self
-        ensures { result ≡ free (option_map P.Inx.number prev) (option_map P.Inx.number next) }
+        ensures { result ≡ free prev next }
     {
         ArenaSlot {
             state: SlotState::Free(FreeMark::new(), next, prev),
@@ -165,7 +163,7 @@ impl<P: PtrCore, T> ArenaSlot<P, T> {
 
     // The links, if the slot is free.
     pub(crate) fn links(&self) -> Option<(FreeInx<P>, FreeInx<P>)>
-        ensures { option_map (numbered P.Inx.number) result ≡ links_of self.now }
+        ensures { result ≡ links_of self.now }
     {
         match &self.state {
             SlotState::Used(_, _) => None,
@@ -188,7 +186,7 @@ impl<P: PtrCore, T> ArenaSlot<P, T> {
 
     // Links a free slot to the next one, with none before it, and says whether the slot is free.
     pub(crate) fn relink(&mut self, next: FreeInx<P>) -> bool
-        ensures value { self.new ≡ with_links self.old None (option_map P.Inx.number next) }
+        ensures value { self.new ≡ with_links self.old None next }
         ensures free { IsTrue result ↔ (value_of self.old ≡ None) }
     {
         match &mut self.state {
@@ -205,7 +203,7 @@ impl<P: PtrCore, T> ArenaSlot<P, T> {
     pub(crate) fn set_prev(&mut self, prev: FreeInx<P>)
         requires free { IsSome (links_of self.old) }
         requires no_more { ⊤ }
-        ensures { self.new ≡ with_prev self.old (option_map P.Inx.number prev) }
+        ensures { self.new ≡ with_prev self.old prev }
     {
         match &mut self.state {
             SlotState::Used(_, _) => unreached!(),
@@ -217,7 +215,7 @@ impl<P: PtrCore, T> ArenaSlot<P, T> {
     pub(crate) fn set_next(&mut self, next: FreeInx<P>)
         requires free { IsSome (links_of self.old) }
         requires no_more { ⊤ }
-        ensures { self.new ≡ with_next self.old (option_map P.Inx.number next) }
+        ensures { self.new ≡ with_next self.old next }
     {
         match &mut self.state {
             SlotState::Used(_, _) => unreached!(),
@@ -231,7 +229,7 @@ impl<P: PtrCore, T> ArenaSlot<P, T> {
         T: Drop,
         requires free { IsSome (links_of self) }
         requires no_more { ⊤ }
-        ensures { option_map (λ l. l.1) (links_of self) ≡ Some (option_map P.Inx.number result) }
+        ensures { option_map (λ l. l.1) (links_of self) ≡ Some result }
     {
         let ArenaSlot { state } = self;
         match state {
@@ -256,8 +254,7 @@ impl<P: PtrCore, T> ArenaSlot<P, T> {
 
 // The index, which is at most the greatest one of the pointer type.
 fn index_of<P: PtrCore>(i: FreeInx<P>) -> Option<P::Inx>
-    ensures { option_map P.Inx.number result
-        ≡ index_up_to P.Inx.greatest (option_map P.Inx.number i) }
+    ensures { option_map P.Inx.number result ≡ index_up_to P.Inx.greatest i }
 {
     match i.get() {
         Some(i) => {

@@ -168,7 +168,7 @@ fn link_free<P: PtrCore, T: Drop, S: ArenaSlots<P, T>>(slots: &mut S, live: usiz
     requires fits { length (S.items slots.old) ≤ P.Inx.greatest }
     ensures entries { list_map entry_of (S.items slots.new)
         ≡ list_map entry_of (S.items slots.old) }
-    ensures listed { IsFreeList (S.items slots.new) (option_map P.Inx.number result)
+    ensures listed { IsFreeList (S.items slots.new) result
         (vacant_from 1 (list_map entry_of (S.items slots.old))) }
     ensures room { S.room slots.new ≡ S.room slots.old }
 {
