@@ -19,10 +19,10 @@ impl<P: PtrCore, T: Drop, S: ChainSlots<P, T>> ChainArena<P, T, S> {
         ensures value { Some (P.Gen.number result.0.0, result.0.1)
             ≡ entry_at self.old (P.Inx.number i) }
         ensures overflow { result.1 ≡ next_wraps P.Gen.last self.old.counter }
-        ensures taken { IsTakenOut P.Inx.number P.Gen.last (P.Inx.number i) self.old self.new }
+        ensures taken { IsTakenOut P.Gen.last (P.Inx.number i) self.old self.new }
         ensures exact { self.new ≡ removed P.Gen.last
-            (bridged_over P.Inx.number self.old result.0.1) (P.Inx.number i) }
-        ensures formed { IsChained P.Inx.number self.new }
+            (bridged_over self.old result.0.1) (P.Inx.number i) }
+        ensures formed { IsChained self.new }
     {
         let (before, after) = self.arena.get_inx_unwrap(i).prev_next();
         follow(&mut self.arena, before, after);

@@ -36,10 +36,9 @@ impl<'a, P: PtrCore, T: Drop, S: ChainSlots<P, T>> ArenaInsertEntryTrait<P, T>
         requires { IsReady P.Inx.number P.index P.generation self }
 
         // `self.exit.0.now` are the links as they are left.
-        ensures inserted { IsLinkInserted P.Inx.number (entry_gap P.Inx.number self.entry)
-            (P.index result)
+        ensures inserted { IsLinkInserted (entry_gap P.Inx.number self.entry) (P.index result)
             (P.generation result) t (entry_chains self.entry) self.exit.0.now }
-        ensures formed { IsChained P.Inx.number self.exit.0.now }
+        ensures formed { IsChained self.exit.0.now }
         ensures room { self.exit.0.now.room ≡ (entry_chains self.entry).room }
     {
         let ChainArenaInsertEntry {
