@@ -63,20 +63,20 @@ no_walk : (t : Tree) → root_of t ≡ None → walk t ≡ []
 no_walk leaf e = refl
 no_walk (node l i k r) e = absurd (cc)
 
-pub knot_lives : {I T : Type 0} (number : I → ℕ) (o : Ordered I T) (i : ℕ)
-    → IsSome (entry_in o i) → IsSome (knots_in number o.chains i)
-knot_lives number o i some = item-some number (values_in o.chains i) some
+pub knot_lives : {T : Type 0} (o : Ordered T) (i : ℕ)
+    → IsSome (entry_in o i) → IsSome (knots_in o.chains i)
+knot_lives o i some = item-some (values_in o.chains i) some
 
-module _ {I T : Type 0} (number : I → ℕ) (o : Ordered I T) (is : IsOrdered number o) where
+module _ {T : Type 0} (o : Ordered T) (is : IsOrdered o) where
   -- the next index of one that lives does too
   pub next_lives : (i : ℕ) → IsSome (entry_in o i) → (j : ℕ)
-      → next_at (ends_in number o.chains) i ≡ Some j → IsSome (entry_in o j)
+      → next_at (ends_in o.chains) i ≡ Some j → IsSome (entry_in o j)
   next_lives i some j next =
-      let on = stands number o is i some in
-      let ends = linear_ends (ends_in number o.chains) on.front i on.back
-      (subst (IsLinear (ends_in number o.chains)) on.is is.linear) in
+      let on = stands o is i some in
+      let ends = linear_ends (ends_in o.chains) on.front i on.back
+      (subst (IsLinear (ends_in o.chains)) on.is is.linear) in
       let first : first_or on.back None ≡ Some j = sym (ap next_in ends) ∙ next in
-      on_lives number o is j (subst (λ w. On w j) (sym on.is)
+      on_lives o is j (subst (λ w. On w j) (sym on.is)
       (On-back on.front (i ∷ on.back) j (behind on.back first)))
     where
       behind : (back : List ℕ) → first_or back None ≡ Some j → On (i ∷ back) j
@@ -85,8 +85,8 @@ module _ {I T : Type 0} (number : I → ℕ) (o : Ordered I T) (is : IsOrdered n
           let same : x ≡ j = cc in
           subst (On (i ∷ x ∷ back)) same (On-back (i ∷ []) (x ∷ back) x (On-first x back))
 
-module _ {I K T : Type 0} (number : I → ℕ) (cmp : K → K → Ordering) (key : T → K) (k : K)
-    (past : Bool) (o : Ordered I T) (is : IsOrdered number o) where
+module _ {K T : Type 0} (cmp : K → K → Ordering) (key : T → K) (k : K)
+    (past : Bool) (o : Ordered T) (is : IsOrdered o) where
   abbrev way : ℕ → Ordering
   way = asked_at (compares_past past cmp) key k o
 
@@ -101,16 +101,16 @@ module _ {I K T : Type 0} (number : I → ℕ) (cmp : K → K → Ordering) (key
       by None at some = absurd (cc)
       by (Some e) at some = rw at refl
 
-  parted : IsTotalOrder cmp → IsAscending number cmp key o → IsParted way (order_in number o)
+  parted : IsTotalOrder cmp → IsAscending cmp key o → IsParted way (order_in o)
   parted total ascending =
       parted_map (asked_at cmp key k o) way (λ i. IsSome (entry_in o i))
       (λ x y lx ly b. subst (λ d. Before d (way y)) (sym (live_way x lx))
       (subst (λ d. Before (way_past past (asked_at cmp key k o x)) d) (sym (live_way y ly))
       (before_past past _ _ b)))
-      (order_in number o)
-      (counted-all (λ i. IsSome (entry_in o i)) (tree_in number o)
-      (λ j h. counted_entry number o is j h))
-      (parts_at number cmp key k total o is ascending)
+      (order_in o)
+      (counted-all (λ i. IsSome (entry_in o i)) (tree_in o)
+      (λ j h. counted_entry o is j h))
+      (parts_at cmp key k total o is ascending)
 
   to_low : (w : List ℕ) → AllIn (λ y. way y ≡ Greater) w
       → AllByRecursion (λ e. ComesBefore e.1.1) (entries_at o w)
@@ -140,7 +140,7 @@ module _ {I K T : Type 0} (number : I → ℕ) (cmp : K → K → Ordering) (key
 
   module _ {P : Type 0} (index generation : P → ℕ) where
     abbrev Bound : Option P → Type 0
-    Bound result = IsBound number index generation ComesBefore result o
+    Bound result = IsBound index generation ComesBefore result o
 
     abbrev pointed : Option P → Option (ℕ × ℕ)
     pointed result = option_map {U = ℕ × ℕ} (λ p. (index p, generation p)) result
@@ -166,7 +166,7 @@ module _ {I K T : Type 0} (number : I → ℕ) (cmp : K → K → Ordering) (key
             ∙ ap (λ n. (let z : Option (ℕ × ℕ) = Some (x, n) in z)) (sym own)
             ∙ sym (rw at refl)
 
-    bound_cut : (result : Option P) (low high : List ℕ) → order_in number o ≡ low ++ high
+    bound_cut : (result : Option P) (low high : List ℕ) → order_in o ≡ low ++ high
         → AllIn (λ y. way y ≡ Greater) low → AllIn (λ y. way y ≡ Less) high
         → pointed result ≡ first_entry (entries_at o high) → Bound result
     bound_cut result low high cut below above first = record {
@@ -179,13 +179,13 @@ module _ {I K T : Type 0} (number : I → ℕ) (cmp : K → K → Ordering) (key
     }
 
     -- a search that ended at none
-    pub bound_none : IsAnswer way (tree_in number o) None → Bound None
+    pub bound_none : IsAnswer way (tree_in o) None → Bound None
     bound_none answer =
-        bound_cut None [] [] (no_walk (tree_in number o) (answer.empty refl)) tt tt refl
+        bound_cut None [] [] (no_walk (tree_in o) (answer.empty refl)) tt tt refl
 
     -- one that ended before an entry
-    pub bound_here : IsTotalOrder cmp → IsAscending number cmp key o → (i : ℕ)
-        → IsAnswer way (tree_in number o) (Some (i, Less)) → (p : P) → index p ≡ i
+    pub bound_here : IsTotalOrder cmp → IsAscending cmp key o → (i : ℕ)
+        → IsAnswer way (tree_in o) (Some (i, Less)) → (p : P) → index p ≡ i
         → generation_at (entry_in o) (index p) ≡ Some (generation p) → Bound (Some p)
     bound_here total ascending i answer p same live =
         let parts = parted total ascending in
@@ -200,17 +200,17 @@ module _ {I K T : Type 0} (number : I → ℕ) (cmp : K → K → Ordering) (key
         (first_at i places.after p same live)
 
     -- one that ended behind an entry
-    pub bound_behind : IsTotalOrder cmp → IsAscending number cmp key o → (i : ℕ)
-        → IsAnswer way (tree_in number o) (Some (i, Greater)) → (result : Option P)
-        → option_map index result ≡ next_at (ends_in number o.chains) i
+    pub bound_behind : IsTotalOrder cmp → IsAscending cmp key o → (i : ℕ)
+        → IsAnswer way (tree_in o) (Some (i, Greater)) → (result : Option P)
+        → option_map index result ≡ next_at (ends_in o.chains) i
         → IfSome result (λ p. generation_at (entry_in o) (index p) ≡ Some (generation p))
         → Bound result
     bound_behind total ascending i answer result next live =
         let parts = parted total ascending in
         let places = answer.parted i Greater refl parts in
         let here : way i ≡ Greater = answer.asked i Greater refl in
-        let ends = linear_ends (ends_in number o.chains) places.before i places.after
-        (subst (IsLinear (ends_in number o.chains)) places.is is.linear) in
+        let ends = linear_ends (ends_in o.chains) places.before i places.after
+        (subst (IsLinear (ends_in o.chains)) places.is is.linear) in
         bound_cut result (places.before ++ i ∷ []) places.after
         (places.is ∙ sym (append_assoc places.before (i ∷ []) places.after))
         (AllIn-append (λ y. way y ≡ Greater) places.before (i ∷ [])
@@ -233,17 +233,17 @@ module _ {I K T : Type 0} (number : I → ℕ) (cmp : K → K → Ordering) (key
 
     -- it never ends at an entry that it found
     pub bound_never : (i : ℕ) → IsSome (entry_in o i)
-        → IsAnswer way (tree_in number o) (Some (i, Equal)) → ⊥
+        → IsAnswer way (tree_in o) (Some (i, Equal)) → ⊥
     bound_never i some answer =
         never_equal past (asked_at cmp key k o i)
         (sym (live_way i some) ∙ answer.asked i Equal refl)
 
 -- a bound by another name
-pub bound_told : {I T P : Type 0} (number : I → ℕ) (index generation : P → ℕ)
-    (A B : T → Type 0) (result : Option P) (o : Ordered I T) → ((t : T) → A t → B t)
-    → ((t : T) → B t → A t) → IsBound number index generation A result o
-    → IsBound number index generation B result o
-bound_told {T = T} number index generation A B result o to from bound = record {
+pub bound_told : {T P : Type 0} (index generation : P → ℕ)
+    (A B : T → Type 0) (result : Option P) (o : Ordered T) → ((t : T) → A t → B t)
+    → ((t : T) → B t → A t) → IsBound index generation A result o
+    → IsBound index generation B result o
+bound_told {T = T} index generation A B result o to from bound = record {
   low = bound.low;
   high = bound.high;
   is = bound.is;

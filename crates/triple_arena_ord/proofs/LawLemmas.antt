@@ -27,12 +27,12 @@ equal_to_itself cmp total k = by (cmp k k) (total.antisymm k k)
     by Equal e = cc
     by Greater e = absurd (cc)
 
-module _ {I T : Type 0} (number : I → ℕ) where
-  pub stands : (o : Ordered I T) → IsOrdered number o → (i : ℕ) → IsSome (entry_in o i)
-      → On (order_in number o) i
+module _ {T : Type 0} where
+  pub stands : (o : Ordered T) → IsOrdered o → (i : ℕ) → IsSome (entry_in o i)
+      → On (order_in o) i
   stands o is i live =
-      let found : Located (tree_in number o) i =
-      located top (tree_in number o) i (entry_counted number o is i live) in
+      let found : Located (tree_in o) i =
+      located top (tree_in o) i (entry_counted o is i live) in
       let c = found.context in
       record {
         front = before c ++ walk found.left;
@@ -44,22 +44,22 @@ module _ {I T : Type 0} (number : I → ℕ) where
       }
 
   module _ {K : Type 0} (cmp : K → K → Ordering) (key : T → K) (total : IsTotalOrder cmp) where
-    asked_here : (o : Ordered I T) (i : ℕ) (entry : ℕ × T) → entry_in o i ≡ Some entry
+    asked_here : (o : Ordered T) (i : ℕ) (entry : ℕ × T) → entry_in o i ≡ Some entry
         → asked_at cmp key (key entry.1) o i ≡ Equal
     asked_here o i entry at = ap (asked_of cmp key (key entry.1)) at
         ∙ equal_to_itself cmp total (key entry.1)
 
-    parted : (o : Ordered I T) → IsOrdered number o → IsAscending number cmp key o
+    parted : (o : Ordered T) → IsOrdered o → IsAscending cmp key o
         → (front back : List ℕ) (i : ℕ) (entry : ℕ × T)
-        → order_in number o ≡ front ++ i ∷ back
+        → order_in o ≡ front ++ i ∷ back
         → IsParted (asked_at cmp key (key entry.1) o) (front ++ i ∷ back)
     parted o ordered ascending front back i entry is =
         subst (IsParted (asked_at cmp key (key entry.1) o)) is
-        (parts_at number cmp key (key entry.1) total o ordered ascending)
+        (parts_at cmp key (key entry.1) total o ordered ascending)
 
-    pub not_greater_before : (o : Ordered I T) → IsOrdered number o → IsAscending number cmp key o
+    pub not_greater_before : (o : Ordered T) → IsOrdered o → IsAscending cmp key o
         → (front back : List ℕ) (i : ℕ) (entry : ℕ × T)
-        → order_in number o ≡ front ++ i ∷ back → entry_in o i ≡ Some entry
+        → order_in o ≡ front ++ i ∷ back → entry_in o i ≡ Some entry
         → AllIn (λ j. asked_at cmp key (key entry.1) o j ≢ Less) front
     not_greater_before o ordered ascending front back i entry is at =
         let f = asked_at cmp key (key entry.1) o in
@@ -69,9 +69,9 @@ module _ {I T : Type 0} (number : I → ℕ) where
         ∙ e in absurd (cc))
         front (parted-before f front i back (parted o ordered ascending front back i entry is))
 
-    pub not_less_after : (o : Ordered I T) → IsOrdered number o → IsAscending number cmp key o
+    pub not_less_after : (o : Ordered T) → IsOrdered o → IsAscending cmp key o
         → (front back : List ℕ) (i : ℕ) (entry : ℕ × T)
-        → order_in number o ≡ front ++ i ∷ back → entry_in o i ≡ Some entry
+        → order_in o ≡ front ++ i ∷ back → entry_in o i ≡ Some entry
         → AllIn (λ j. asked_at cmp key (key entry.1) o j ≢ Greater) back
     not_less_after o ordered ascending front back i entry is at =
         let f = asked_at cmp key (key entry.1) o in

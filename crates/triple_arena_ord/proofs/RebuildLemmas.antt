@@ -162,14 +162,14 @@ root_lives k w root n m b i is = by b.tree b.represents (sym b.root_is ∙ is)
     by (node l x rank rr) r at = let same : x ≡ i = cc in
         subst (λ y. IsSome (m y)) same (ap is_some r.0)
 
-module _ {I T : Type 0} (number : I → ℕ) where
-  pub live_knot : (c : Content (IndexLink I (IndexNode I T))) (k : ℕ) → IsSome (ends_in number c k)
-      → IsSome (knots_in number c k)
+module _ {T : Type 0} where
+  pub live_knot : (c : Content (IndexLink (IndexNode T))) (k : ℕ) → IsSome (ends_in c k)
+      → IsSome (knots_in c k)
   live_knot c k some = by (entry_at c k) some
     where
-      by : (o : Option (ℕ × IndexLink I (IndexNode I T)))
-          → IsSome (option_map (entry_ends number) o)
-          → IsSome (option_map (λ e. knot_of number e.1) (option_map valued o))
+      by : (o : Option (ℕ × IndexLink (IndexNode T)))
+          → IsSome (option_map entry_ends o)
+          → IsSome (option_map (λ e. knot_of e.1) (option_map valued o))
       by None h = absurd (true≢false (sym h))
       by (Some e) h = refl
 
@@ -229,21 +229,21 @@ pub lives_if : {I : Type 0} (number : I → ℕ) (o : Option I) (m : Store)
 lives_if number None m each = tt
 lives_if number (Some x) m each = each (number x) refl
 
-module _ {I T : Type 0} (number : I → ℕ) where
+module _ {T : Type 0} where
   -- the right part, after the left one was written
-  pub right_ahead : (old mid : Content (IndexLink I (IndexNode I T))) (cursor next : Option ℕ)
+  pub right_ahead : (old mid : Content (IndexLink (IndexNode T))) (cursor next : Option ℕ)
       (m i : ℕ) (w : List ℕ) (after : Option ℕ)
-      → rest mid ≡ rest old → (p : Parts (ends_in number old) cursor m w after) → i ≡ p.i
-      → next ≡ next_at (ends_in number mid) i
-      → (b : IsAhead (ends_in number mid) next (m - m / 2 - 1) p.u) × (b.after ≡ after)
+      → rest mid ≡ rest old → (p : Parts (ends_in old) cursor m w after) → i ≡ p.i
+      → next ≡ next_at (ends_in mid) i
+      → (b : IsAhead (ends_in mid) next (m - m / 2 - 1) p.u) × (b.after ≡ after)
   right_ahead old mid cursor next m i w after keeps p is goes =
-      let r = rested number old mid keeps in
-      let from : next_at (ends_in number old) p.i ≡ next = ap next_in (sym (r.ends p.i))
-      ∙ ap (next_at (ends_in number mid)) (sym is) ∙ sym goes in (
+      let r = rested old mid keeps in
+      let from : next_at (ends_in old) p.i ≡ next = ap next_in (sym (r.ends p.i))
+      ∙ ap (next_at (ends_in mid)) (sym is) ∙ sym goes in (
         record {
           before = p.right.before;
           after = p.right.after;
-          stands = Stands-where (ends_in number old) (ends_in number mid) p.right.before
+          stands = Stands-where (ends_in old) (ends_in mid) p.right.before
               p.right.after p.u (λ k on. r.ends k) p.right.stands;
           first = sym from ∙ p.right.first;
           apart = p.right.apart;
@@ -252,9 +252,9 @@ module _ {I T : Type 0} (number : I → ℕ) where
         p.right_after,
       )
 
-  pub stays_there : (old new : Content (IndexLink I (IndexNode I T))) (k : ℕ) → rest new ≡ rest old
-      → IsSome (knots_in number old k) → IsSome (knots_in number new k)
-  stays_there old new k keeps some = (rested number old new keeps).stays k some
+  pub stays_there : (old new : Content (IndexLink (IndexNode T))) (k : ℕ) → rest new ≡ rest old
+      → IsSome (knots_in old k) → IsSome (knots_in new k)
+  stays_there old new k keeps some = (rested old new keeps).stays k some
 
 module _ where
   abbrev pub most : ℕ

@@ -40,29 +40,29 @@ module _ (n m : Store) (same : (k : ℕ) → n k ≡ m k) where
   pub tree_same : (root : Option ℕ) → tree_of n root ≡ tree_of m root
   tree_same root = rw (fuel_same root) (read_same (rank_or_link m root) root)
 
-module _ {I T : Type 0} (number : I → ℕ) where
+module _ {T : Type 0} where
   -- the list is the same, and as it must be
-  pub record Reordered (o p : Ordered I T) : Type 0 where
-    pub ordered : IsOrdered number p
-    pub order : order_in number p ≡ order_in number o
-    pub tree : tree_in number p ≡ tree_in number o
+  pub record Reordered (o p : Ordered T) : Type 0 where
+    pub ordered : IsOrdered p
+    pub order : order_in p ≡ order_in o
+    pub tree : tree_in p ≡ tree_in o
 
-  pub same_list : (o p : Ordered I T) → p.root ≡ o.root
-      → ((k : ℕ) → knots_in number p.chains k ≡ knots_in number o.chains k)
-      → ((k : ℕ) → ends_in number p.chains k ≡ ends_in number o.chains k)
+  pub same_list : (o p : Ordered T) → p.root ≡ o.root
+      → ((k : ℕ) → knots_in p.chains k ≡ knots_in o.chains k)
+      → ((k : ℕ) → ends_in p.chains k ≡ ends_in o.chains k)
       → live_count p.chains ≡ live_count o.chains
-      → IsOrdered number o → Reordered o p
+      → IsOrdered o → Reordered o p
   same_list o p root knots ends live is =
-      let n = knots_in number p.chains in
-      let tree = tree_in number o in
+      let n = knots_in p.chains in
+      let tree = tree_in o in
       let stands : Stands n p.root tree = (
         root ∙ is.whole.stands.0,
-        Represents-keep (knots_in number o.chains) n None tree (λ j c. knots j) is.whole.stands.1,
+        Represents-keep (knots_in o.chains) n None tree (λ j c. knots j) is.whole.stands.1,
       ) in
-      let same : tree_in number p ≡ tree = tree_is n p.root tree stands is.whole.ranked in
-      let order : order_in number p ≡ order_in number o = ap walk same in
-      let linear = chain_where (ends_in number o.chains) (ends_in number p.chains)
-      (Linear (order_in number o)) (λ i on. ends i) is.linear in
+      let same : tree_in p ≡ tree = tree_is n p.root tree stands is.whole.ranked in
+      let order : order_in p ≡ order_in o = ap walk same in
+      let linear = chain_where (ends_in o.chains) (ends_in p.chains)
+      (Linear (order_in o)) (λ i on. ends i) is.linear in
       record {
         ordered = record {
           whole = record {
@@ -70,7 +70,7 @@ module _ {I T : Type 0} (number : I → ℕ) where
             distinct = subst IsDistinct (sym same) is.whole.distinct;
             ranked = subst IsRanked (sym same) is.whole.ranked;
           };
-          linear = subst (IsLinear (ends_in number p.chains)) (sym order) linear;
+          linear = subst (IsLinear (ends_in p.chains)) (sym order) linear;
           all = λ i lives. subst (λ t. 0 < count i t) (sym same)
               (is.all i (subst IsSome (knots i) lives));
           counted = ap length order ∙ is.counted ∙ sym live;

@@ -38,9 +38,9 @@ where
     P: PtrCore,
     T: SimpleOrdItem + Drop,
     A: Links<P, T>,
-    requires { (w : List ℕ) × IsLinear (ends_in P.Inx.number (A.links arena.now)) w
+    requires { (w : List ℕ) × IsLinear (ends_in (A.links arena.now)) w
         × (first_or w None ≡ Some (P.Inx.number first)) × (length w ≤ most) }
-    ensures { (w : List ℕ) → IsLinear (ends_in P.Inx.number (A.links arena.now)) w
+    ensures { (w : List ℕ) → IsLinear (ends_in (A.links arena.now)) w
         → first_or w None ≡ Some (P.Inx.number first)
         → length w ≤ most → IsTrue result
         ↔ AscendsAlong T.Key.cmp T.key_of (items_in (A.links arena.now)) w }

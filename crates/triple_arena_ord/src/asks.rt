@@ -26,17 +26,14 @@ where
     T: Drop,
     A: ArenaTrait<P, SimpleOrdArenaNode<P, T>>,
     F: FnMut(P, &T) -> Ordering,
-    requires whole { IsWhole (knots_among P.Inx.number (A.entry_at arena.now))
-        (option_map P.Inx.number root) }
+    requires whole { IsWhole (knots_among (A.entry_at arena.now)) (option_map P.Inx.number root) }
     requires callable { F.IsAlwaysCallable f.old }
     ensures asked { (asked : IsAsked P.index P.generation F.step
         (items_among (A.entry_at arena.now))
-        (walk (tree_of (knots_among P.Inx.number (A.entry_at arena.now))
-        (option_map P.Inx.number root)))
+        (walk (tree_of (knots_among (A.entry_at arena.now)) (option_map P.Inx.number root)))
         f.old result probes.old probes.new) × (asked.last ≡ f.new) }
     ensures bound { probes.new ≤ probes.old
-        + rank_of (tree_of (knots_among P.Inx.number (A.entry_at arena.now))
-        (option_map P.Inx.number root)) }
+        + rank_of (tree_of (knots_among (A.entry_at arena.now)) (option_map P.Inx.number root)) }
 {
     let mut link = OptionalInx::of(root);
     let mut place = None;

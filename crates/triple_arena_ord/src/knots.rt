@@ -12,9 +12,9 @@ impl<P: PtrCore, T: Drop, S: OrdSlots<P, T>> Knots<SimpleOrdArenaNode<P, T>, P>
     ghost use Rattle.triple_arena_chain.specs.LinkShape.{IndexLink};
     ghost use Rattle.triple_arena_ord.specs.Node.{knots_in, rest};
 
-    ghost knots = { knots_in P.Inx.number };
+    ghost knots = { knots_in };
 
-    ghost Rest = { Content (IndexLink P.Inx T) };
+    ghost Rest = { Content (IndexLink T) };
 
     ghost rest = { rest };
 

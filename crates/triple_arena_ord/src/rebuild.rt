@@ -39,8 +39,7 @@ fn next_of<P: PtrCore, T: Drop, S: OrdSlots<P, T>>(
     chains: &ChainArena<P, SimpleOrdArenaNode<P, T>, S>,
     i: P::Inx,
 ) -> Option<P::Inx>
-    ensures { option_map P.Inx.number result ≡ next_at (ends_in P.Inx.number chains.now)
-        (P.Inx.number i) }
+    ensures { option_map P.Inx.number result ≡ next_at (ends_in chains.now) (P.Inx.number i) }
 {
     match chains.get_inx_link_no_gen(i) {
         Some((_, link)) => link.next(),
@@ -57,14 +56,13 @@ fn build<P: PtrCore, T: Drop, S: OrdSlots<P, T>>(
     top: u8,
 ) -> Option<P::Inx>
     requires { (w : List ℕ)
-        × IsAhead (ends_in P.Inx.number chains.old) (option_map P.Inx.number cursor.old) count w }
+        × IsAhead (ends_in chains.old) (option_map P.Inx.number cursor.old) count w }
     ensures built { (w : List ℕ)
-        → IsAhead (ends_in P.Inx.number chains.old) (option_map P.Inx.number cursor.old) count w
-        → IsBuilt top w (option_map P.Inx.number result) (knots_in P.Inx.number chains.old)
-        (knots_in P.Inx.number chains.new) }
+        → IsAhead (ends_in chains.old) (option_map P.Inx.number cursor.old) count w
+        → IsBuilt top w (option_map P.Inx.number result) (knots_in chains.old)
+        (knots_in chains.new) }
     ensures goes_on { (w : List ℕ)
-        → (a : IsAhead (ends_in P.Inx.number chains.old)
-        (option_map P.Inx.number cursor.old) count w)
+        → (a : IsAhead (ends_in chains.old) (option_map P.Inx.number cursor.old) count w)
         → option_map P.Inx.number cursor.new ≡ a.after }
     ensures keeps { rest chains.new ≡ rest chains.old }
 {
@@ -97,13 +95,13 @@ pub(crate) fn rebuild<P: PtrCore, T: Drop, S: OrdSlots<P, T>>(
     chains: &mut ChainArena<P, SimpleOrdArenaNode<P, T>, S>,
     first: Option<P::Inx>,
 ) -> Option<P::Inx>
-    requires { (w : List ℕ) × IsLinear (ends_in P.Inx.number chains.old) w
+    requires { (w : List ℕ) × IsLinear (ends_in chains.old) w
         × (length w ≡ live_count chains.old)
         × (option_map P.Inx.number first ≡ first_or w None) }
-    ensures rebuilt { (w : List ℕ) → IsLinear (ends_in P.Inx.number chains.old) w
+    ensures rebuilt { (w : List ℕ) → IsLinear (ends_in chains.old) w
         → length w ≡ live_count chains.old
         → option_map P.Inx.number first ≡ first_or w None
-        → IsRebuilt w (option_map P.Inx.number result) (knots_in P.Inx.number chains.new) }
+        → IsRebuilt w (option_map P.Inx.number result) (knots_in chains.new) }
     ensures keeps { rest chains.new ≡ rest chains.old }
 {
     let count = chains.len();

@@ -56,10 +56,9 @@ fn build_run<P: PtrCore, T: Drop, S: OrdSlots<P, T>>(
 )
     requires some { 1 ≤ count }
     requires within { before + count ≤ max_index_of P.Inx.greatest }
-    requires live { (k : ℕ) → before < k → k ≤ before + count
-        → IsSome (knots_in P.Inx.number chains.old k) }
+    requires live { (k : ℕ) → before < k → k ≤ before + count → IsSome (knots_in chains.old k) }
     ensures built { IsRunBuilt top (option_map P.Inx.number parent) before count
-        (knots_in P.Inx.number chains.old) (knots_in P.Inx.number chains.new) }
+        (knots_in chains.old) (knots_in chains.new) }
     ensures keeps { rest chains.new ≡ rest chains.old }
 {
     let half = count / 2;
@@ -89,11 +88,10 @@ fn build_run<P: PtrCore, T: Drop, S: OrdSlots<P, T>>(
 pub(crate) fn rebuild_run<P: PtrCore, T: Drop, S: OrdSlots<P, T>>(
     chains: &mut ChainArena<P, SimpleOrdArenaNode<P, T>, S>,
 ) -> Option<P::Inx>
-    requires linear { IsLinear (ends_in P.Inx.number chains.old)
-        (range_with_len 1 (live_count chains.old)) }
+    requires linear { IsLinear (ends_in chains.old) (range_with_len 1 (live_count chains.old)) }
     requires no_more { ⊤ }
     ensures rebuilt { IsRebuilt (range_with_len 1 (live_count chains.old))
-        (option_map P.Inx.number result) (knots_in P.Inx.number chains.new) }
+        (option_map P.Inx.number result) (knots_in chains.new) }
     ensures keeps { rest chains.new ≡ rest chains.old }
 {
     // So many indexes are the pointers'.

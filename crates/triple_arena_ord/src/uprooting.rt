@@ -35,12 +35,12 @@ fn uproot<P: PtrCore, T: Drop, S: OrdSlots<P, T>>(
     gone: P::Inx,
     next: Option<P::Inx>,
 )
-    requires ordered { IsOrdered P.Inx.number
+    requires ordered { IsOrdered
         (record { chains = chains.old; root = option_map P.Inx.number root.old }) }
-    requires lives { IsSome (knots_in P.Inx.number chains.old (P.Inx.number gone)) }
-    requires next { next_at (ends_in P.Inx.number chains.old) (P.Inx.number gone)
+    requires lives { IsSome (knots_in chains.old (P.Inx.number gone)) }
+    requires next { next_at (ends_in chains.old) (P.Inx.number gone)
         ≡ option_map P.Inx.number next }
-    ensures uprooted { IsUprooted P.Inx.number
+    ensures uprooted { IsUprooted
         (record { chains = chains.old; root = option_map P.Inx.number root.old })
         (record { chains = chains.new; root = option_map P.Inx.number root.new })
         (P.Inx.number gone) }
@@ -67,18 +67,16 @@ pub(crate) fn take_entry<P: PtrCore, T: Drop, S: OrdSlots<P, T>>(
     gone: P::Inx,
     next: Option<P::Inx>,
 ) -> ((P::Gen, T), bool)
-    requires ordered { IsOrdered P.Inx.number
+    requires ordered { IsOrdered
         (record { chains = chains.old; root = option_map P.Inx.number root.old }) }
-    requires lives { IsSome (knots_in P.Inx.number chains.old (P.Inx.number gone)) }
-    requires next { next_at (ends_in P.Inx.number chains.old) (P.Inx.number gone)
+    requires lives { IsSome (knots_in chains.old (P.Inx.number gone)) }
+    requires next { next_at (ends_in chains.old) (P.Inx.number gone)
         ≡ option_map P.Inx.number next }
-    ensures ordered { IsOrdered P.Inx.number
+    ensures ordered { IsOrdered
         (record { chains = chains.new; root = option_map P.Inx.number root.new }) }
     ensures order { Loses
-        (order_in P.Inx.number
-        (record { chains = chains.old; root = option_map P.Inx.number root.old }))
-        (order_in P.Inx.number
-        (record { chains = chains.new; root = option_map P.Inx.number root.new }))
+        (order_in (record { chains = chains.old; root = option_map P.Inx.number root.old }))
+        (order_in (record { chains = chains.new; root = option_map P.Inx.number root.new }))
         (P.Inx.number gone) }
     ensures entries { (k : ℕ)
         → items_in chains.new k ≡ without (items_in chains.old) (P.Inx.number gone) k }

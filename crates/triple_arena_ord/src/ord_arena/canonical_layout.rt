@@ -36,8 +36,8 @@ impl<P: PtrCore, T: Drop, S: OrdSlots<P, T>> SimpleOrdArena<P, T, S> {
     pub fn compress_canonical(&mut self, reset: bool) -> InvalidationOption<()>
         ensures overflow { overflowed result
             ≡ renewal_wraps P.Gen.last reset self.old.chains.counter }
-        ensures laid { IsLaidInOrder P.Inx.number P.Gen.last reset self.old self.new }
-        ensures ordered { IsOrdered P.Inx.number self.new }
+        ensures laid { IsLaidInOrder P.Gen.last reset self.old self.new }
+        ensures ordered { IsOrdered self.new }
     {
         let answer = self.chains.compress_canonical(reset);
         // So many indexes are the pointers'.

@@ -46,13 +46,13 @@ impl<P: PtrCore, T: Drop, S: OrdSlots<P, T>> SimpleOrdArena<P, T, S> {
         F: FnMut(Q, InvalidationOption<U>, P) -> T,
         requires { F.IsAlwaysCallable map }
         ensures moved { OnOk result (IsTransferredInOrder Q.index Q.generation P.index P.generation
-            Q.Inx.number P.Inx.number F.step map Q.Gen.last source.old self.new) }
+            F.step map Q.Gen.last source.old self.new) }
         ensures filled { OnOk result (IsFilled entry_in size_in counter_in room_in indexed
             (size_in source.old) (P.Gen.number new_generation)
             (room_with (size_in source.old) (room_in self.old)) self.old self.new) }
         ensures source_exact { OnOk result (source.new ≡ drained_in Q.Gen.last source.old) }
-        ensures ordered { IsOrdered P.Inx.number self.new }
-        ensures source_ordered { IsOrdered Q.Inx.number source.new }
+        ensures ordered { IsOrdered self.new }
+        ensures source_ordered { IsOrdered source.new }
 
         // No memory is asked for if the entries fit.
         ensures succeeds { size_in source.old ≤ capacity_of (room_in self.old) → IsOk result }

@@ -10,8 +10,8 @@ use triple_arena::{InvalidationOption, PtrCore};
 impl<P: PtrCore, T: Drop, S: OrdSlots<P, T>> SimpleOrdArena<P, T, S> {
     // The entry at a live index leaves, and is given with the pointer to it.
     fn take_live(&mut self, i: P::Inx) -> InvalidationOption<(P, T)>
-        requires { IsSome (knots_in P.Inx.number self.old.chains (P.Inx.number i)) }
-        ensures { IsTaken P.Inx.number P.Gen.last P.index P.generation (P.Inx.number i) result
+        requires { IsSome (knots_in self.old.chains (P.Inx.number i)) }
+        ensures { IsTaken P.Gen.last P.index P.generation (P.Inx.number i) result
             self.old self.new }
     {
         let (prev, next) = neighbors(&self.chains, i);
@@ -29,7 +29,7 @@ impl<P: PtrCore, T: Drop, S: OrdSlots<P, T>> SimpleOrdArena<P, T, S> {
     /// Like each removal it steps the counter, and `GenerationOverflow` says that the generations
     /// started again.
     pub fn pop_first(&mut self) -> Option<InvalidationOption<(P, T)>>
-        ensures { TakesFirst P.Inx.number P.Gen.last P.index P.generation result self.old self.new }
+        ensures { TakesFirst P.Gen.last P.index P.generation result self.old self.new }
     {
         let i = self.first_index()?;
         Some(self.take_live(i))
@@ -40,7 +40,7 @@ impl<P: PtrCore, T: Drop, S: OrdSlots<P, T>> SimpleOrdArena<P, T, S> {
     /// no key. Like each removal it steps the counter, and `GenerationOverflow` says that the
     /// generations started again.
     pub fn pop_last(&mut self) -> Option<InvalidationOption<(P, T)>>
-        ensures { TakesLast P.Inx.number P.Gen.last P.index P.generation result self.old self.new }
+        ensures { TakesLast P.Gen.last P.index P.generation result self.old self.new }
     {
         let i = self.last_index()?;
         Some(self.take_live(i))

@@ -18,8 +18,8 @@ pub(crate) fn neighbors<P: PtrCore, T: Drop, S: OrdSlots<P, T>>(
     chains: &ChainArena<P, SimpleOrdArenaNode<P, T>, S>,
     i: P::Inx,
 ) -> (Option<P::Inx>, Option<P::Inx>)
-    requires { IsSome (knots_in P.Inx.number chains.now (P.Inx.number i)) }
-    ensures { ends_in P.Inx.number chains.now (P.Inx.number i)
+    requires { IsSome (knots_in chains.now (P.Inx.number i)) }
+    ensures { ends_in chains.now (P.Inx.number i)
         ≡ Some (option_map P.Inx.number result.0, option_map P.Inx.number result.1) }
 {
     match chains.get_inx_link_no_gen(i) {
@@ -50,15 +50,14 @@ impl<P: PtrCore, T: Drop, S: OrdSlots<P, T>> SimpleOrdArena<P, T, S> {
         prev: Option<P::Inx>,
         next: Option<P::Inx>,
     ) -> ((P::Gen, T), bool)
-        requires live { IsSome (knots_in P.Inx.number self.old.chains (P.Inx.number gone)) }
-        requires ends { ends_in P.Inx.number self.old.chains (P.Inx.number gone)
+        requires live { IsSome (knots_in self.old.chains (P.Inx.number gone)) }
+        requires ends { ends_in self.old.chains (P.Inx.number gone)
             ≡ Some (option_map P.Inx.number prev, option_map P.Inx.number next) }
-        ensures removed { IsEntryRemoved P.Inx.number P.Gen.last
-            (P.Inx.number gone) self.old self.new }
+        ensures removed { IsEntryRemoved P.Gen.last (P.Inx.number gone) self.old self.new }
         ensures value { Some (P.Gen.number result.0.0, result.0.1)
             ≡ entry_in self.old (P.Inx.number gone) }
         ensures overflow { result.1 ≡ next_wraps P.Gen.last self.old.chains.counter }
-        ensures ordered { IsOrdered P.Inx.number self.new }
+        ensures ordered { IsOrdered self.new }
     {
         let taken = take_entry(&mut self.chains, &mut self.root, gone, next);
         leave_end(&mut self.first, gone, next);

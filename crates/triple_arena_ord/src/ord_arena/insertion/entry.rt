@@ -49,7 +49,7 @@ impl<'a, P: PtrCore, T: Drop, S: OrdSlots<P, T>> SimpleOrdArenaInsertEntry<'a, P
         requires { IsReady P.Inx.number P.index P.generation self }
 
         // `self.exit.0.now` is the arena as it is left.
-        ensures { InsertsAt P.Inx.number P.index P.generation None
+        ensures { InsertsAt P.index P.generation None
             (entry_place P.Inx.number self.entry) t (Ok (self.entry.ptr, result))
             (entry_arena self.entry) self.exit.0.now }
     {
@@ -98,7 +98,7 @@ impl<P: PtrCore, T: Drop, S: OrdSlots<P, T>> SimpleOrdArena<P, T, S> {
             (λ p. IsReadyAt (option_map (λ a. (P.Inx.number a.0, a.1)) place)
             (P.index p) (P.generation p) self.new) }
         ensures grown { OnOk result
-            (IsInRoom P.Inx.number (room_for (option_map (λ a. (P.Inx.number a.0, a.1)) place)
+            (IsInRoom (room_for (option_map (λ a. (P.Inx.number a.0, a.1)) place)
             (size_in self.old) self.old.chains.room) self.old self.new) }
         ensures fits { OnOk result ((Replaces (option_map (λ a. (P.Inx.number a.0, a.1)) place) → ⊥)
             → growing_room S.takes_memory (size_in self.old) self.old.chains.room None) }
@@ -169,7 +169,7 @@ impl<P: PtrCore, T: SimpleOrdItem + Drop, S: OrdSlots<P, T>> SimpleOrdArena<P, T
         ensures ready { IfOk result (λ e. IsReady P.Inx.number P.index P.generation e) }
         ensures same_reference { IfOk result (λ e. entry_lender e ≡ self.entry.ghost_name) }
         ensures arena { IfOk result
-            (λ e. IsInRoom P.Inx.number (room_for (entry_place P.Inx.number e)
+            (λ e. IsInRoom (room_for (entry_place P.Inx.number e)
             (size_in self.old) self.old.chains.room) self.old (entry_arena e)) }
         ensures* err { sem 𝓛 (RestsIfErr
             (the_row P.row T.row S.row P.Inx.row P.Gen.row P.Inx.Word.row S.Alloc.row
@@ -199,7 +199,7 @@ impl<P: PtrCore, T: SimpleOrdItem + Drop, S: OrdSlots<P, T>> SimpleOrdArena<P, T
         ensures ready { IfOk result (λ e. IsReady P.Inx.number P.index P.generation e) }
         ensures same_reference { IfOk result (λ e. entry_lender e ≡ self.entry.ghost_name) }
         ensures arena { IfOk result
-            (λ e. IsInRoom P.Inx.number (room_for (entry_place P.Inx.number e)
+            (λ e. IsInRoom (room_for (entry_place P.Inx.number e)
             (size_in self.old) self.old.chains.room) self.old (entry_arena e)) }
         ensures* err { sem 𝓛 (RestsIfErr
             (the_row P.row T.row S.row P.Inx.row P.Gen.row P.Inx.Word.row S.Alloc.row

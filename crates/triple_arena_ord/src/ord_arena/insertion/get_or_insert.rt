@@ -19,7 +19,7 @@ impl<P: PtrCore, T: SimpleOrdItem + Drop, S: OrdSlots<P, T>> SimpleOrdArena<P, T
         &mut self,
         t: T,
     ) -> Result<(P, Option<T>), OrdInsertionError>
-        ensures { GetsOrInserts P.Inx.number T.Key.cmp T.key_of P.index P.generation None
+        ensures { GetsOrInserts T.Key.cmp T.key_of P.index P.generation None
             t result self.old self.new }
     {
         let place = self.seek(t.key(), &mut Probes::new());
@@ -38,11 +38,11 @@ impl<P: PtrCore, T: SimpleOrdItem + Drop, S: OrdSlots<P, T>> SimpleOrdArena<P, T
         t: T,
         probes: &mut Probes,
     ) -> Result<(P, Option<T>), OrdInsertionError>
-        ensures gets { GetsOrInserts P.Inx.number T.Key.cmp T.key_of P.index P.generation
+        ensures gets { GetsOrInserts T.Key.cmp T.key_of P.index P.generation
             (Some S.takes_memory) t result self.old self.new }
         ensures ticks { probes.new ≡ probes.old
             + asked_down (asked_at T.Key.cmp T.key_of (T.key_of t) self.old)
-            (tree_in P.Inx.number self.old) }
+            (tree_in self.old) }
         ensures few { probes.new ≤ probes.old + most_comparisons (size_in self.old) }
     {
         let place = self.seek(t.key(), probes);
@@ -55,7 +55,7 @@ impl<P: PtrCore, T: SimpleOrdItem + Drop, S: OrdSlots<P, T>> SimpleOrdArena<P, T
     /// What `get_or_insert_counted` does, with no count: the pointer to the entry with an equal
     /// key, which stays, and `t` back, or the pointer to a new entry and `None`.
     pub fn get_or_insert(&mut self, t: T) -> Result<(P, Option<T>), OrdInsertionError>
-        ensures { GetsOrInserts P.Inx.number T.Key.cmp T.key_of P.index P.generation
+        ensures { GetsOrInserts T.Key.cmp T.key_of P.index P.generation
             (Some S.takes_memory) t result self.old self.new }
     {
         self.get_or_insert_counted(t, &mut Probes::new())

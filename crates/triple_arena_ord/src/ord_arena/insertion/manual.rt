@@ -23,7 +23,7 @@ impl<P: PtrCore, T: Drop, S: OrdSlots<P, T>> SimpleOrdArena<P, T, S> {
     ) -> Result<Option<T>, OrdInsertionError>
         requires { IsSome (entry_in self.old (P.Inx.number p)) }
         ensures { (q : ℕ × ℕ)
-            × InsertsAt P.Inx.number (λ (q : ℕ × ℕ). q.0) (λ (q : ℕ × ℕ). q.1)
+            × InsertsAt (λ (q : ℕ × ℕ). q.0) (λ (q : ℕ × ℕ). q.1)
             (Some S.takes_memory) (Some (P.Inx.number p, direction)) t (under q result)
             self.old self.new }
     {
@@ -46,7 +46,7 @@ impl<P: PtrCore, T: Drop, S: OrdSlots<P, T>> SimpleOrdArena<P, T, S> {
         requires empty { place ≡ None → size_in self.old ≡ 0 }
         requires new { Replaces (option_map (λ a. (P.Inx.number a.0, a.1)) place) → ⊥ }
         requires room { size_in self.old < arena_capacity self.old.chains }
-        ensures { AddsAt P.Inx.number (option_map (λ a. (P.Inx.number a.0, a.1)) place)
+        ensures { AddsAt (option_map (λ a. (P.Inx.number a.0, a.1)) place)
             (P.index result) (P.generation result) t self.old self.new }
     {
         // The list is as it must be.

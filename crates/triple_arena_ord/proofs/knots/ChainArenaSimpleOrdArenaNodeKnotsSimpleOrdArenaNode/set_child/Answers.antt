@@ -16,11 +16,11 @@ pub returns-in-Left-clause-does : goal.returns-in-Left-clause-does
 returns-in-Left-clause-does g c =
     let number = g.P.Inx.PtrInxCore.number in
     let child = option_map number c.args.child.now in
-    written_in number c.args.self.now (number c.args.i) c.get_inx_mut_unwrap.result.now _
+    written_in c.args.self.now (number c.args.i) c.get_inx_mut_unwrap.result.now _
     (with_child c.args.side child) c.requires c.get_inx_mut_unwrap.ensures.value
-    (ap (λ p. with_child Left (option_map number p)
-    (knot_of number c.get_inx_mut_unwrap.result.now)) c.of.ensures
-    ∙ ap (λ side. with_child side child (knot_of number c.get_inx_mut_unwrap.result.now))
+    (ap (λ p. with_child Left p
+    (knot_of c.get_inx_mut_unwrap.result.now)) c.of.ensures
+    ∙ ap (λ side. with_child side child (knot_of c.get_inx_mut_unwrap.result.now))
     (sym c.in-Left.is))
 
 pub returns-in-Right-clause-keeps : goal.returns-in-Right-clause-keeps
@@ -32,9 +32,9 @@ pub returns-in-Right-clause-does : goal.returns-in-Right-clause-does
 returns-in-Right-clause-does g c =
     let number = g.P.Inx.PtrInxCore.number in
     let child = option_map number c.args.child.now in
-    written_in number c.args.self.now (number c.args.i) c.get_inx_mut_unwrap-in-Right.result.now _
+    written_in c.args.self.now (number c.args.i) c.get_inx_mut_unwrap-in-Right.result.now _
     (with_child c.args.side child) c.requires c.get_inx_mut_unwrap-in-Right.ensures.value
-    (ap (λ p. with_child Right (option_map number p)
-    (knot_of number c.get_inx_mut_unwrap-in-Right.result.now)) c.of-in-Right.ensures
-    ∙ ap (λ side. with_child side child (knot_of number c.get_inx_mut_unwrap-in-Right.result.now))
+    (ap (λ p. with_child Right p
+    (knot_of c.get_inx_mut_unwrap-in-Right.result.now)) c.of-in-Right.ensures
+    ∙ ap (λ side. with_child side child (knot_of c.get_inx_mut_unwrap-in-Right.result.now))
     (sym c.in-Right.is))

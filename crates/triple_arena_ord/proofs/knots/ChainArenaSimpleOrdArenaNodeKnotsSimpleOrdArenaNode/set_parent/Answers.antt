@@ -13,10 +13,10 @@ returns-clause-keeps g c =
 
 pub returns-clause-does : goal.returns-clause-does
 returns-clause-does g c =
-    written_in g.P.Inx.PtrInxCore.number c.args.self.now (g.P.Inx.PtrInxCore.number c.args.i)
+    written_in c.args.self.now (g.P.Inx.PtrInxCore.number c.args.i)
     c.get_inx_mut_unwrap.result.now _
     (with_parent (option_map g.P.Inx.PtrInxCore.number c.args.parent.now)) c.requires
     c.get_inx_mut_unwrap.ensures.value
-    (ap (λ p. with_parent (option_map g.P.Inx.PtrInxCore.number p)
-    (knot_of g.P.Inx.PtrInxCore.number c.get_inx_mut_unwrap.result.now))
+    (ap (λ p. with_parent p
+    (knot_of c.get_inx_mut_unwrap.result.now))
     c.of.ensures)

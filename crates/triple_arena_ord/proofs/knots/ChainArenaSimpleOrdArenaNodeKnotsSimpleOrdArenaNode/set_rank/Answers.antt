@@ -11,6 +11,6 @@ returns-clause-keeps g c =
 
 pub returns-clause-does : goal.returns-clause-does
 returns-clause-does g c =
-    written_in g.P.Inx.PtrInxCore.number c.args.self.now (g.P.Inx.PtrInxCore.number c.args.i)
+    written_in c.args.self.now (g.P.Inx.PtrInxCore.number c.args.i)
     c.get_inx_mut_unwrap.result.now _ (with_rank c.args.rank) c.requires.live
     c.get_inx_mut_unwrap.ensures.value refl

@@ -11,5 +11,5 @@ returns-clause-keeps g c =
 pub returns-clause-written : goal.returns-clause-written
 returns-clause-written g c =
     rw (← c.of-node.ensures, ← c.of-node-2.ensures, ← c.of-node-3.ensures)
-    (written g.P.Inx.PtrInxCore.number c.args.self.now (g.P.Inx.PtrInxCore.number c.args.i) _
+    (written c.args.self.now (g.P.Inx.PtrInxCore.number c.args.i) _
     c.requires.live)

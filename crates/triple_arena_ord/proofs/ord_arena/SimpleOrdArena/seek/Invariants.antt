@@ -9,11 +9,11 @@ use Rattle.triple_arena_ord.proofs.ord_arena.SimpleOrdArena.seek.Given as goal
 abbrev pub invariant-down : goal.invariant-down
 invariant-down g l =
     (asked : ℕ) × ((l.count ≡ l.initial.count + asked)
-    × Descent (knots_in g.P.Inx.PtrInxCore.number l.self.chains)
+    × Descent (knots_in l.self.chains)
     (asked_at g.T.Key.Ord.cmp g.T.SimpleOrdItem.key_of l.k l.self)
-    (tree_in g.P.Inx.PtrInxCore.number l.self) (option_map g.P.Inx.PtrInxCore.number l.link)
+    (tree_in l.self) l.link
     (option_map (λ a. (g.P.Inx.PtrInxCore.number a.0, a.1)) l.place) asked)
 
 abbrev pub decreases-down : goal.decreases-down
-decreases-down g l = rank_or_link (knots_in g.P.Inx.PtrInxCore.number l.self.chains)
-    (option_map g.P.Inx.PtrInxCore.number l.link)
+decreases-down g l = rank_or_link (knots_in l.self.chains)
+    l.link
