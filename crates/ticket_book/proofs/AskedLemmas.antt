@@ -119,29 +119,29 @@ asked_is f (e ∷ entries) low t rise least alike from = elim (cases_lt t e.tick
     behind (x ∷ xs) all = (let more = all.0 in omega (arith, more), behind xs all.1)
 
 -- the number that stands for a search in the list is that of its comparisons
-pub asked_there : {I : Type 0} (number : I → ℕ) (o : Ordered I Entry) (t : ℕ)
-    → TicketsRise (entries_of number o)
-    → asked_among (asked_in number o 0) (entries_of number o) (asked_beside number o) t
-    ≡ asked_in number o t
-asked_there number o t rise =
-    asked_is (asked_in number o) (entries_of number o) 0 t rise (each (entries_of number o))
-    (λ a b one two all. same_down _ _ (tree_in number o)
-    (alike_along (entry_in o) a b (order_in number o) all)) (omega arith)
+pub asked_there : (o : Ordered Entry) (t : ℕ)
+    → TicketsRise (entries_of o)
+    → asked_among (asked_in o 0) (entries_of o) (asked_beside o) t
+    ≡ asked_in o t
+asked_there o t rise =
+    asked_is (asked_in o) (entries_of o) 0 t rise (each (entries_of o))
+    (λ a b one two all. same_down _ _ (tree_in o)
+    (alike_along (entry_in o) a b (order_in o) all)) (omega arith)
   where
     each : (xs : List Entry) → AllByRecursion (λ (x : Entry). 0 ≤ x.ticket) xs
     each [] = tt
     each (x ∷ xs) = (omega arith, each xs)
 
 -- and it is within the bound
-pub asked_within : {I : Type 0} (number : I → ℕ) (o : Ordered I Entry) (t old new : ℕ)
-    → TicketsRise (entries_of number o) → new ≡ old + asked_in number o t
-    → new ≤ old + most_comparisons (size_in o) → length (ordered_entries number o) ≡ size_in o
-    → asked_among (asked_in number o 0) (entries_of number o) (asked_beside number o) t
-    ≤ most_comparisons (length (entries_of number o))
-asked_within number o t old new rise ticks bound count =
-    let is = asked_there number o t rise in
-    let size : length (entries_of number o) ≡ size_in o =
-    length-map (ordered_entries number o) (λ x. x.1.1) ∙ count in
-    let most : most_comparisons (length (entries_of number o)) ≡ most_comparisons (size_in o) =
+pub asked_within : (o : Ordered Entry) (t old new : ℕ)
+    → TicketsRise (entries_of o) → new ≡ old + asked_in o t
+    → new ≤ old + most_comparisons (size_in o) → length (ordered_entries o) ≡ size_in o
+    → asked_among (asked_in o 0) (entries_of o) (asked_beside o) t
+    ≤ most_comparisons (length (entries_of o))
+asked_within o t old new rise ticks bound count =
+    let is = asked_there o t rise in
+    let size : length (entries_of o) ≡ size_in o =
+    length-map (ordered_entries o) (λ x. x.1.1) ∙ count in
+    let most : most_comparisons (length (entries_of o)) ≡ most_comparisons (size_in o) =
     ap most_comparisons size in
     omega (arith, is, most, ticks, bound)

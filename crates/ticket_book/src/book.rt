@@ -50,16 +50,16 @@ impl<P: PtrCore, S: OrdSlots<P, Entry<P>>> Model for TicketBook<P, S> {
     ghost use Rattle.triple_arena_ord.specs.Ordered.{entry_in};
 
     ghost view = { λ b. record {
-      entries = entries_of P.Inx.number b.arena;
-      standing = standing_in P.Inx.number b.arena;
+      entries = entries_of b.arena;
+      standing = standing_in b.arena;
       capacity = arena_capacity b.arena.chains;
       next_index = index_of_next b.arena.chains;
       first_elsewhere = b.first_elsewhere;
-      asked_below = asked_in P.Inx.number b.arena 0;
-      asked_along = asked_beside P.Inx.number b.arena;
+      asked_below = asked_in b.arena 0;
+      asked_along = asked_beside b.arena;
     } };
 
-    ghost invariant = { λ b. TicketsRise (entries_of P.Inx.number b.arena)
+    ghost invariant = { λ b. TicketsRise (entries_of b.arena)
         × StandByNumber b.first_elsewhere (entry_in b.arena) };
 }
 
@@ -96,12 +96,10 @@ fn put_last<P: PtrCore, S: OrdSlots<P, Entry<P>>>(
     entry: Entry<P>,
 ) -> P
     requires { size_in arena.old < arena_capacity arena.old.chains }
-    ensures added { IsAdded P.Inx.number (P.index result) (P.generation result) entry
-        arena.old arena.new }
-    ensures entries { entries_of P.Inx.number arena.new
-        ≡ entries_of P.Inx.number arena.old ++ entry ∷ [] }
+    ensures added { IsAdded (P.index result) (P.generation result) entry arena.old arena.new }
+    ensures entries { entries_of arena.new ≡ entries_of arena.old ++ entry ∷ [] }
     ensures room { arena.new.chains.room ≡ arena.old.chains.room }
-    ensures ordered { IsOrdered P.Inx.number arena.new }
+    ensures ordered { IsOrdered arena.new }
 {
     // The list is as it must be.
     let _ = arena.len();

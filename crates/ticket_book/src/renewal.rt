@@ -57,7 +57,7 @@ pub(crate) fn renew_entries<
           (numbers P.index P.generation (N.entry_at stops.now))
           (numbers P.index P.generation (O.entry_at marks.now)) e.1,
     )) (entry_in arena.old j) }
-    ensures order { order_in P.Inx.number arena.new ≡ order_in P.Inx.number arena.old }
+    ensures order { order_in arena.new ≡ order_in arena.old }
     ensures room { arena.new.chains.room ≡ arena.old.chains.room }
 {
     writes_keep_the_list::<P, Entry<P>>();
