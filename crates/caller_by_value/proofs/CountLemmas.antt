@@ -15,6 +15,6 @@ pub as_many_direct : {T : Type 0} (d : DirectContent T)
     → length (direct.live_entries d) ≡ direct.live_count d
 as_many_direct d = listed-length 1 d.slots
 
-pub as_many_links : {I T : Type 0} (c : Content (IndexLink I T))
+pub as_many_links : {T : Type 0} (c : Content (IndexLink T))
     → length (listed_values c) ≡ live_count c
 as_many_links c = length-map (live_entries c) listed_value ∙ live_entries-length c

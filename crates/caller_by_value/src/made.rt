@@ -15,7 +15,7 @@ use triple_arena_chain::{ChainArena, ChainSlots, LinkNoGen};
 pub fn become_chains<P: PtrCore, T: Drop, S: ChainSlots<P, T>>(
     arena: Arena<P, LinkNoGen<P, T>, S>,
 ) -> Result<ChainArena<P, T, S>, Arena<P, LinkNoGen<P, T>, S>>
-    ensures variant { IsOk result ↔ IsAgreed (ends_in P.Inx.number arena) }
+    ensures variant { IsOk result ↔ IsAgreed (ends_in arena) }
     ensures ok { IfOk result (λ chains. chains ≡ arena) }
     ensures err { IfErr result (λ refused. refused ≡ arena) }
 {
@@ -26,7 +26,7 @@ pub fn become_chains<P: PtrCore, T: Drop, S: ChainSlots<P, T>>(
 pub fn agreed<P: PtrCore, T: Drop, S: ChainSlots<P, T>>(
     arena: Arena<P, LinkNoGen<P, T>, S>,
 ) -> ChainArena<P, T, S>
-    requires { IsAgreed (ends_in P.Inx.number arena) }
+    requires { IsAgreed (ends_in arena) }
     ensures { result ≡ arena }
 {
     match ChainArena::from_arena(arena) {

@@ -71,11 +71,11 @@ some_mapped f None some = absurd (true≢false (sym some))
 some_mapped f (Some a) some = refl
 
 -- what a pointer finds, by values
-module _ {I T : Type 0} (c : Content (IndexLink I T)) (i g : ℕ) where
+module _ {T : Type 0} (c : Content (IndexLink T)) (i g : ℕ) where
   pub value_of_get : IsSome (get c i g) → generation_at (values_in c) i ≡ Some g
   value_of_get = by (entry_at c i)
     where
-      by : (o : Option (ℕ × IndexLink I T)) → IsSome (value_if g o)
+      by : (o : Option (ℕ × IndexLink T)) → IsSome (value_if g o)
           → option_map (λ v. v.0) (option_map valued o) ≡ Some g
       by None some = absurd (true≢false (sym some))
       by (Some e) some = elim (eqb_tells e.0 g) [
@@ -86,7 +86,7 @@ module _ {I T : Type 0} (c : Content (IndexLink I T)) (i g : ℕ) where
   pub get_of_value : generation_at (values_in c) i ≡ Some g → IsSome (get c i g)
   get_of_value = by (entry_at c i)
     where
-      by : (o : Option (ℕ × IndexLink I T)) → option_map (λ v. v.0) (option_map valued o) ≡ Some g
+      by : (o : Option (ℕ × IndexLink T)) → option_map (λ v. v.0) (option_map valued o) ≡ Some g
           → IsSome (value_if g o)
       by None none = absurd (let no : None ≡ Some g = none in cc)
       by (Some e) is =
@@ -100,49 +100,49 @@ some_value (Some e) is = refl
 
 module _ {P I T : Type 0} (index generation : P → ℕ) (number : I → ℕ) where
   -- there is a place for an entry that is used now
-  pub gap_there : (c : Content (IndexLink I T)) (latest : Option P) (uses : List ℕ)
-      → AreByUse index generation number c latest uses
+  pub gap_there : (c : Content (IndexLink T)) (latest : Option P) (uses : List ℕ)
+      → AreByUse index generation c latest uses
       → IsSome (gap_among index generation number c (kind_for latest))
   gap_there c None uses is = refl
   gap_there c (Some q) uses is =
-      some_mapped _ (ends_found number c (index q) (generation q))
-      (subst IsSome (sym (finds number c (index q) (generation q) is.live))
-      (live_with number c (index q) (generation q) is.live))
+      some_mapped _ (ends_found c (index q) (generation q))
+      (subst IsSome (sym (finds c (index q) (generation q) is.live))
+      (live_with c (index q) (generation q) is.live))
 
   -- the latest has a previous one: the one used longest ago
-  pub never_none : (c : Content (IndexLink I T)) (q : P) (uses : List ℕ)
-      → AreByUse index generation number c (Some q) uses
-      → prev_in (ends_found number c (index q) (generation q)) ≡ None → ⊥
+  pub never_none : (c : Content (IndexLink T)) (q : P) (uses : List ℕ)
+      → AreByUse index generation c (Some q) uses
+      → prev_in (ends_found c (index q) (generation q)) ≡ None → ⊥
   never_none c q [] is none = let no' = is.first in cc
   never_none c q (z ∷ w) is none =
       let at : z ≡ index q = sym (some_is (index q) z is.first) in
       let end = last_is z w in
-      let there : prev_at (ends_in number c) z ≡ Some end.0 = ap prev_in is.ring.stands.0
+      let there : prev_at (ends_in c) z ≡ Some end.0 = ap prev_in is.ring.stands.0
       ∙ end.1 in
-      let same : prev_at (ends_in number c) z ≡ None =
-      ap (λ k. prev_at (ends_in number c) k) at
-      ∙ ap prev_in (sym (finds number c (index q) (generation q) is.live)) ∙ none in
+      let same : prev_at (ends_in c) z ≡ None =
+      ap (λ k. prev_at (ends_in c) k) at
+      ∙ ap prev_in (sym (finds c (index q) (generation q) is.live)) ∙ none in
       let never : Some end.0 ≡ None = sym there ∙ same in cc
 
-  pub prev_found : (c : Content (IndexLink I T)) (q : P) (uses : List ℕ)
-      → AreByUse index generation number c (Some q) uses → (n : ℕ)
-      → prev_in (ends_found number c (index q) (generation q)) ≡ Some n
-      → prev_at (ends_in number c) (index q) ≡ Some n
+  pub prev_found : (c : Content (IndexLink T)) (q : P) (uses : List ℕ)
+      → AreByUse index generation c (Some q) uses → (n : ℕ)
+      → prev_in (ends_found c (index q) (generation q)) ≡ Some n
+      → prev_at (ends_in c) (index q) ≡ Some n
   prev_found c q uses is n found =
-      ap prev_in (sym (finds number c (index q) (generation q) is.live)) ∙ found
+      ap prev_in (sym (finds c (index q) (generation q) is.live)) ∙ found
 
-  module _ (old new : Content (IndexLink I T)) where
+  module _ (old new : Content (IndexLink T)) where
     -- the entry at `p` is put before the latest
     pub touched : (q p : P)
-        → IsMoved number (index p) (gap_before number old (index p) (index q)) old new
+        → IsMoved (index p) (gap_before old (index p) (index q)) old new
         → generation_at (values_in old) (index p) ≡ Some (generation p) → index p ≢ index q
         → (front back : List ℕ)
-        → AreByUse index generation number old (Some q) (front ++ index p ∷ back)
-        → AreByUse index generation number new (Some p) (index p ∷ front ++ back)
+        → AreByUse index generation old (Some q) (front ++ index p ∷ back)
+        → AreByUse index generation new (Some p) (index p ∷ front ++ back)
     touched q p moved lives differs [] back is =
         absurd (differs (sym (some_is (index q) (index p) is.first)))
     touched q p moved lives differs (z ∷ front) back is =
-        let e = ends_in number old in
+        let e = ends_in old in
         let mid = taken_out e (index p) in
         let at : z ≡ index q = sym (some_is (index q) z is.first) in
         let out : IsRing mid (back ++ z ∷ front) =
@@ -158,21 +158,21 @@ module _ {P I T : Type 0} (index generation : P → ℕ) (number : I → ℕ) wh
         }
 
     pub touched_cache : (q p : P)
-        → IsMoved number (index p) (gap_before number old (index p) (index q)) old new
+        → IsMoved (index p) (gap_before old (index p) (index q)) old new
         → generation_at (values_in old) (index p) ≡ Some (generation p) → index p ≢ index q
-        → IsCache index generation number old (Some q)
-        → IsCache index generation number new (Some p)
+        → IsCache index generation old (Some q)
+        → IsCache index generation new (Some p)
     touched_cache q p moved lives differs cache =
         let on = cache.1.all (index p) (some_value (values_in old (index p)) lives) in (
           index p ∷ on.front ++ on.back,
           touched q p moved lives differs on.front on.back
-              (subst (AreByUse index generation number old (Some q)) on.is cache.1),
+              (subst (AreByUse index generation old (Some q)) on.is cache.1),
         )
 
     -- the latest is used again
     pub stays : (q p : P) → ((index p ≢ index q) → ⊥) → (front back : List ℕ)
-        → AreByUse index generation number old (Some q) (front ++ index p ∷ back)
-        → AreByUse index generation number old (Some q) (index p ∷ front ++ back)
+        → AreByUse index generation old (Some q) (front ++ index p ∷ back)
+        → AreByUse index generation old (Some q) (index p ∷ front ++ back)
     stays q p same [] back is = is
     stays q p same (z ∷ front) back is =
         let at : z ≡ index q = sym (some_is (index q) z is.first) in
@@ -186,11 +186,11 @@ module _ {P I T : Type 0} (index generation : P → ℕ) (number : I → ℕ) wh
     pub added : (latest : Option P) (n : P) (t : T)
         → IsSome (gap_among index generation number old (kind_for latest))
         → IfSome (gap_among index generation number old (kind_for latest))
-        (λ gap. IsLinkInserted number gap (index n) (generation n) t old new)
-        → (uses : List ℕ) → AreByUse index generation number old latest uses
-        → AreByUse index generation number new (Some n) (index n ∷ uses)
+        (λ gap. IsLinkInserted gap (index n) (generation n) t old new)
+        → (uses : List ℕ) → AreByUse index generation old latest uses
+        → AreByUse index generation new (Some n) (index n ∷ uses)
     added latest n t there inserted uses is =
-        let values = told number old new (index n) (generation n) t
+        let values = told old new (index n) (generation n) t
         (gap_among index generation number old (kind_for latest)) there inserted
         (λ gap at. at.values) in
         record {
@@ -216,9 +216,9 @@ module _ {P I T : Type 0} (index generation : P → ℕ) (number : I → ℕ) wh
         by : (l : Option P) (w : List ℕ)
             → IsSome (gap_among index generation number old (kind_for l))
             → IfSome (gap_among index generation number old (kind_for l))
-            (λ gap. IsLinkInserted number gap (index n) (generation n) t old new)
-            → option_map index l ≡ first_or w None → IsRing (ends_in number old) w
-            → IsRing (ends_in number new) (index n ∷ w)
+            (λ gap. IsLinkInserted gap (index n) (generation n) t old new)
+            → option_map index l ≡ first_or w None → IsRing (ends_in old) w
+            → IsRing (ends_in new) (index n ∷ w)
         by None [] there inserted first ring = inserted.lists.alone
         by None (z ∷ w) there inserted first ring = absurd (cc)
         by (Some q) [] there inserted first ring = absurd (cc)
@@ -227,33 +227,33 @@ module _ {P I T : Type 0} (index generation : P → ℕ) (number : I → ℕ) wh
             let put = put-prev_to index generation number old new q (index n) (generation n) t there
             inserted in
             put.in_ring z w
-            (sym (ap prev_in ring.stands.0) ∙ ap (λ k. prev_at (ends_in number old) k) at)
+            (sym (ap prev_in ring.stands.0) ∙ ap (λ k. prev_at (ends_in old) k) at)
             (ap Some at) ring
 
     -- the last of the ring goes, which the first has as its previous one
     module _ (last : Option ℕ) (q o : P)
-        (taken : IsTakenOut number last (index o) old new)
-        (prev : prev_at (ends_in number old) (index q) ≡ Some (index o)) (front : List ℕ) (i : ℕ)
-        (is : AreByUse index generation number old (Some q) (front ++ i ∷ [])) where
+        (taken : IsTakenOut last (index o) old new)
+        (prev : prev_at (ends_in old) (index q) ≡ Some (index o)) (front : List ℕ) (i : ℕ)
+        (is : AreByUse index generation old (Some q) (front ++ i ∷ [])) where
       pub is_oldest : i ≡ index o
       is_oldest = by front is.first is.ring
         where
           by : (w : List ℕ) → Some (index q) ≡ first_or (w ++ i ∷ []) None
-              → IsRing (ends_in number old) (w ++ i ∷ []) → i ≡ index o
+              → IsRing (ends_in old) (w ++ i ∷ []) → i ≡ index o
           by [] first ring =
               let at : i ≡ index q = sym (some_is (index q) i first) in
               some_is i (index o) (sym (ap prev_in ring.stands.0)
-              ∙ ap (λ k. prev_at (ends_in number old) k) at ∙ prev)
+              ∙ ap (λ k. prev_at (ends_in old) k) at ∙ prev)
           by (z ∷ w) first ring =
               let at : z ≡ index q = sym (some_is (index q) z first) in
               some_is i (index o) (sym (last_or-append (Some z) w (i ∷ []))
               ∙ sym (ap prev_in ring.stands.0)
-              ∙ ap (λ k. prev_at (ends_in number old) k) at ∙ prev)
+              ∙ ap (λ k. prev_at (ends_in old) k) at ∙ prev)
 
-      left_ring : IsRing (ends_in number new) front
+      left_ring : IsRing (ends_in new) front
       left_ring = taken.lists.from_ring front
-          (subst (λ z. IsRing (ends_in number old) (z ∷ front)) is_oldest
-          (turned (ends_in number old) front i [] is.ring))
+          (subst (λ z. IsRing (ends_in old) (z ∷ front)) is_oldest
+          (turned (ends_in old) front i [] is.ring))
 
       left_all : (j : ℕ) → IsSome (values_in new j) → On front j
       left_all j some = elim (eqb_tells j (index o)) [
@@ -268,7 +268,7 @@ module _ {P I T : Type 0} (index generation : P → ℕ) (number : I → ℕ) wh
 
       -- the first stays, where there is another one
       pub first_left : IsSome (get new (index q) (generation q))
-          → AreByUse index generation number new (Some q) front
+          → AreByUse index generation new (Some q) front
       first_left there = record {
         first = by front is.first;
         live = value_of_get new (index q) (generation q) there;
@@ -292,7 +292,7 @@ module _ {P I T : Type 0} (index generation : P → ℕ) (number : I → ℕ) wh
               ])
 
       pub none_left : (IsSome (get new (index q) (generation q)) → ⊥)
-          → AreByUse index generation number new None front
+          → AreByUse index generation new None front
       none_left gone = record {
         first = by front is.first is.ring.apart;
         live = tt;
@@ -317,17 +317,17 @@ module _ {P I T : Type 0} (index generation : P → ℕ) (number : I → ℕ) wh
       -- the latest that is left
       pub left : (r : Option P) → (IsSome (get new (index q) (generation q)) → r ≡ Some q)
           → ((IsSome (get new (index q) (generation q)) → ⊥) → r ≡ None)
-          → AreByUse index generation number new r front
+          → AreByUse index generation new r front
       left r there gone = by (get new (index q) (generation q)) refl
         where
-          by : (o : Option (IndexLink I T)) → get new (index q) (generation q) ≡ o
-              → AreByUse index generation number new r front
+          by : (o : Option (IndexLink T)) → get new (index q) (generation q) ≡ o
+              → AreByUse index generation new r front
           by None at =
               let never : IsSome (get new (index q) (generation q)) → ⊥ =
               λ some. true≢false (sym (subst IsSome at some)) in
-              subst (λ l. AreByUse index generation number new l front) (sym (gone never))
+              subst (λ l. AreByUse index generation new l front) (sym (gone never))
               (none_left never)
           by (Some link) at =
               let some : IsSome (get new (index q) (generation q)) = subst IsSome (sym at) refl in
-              subst (λ l. AreByUse index generation number new l front) (sym (there some))
+              subst (λ l. AreByUse index generation new l front) (sym (there some))
               (first_left some)

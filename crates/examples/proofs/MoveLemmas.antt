@@ -53,26 +53,26 @@ differ c i j g h unequal first second same =
     cc)
 
 -- what is known of the song that was put in
-pub record Settled {P I T : Type 0} (index generation : P → ℕ) (number : I → ℕ) (last : Option ℕ)
-    (old new : Content (IndexLink I T)) (p q : P) (t : T) (n : P) : Type 0 where
-  pub lists : IsMoved (index p) (index q) (index n) (ends_in number old) (ends_in number new)
+pub record Settled {P T : Type 0} (index generation : P → ℕ) (last : Option ℕ)
+    (old new : Content (IndexLink T)) (p q : P) (t : T) (n : P) : Type 0 where
+  pub lists : IsMoved (index p) (index q) (index n) (ends_in old) (ends_in new)
   pub songs : (k : ℕ) → values_in new k
       ≡ with_entry (without (values_in old) (index p)) (index n) (generation n, t) k
   pub live : live_count new ≡ live_count old
   pub counter : new.counter ≡ next_generation last old.counter
 
 module _ {P I T : Type 0} (index generation : P → ℕ) (number : I → ℕ) (last : Option ℕ)
-    (old between : Content (IndexLink I T)) (p q : P)
-    (taken : IsTakenOut number last (index p) old between) where
+    (old between : Content (IndexLink T)) (p q : P)
+    (taken : IsTakenOut last (index p) old between) where
   -- another song is there as before, so that there is a gap directly after it
   pub gap_left : index p ≢ index q → IsSome (get old (index q) (generation q))
       → IsSome (gap_among index generation number between (NextTo q))
   gap_left differs there =
-      some_mapped _ (ends_found number between (index q) (generation q)) found
+      some_mapped _ (ends_found between (index q) (generation q)) found
     where
       before : generation_at (values_in old) (index q) ≡ Some (generation q)
-      before = generation_of number old (index q) (generation q)
-          (some_mapped (link_ends number) (get old (index q) (generation q)) there)
+      before = generation_of old (index q) (generation q)
+          (some_mapped link_ends (get old (index q) (generation q)) there)
 
       stays : values_in between (index q) ≡ values_in old (index q)
       stays = taken.values (index q)
@@ -82,18 +82,18 @@ module _ {P I T : Type 0} (index generation : P → ℕ) (number : I → ℕ) (l
       has : generation_at (values_in between) (index q) ≡ Some (generation q)
       has = ap (option_map (λ v. v.0)) stays ∙ before
 
-      found : IsSome (ends_found number between (index q) (generation q))
-      found = subst IsSome (sym (finds number between (index q) (generation q) has))
-          (live_with number between (index q) (generation q) has)
+      found : IsSome (ends_found between (index q) (generation q))
+      found = subst IsSome (sym (finds between (index q) (generation q) has))
+          (live_with between (index q) (generation q) has)
 
-  module _ (new : Content (IndexLink I T)) (t : T) (chained : IsChained number between)
+  module _ (new : Content (IndexLink T)) (t : T) (chained : IsChained between)
       (there : IsSome (gap_among index generation number between (NextTo q))) where
     settled : (n : P) → IfSome (gap_among index generation number between (NextTo q))
-        (λ gap. IsLinkInserted number gap (index n) (generation n) t between new)
-        → Settled index generation number last old new p q t n
+        (λ gap. IsLinkInserted gap (index n) (generation n) t between new)
+        → Settled index generation last old new p q t n
     settled n inserted =
         record {
-          lists = moved (ends_in number old) (ends_in number between) (ends_in number new) (index p)
+          lists = moved (ends_in old) (ends_in between) (ends_in new) (index p)
               (index q) (index n) taken.lists chained.agreed
               (put-next_to index generation number between new q (index n) (generation n) t there
               inserted);
@@ -105,14 +105,14 @@ module _ {P I T : Type 0} (index generation : P → ℕ) (number : I → ℕ) (l
         }
       where
         tell : {X : Type 0} → ((gap : Gap ℕ)
-            → IsLinkInserted number gap (index n) (generation n) t between new → X) → X
-        tell say = told number between new (index n) (generation n) t
+            → IsLinkInserted gap (index n) (generation n) t between new → X) → X
+        tell say = told between new (index n) (generation n) t
             (gap_among index generation number between (NextTo q)) there inserted say
 
     -- the answer, which is there
     pub answered : {E : Type 0} (r : Result P E) (o : Option P) → IsOk r → o ≡ result_ok r
         → IfOk r (λ n. IfSome (gap_among index generation number between (NextTo q))
-        (λ gap. IsLinkInserted number gap (index n) (generation n) t between new))
-        → (n : P) × (o ≡ Some n) × Settled index generation number last old new p q t n
+        (λ gap. IsLinkInserted gap (index n) (generation n) t between new))
+        → (n : P) × (o ≡ Some n) × Settled index generation last old new p q t n
     answered (Ok n) o ok is inserted = (n, is, settled n inserted)
     answered (Err e) o ok is inserted = absurd (true≢false (sym ok))

@@ -22,55 +22,55 @@ use Rattle.triple_arena_chain.specs.ListLaws.{turned}
 use Rattle.triple_arena_chain.specs.Lists.{Chain, Linear, Cyclic, members, IsChainOf, IsPutIn}
 use Rattle.triple_arena_chain.specs.Lists.{IsTaken}
 
-module _ {I T : Type 0} (number : I → ℕ) (c d : Content (IndexLink I T)) (i g : ℕ) (t : T) where
+module _ {T : Type 0} (c d : Content (IndexLink T)) (i g : ℕ) (t : T) where
   -- what the gap tells where there is one
   pub told : {X : Type 0} (o : Option (Gap ℕ)) → IsSome o
-      → IfSome o (λ gap. IsLinkInserted number gap i g t c d)
-      → ((gap : Gap ℕ) → IsLinkInserted number gap i g t c d → X) → X
+      → IfSome o (λ gap. IsLinkInserted gap i g t c d)
+      → ((gap : Gap ℕ) → IsLinkInserted gap i g t c d → X) → X
   told None there inserted tell = absurd (true≢false (sym there))
   told (Some gap) there inserted tell = tell gap inserted
 
 module _ {P E I T : Type 0} (index generation : P → ℕ) (number : I → ℕ)
-    (c d : Content (IndexLink I T)) (p : P) (t : T) where
+    (c d : Content (IndexLink T)) (p : P) (t : T) where
   -- what an insertion directly after `p` makes of the lists
   pub record Added (r : Result P E) : Type 0 where
     pub song : IfOk r (λ q. (j : ℕ)
         → values_in d j ≡ with_entry (values_in c) (index q) (generation q, t) j)
     pub linear : IfOk r (λ q. (before after : List ℕ)
-        → IsLinear (ends_in number c) (before ++ index p ∷ after)
-        → IsLinear (ends_in number d) (before ++ (index p ∷ index q ∷ after)))
-    pub ring : IfOk r (λ q. (after : List ℕ) → IsRing (ends_in number c) (index p ∷ after)
-        → IsRing (ends_in number d) (index p ∷ index q ∷ after))
-    pub others : (l : Chain) → IsChainOf (ends_in number c) l → Off (members l) (index p)
-        → IsChainOf (ends_in number d) l
+        → IsLinear (ends_in c) (before ++ index p ∷ after)
+        → IsLinear (ends_in d) (before ++ (index p ∷ index q ∷ after)))
+    pub ring : IfOk r (λ q. (after : List ℕ) → IsRing (ends_in c) (index p ∷ after)
+        → IsRing (ends_in d) (index p ∷ index q ∷ after))
+    pub others : (l : Chain) → IsChainOf (ends_in c) l → Off (members l) (index p)
+        → IsChainOf (ends_in d) l
     pub counter : d.counter ≡ c.counter
 
-  pub added : (r : Result P E) → IsChained number c
+  pub added : (r : Result P E) → IsChained c
       → (IsOk r → IsSome (gap_among index generation number c (NextTo p)))
       → IfOk r (λ q. IfSome (gap_among index generation number c (NextTo p))
-      (λ gap. IsLinkInserted number gap (index q) (generation q) t c d))
+      (λ gap. IsLinkInserted gap (index q) (generation q) t c d))
       → OnErr r (d ≡ c) → Added r
   added (Err e) chained there inserted same =
       record {
         song = tt;
         linear = tt;
         ring = tt;
-        others = λ l chain off. subst (λ x. IsChainOf (ends_in number x) l) (sym same) chain;
+        others = λ l chain off. subst (λ x. IsChainOf (ends_in x) l) (sym same) chain;
         counter = ap (λ x. x.counter) same;
       }
   added (Ok q) chained there inserted same =
-      let old = ends_in number c in
-      let new = ends_in number d in
+      let old = ends_in c in
+      let new = ends_in d in
       let put = put-next_to index generation number c d p (index q) (generation q) t (there refl)
       inserted in
       record {
-        song = told number c d (index q) (generation q) t
+        song = told c d (index q) (generation q) t
             (gap_among index generation number c (NextTo p)) (there refl) inserted
             (λ gap at. at.values);
         linear = linear-put_after old new (index p) (index q) put;
         ring = ring-put_after old new (index p) (index q) put;
         others = others-put_after old new (index p) (index q) put chained.agreed;
-        counter = told number c d (index q) (generation q) t
+        counter = told c d (index q) (generation q) t
             (gap_among index generation number c (NextTo p)) (there refl) inserted
             (λ gap at. at.counter);
       }
@@ -124,19 +124,19 @@ adds t v left s k is whole = omega (arith, is, whole)
 pub ends_at : (t s k : ℕ) → s ≡ 0 → (t + s) % 2 ^ 64 ≡ k % 2 ^ 64 → t < 2 ^ 64 → t ≡ k % 2 ^ 64
 ends_at t s k none whole fits = omega (arith, none, whole, fits)
 
-module _ {I : Type 0} (number : I → ℕ) (c : Content (IndexLink I ℕ)) (w on : ChainWalk) where
+module _ (c : Content (IndexLink ℕ)) (w on : ChainWalk) where
   -- a song that was heard
   pub record Heard (v : ℕ) : Type 0 where
-    pub ends : IsEnding number c on
-    pub less : length (left_over number c on) < length (left_over number c w)
-    pub sums : sum (map (length_at c) (left_over number c w))
-        ≡ v + sum (map (length_at c) (left_over number c on))
+    pub ends : IsEnding c on
+    pub less : length (left_over c on) < length (left_over c w)
+    pub sums : sum (map (length_at c) (left_over c w))
+        ≡ v + sum (map (length_at c) (left_over c on))
 
-  pub heard : (i g v : ℕ) → IsEnding number c w
-      → ChainSteps (ends_in number c) (values_in c) w (Some (i, g)) on
+  pub heard : (i g v : ℕ) → IsEnding c w
+      → ChainSteps (ends_in c) (values_in c) w (Some (i, g)) on
       → value_if g (values_in c i) ≡ Some v → Heard v
   heard i g v ends step value =
-      let next = left-after number c w (i, g) on ends step in
+      let next = left-after c w (i, g) on ends step in
       let left = next.0 in
       let long = ap length left in
       record {
@@ -144,12 +144,12 @@ module _ {I : Type 0} (number : I → ℕ) (c : Content (IndexLink I ℕ)) (w on
         less = omega (arith, long);
         sums =
             ap (λ l. sum (map (length_at c) l)) left
-            ∙ sum_by-cons (λ x. x) (length_at c i) (map (length_at c) (left_over number c on))
-            ∙ ap (λ x. x + sum (map (length_at c) (left_over number c on)))
+            ∙ sum_by-cons (λ x. x) (length_at c i) (map (length_at c) (left_over c on))
+            ∙ ap (λ x. x + sum (map (length_at c) (left_over c on)))
             (seen g v (values_in c i) value);
       }
 
   -- and none is left where none is given
-  pub all_heard : IsEnding number c w → ChainSteps (ends_in number c) (values_in c) w None on
-      → sum (map (length_at c) (left_over number c w)) ≡ 0
-  all_heard ends step = ap (λ l. sum (map (length_at c) l)) (left-none number c w on ends step)
+  pub all_heard : IsEnding c w → ChainSteps (ends_in c) (values_in c) w None on
+      → sum (map (length_at c) (left_over c w)) ≡ 0
+  all_heard ends step = ap (λ l. sum (map (length_at c) l)) (left-none c w on ends step)

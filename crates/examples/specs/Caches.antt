@@ -14,16 +14,16 @@ abbrev pub kind_for : {P I : Type 0} → Option P → InsertKind P I
 kind_for None = SingleLinkCyclic
 kind_for (Some latest) = PrevTo latest
 
-module _ {P I T : Type 0} (index generation : P → ℕ) (number : I → ℕ) where
+module _ {P T : Type 0} (index generation : P → ℕ) where
   -- these are the entries by their last use, the latest first: a ring, read from the latest on
-  pub record AreByUse (links : Content (IndexLink I T)) (latest : Option P) (uses : List ℕ)
+  pub record AreByUse (links : Content (IndexLink T)) (latest : Option P) (uses : List ℕ)
       : Type 0 where
     pub first : option_map index latest ≡ first_or uses None
     pub live : IfSome latest
         (λ p. generation_at (values_in links) (index p) ≡ Some (generation p))
-    pub ring : IsRing (ends_in number links) uses
+    pub ring : IsRing (ends_in links) uses
     pub all : (i : ℕ) → IsSome (values_in links i) → On uses i
 
   -- the entries have such an order
-  abbrev pub IsCache : Content (IndexLink I T) → Option P → Type 0
+  abbrev pub IsCache : Content (IndexLink T) → Option P → Type 0
   IsCache links latest = (uses : List ℕ) × AreByUse links latest uses

@@ -12,7 +12,7 @@ length_of None = 0
 length_of (Some song) = song.1
 
 -- the length of the song at an index, or 0 where there is none
-abbrev pub length_at : {I : Type 0} → Content (IndexLink I ℕ) → ℕ → ℕ
+abbrev pub length_at : Content (IndexLink ℕ) → ℕ → ℕ
 length_at c i = length_of (values_in c i)
 
 -- the song at `p` stands directly after `q` now, as `n`

@@ -29,8 +29,7 @@ impl<P: PtrCore, T: Drop, S: ChainSlots<P, T>> Cache<P, T, S> {
     /// A cache without an entry, with room for so many. It returns `BeyondMaxCapacity` if no cache
     /// of this type has so much room, and `AllocError` if the memory was refused.
     pub fn new(alloc: S::Alloc, most: usize) -> Result<Self, ReallocationError>
-        ensures empty { IfOk result (λ c. AreByUse P.index P.generation P.Inx.number
-            c.entries c.latest []) }
+        ensures empty { IfOk result (λ c. AreByUse P.index P.generation c.entries c.latest []) }
         ensures fits { IfOk result (λ c. most ≤ arena_capacity c.entries) }
         ensures succeeds { most ≤ capacity_of (room_of P.Inx.greatest (S.room_at 0)) → IsOk result }
         ensures beyond { IsErrOf result ReallocationError.BeyondMaxCapacity
@@ -65,19 +64,17 @@ impl<P: PtrCore, T: Drop, S: ChainSlots<P, T>> Cache<P, T, S> {
     /// Puts an entry in as the one used last, and returns its pointer. It returns
     /// `NotWithinCapacity` if there is no room: `evict` makes some. The cache stays as it is then.
     pub fn add(&mut self, t: T) -> Result<P, ChainInsertionError>
-        requires { IsCache P.index P.generation P.Inx.number self.old.entries self.old.latest }
+        requires { IsCache P.index P.generation self.old.entries self.old.latest }
         ensures first { IfOk result (λ p. (uses : List ℕ)
-            → AreByUse P.index P.generation P.Inx.number self.old.entries self.old.latest uses
-            → AreByUse P.index P.generation P.Inx.number self.new.entries self.new.latest
-            (P.index p ∷ uses)) }
+            → AreByUse P.index P.generation self.old.entries self.old.latest uses
+            → AreByUse P.index P.generation self.new.entries self.new.latest (P.index p ∷ uses)) }
         ensures vacant { IfOk result (λ p. values_in self.old.entries (P.index p) ≡ None) }
         ensures added { IfOk result (λ p. (i : ℕ) → values_in self.new.entries i
             ≡ with_entry (values_in self.old.entries) (P.index p) (P.generation p, t) i) }
         ensures error { IfErr result (λ e. e ≡ ChainInsertionError.NotWithinCapacity) }
         ensures full { IsErrOf result ChainInsertionError.NotWithinCapacity
             ↔ (arena_capacity self.old.entries ≤ live_count self.old.entries) }
-        ensures cache { IsCache P.index P.generation P.Inx.number
-            self.new.entries self.new.latest }
+        ensures cache { IsCache P.index P.generation self.new.entries self.new.latest }
         ensures err { OnErr result (self.new ≡ self.old) }
     {
         let kind = self.kind();
@@ -89,17 +86,16 @@ impl<P: PtrCore, T: Drop, S: ChainSlots<P, T>> Cache<P, T, S> {
     /// The entry that `p` points to is used: it is the one used last from now on, under the same
     /// pointer. It returns `None`, and changes nothing, if `p` points to none.
     pub fn touch(&mut self, p: P) -> Option<()>
-        requires { IsCache P.index P.generation P.Inx.number self.old.entries self.old.latest }
+        requires { IsCache P.index P.generation self.old.entries self.old.latest }
         ensures variant { IsSome result
             ↔ IsSome (value_if (P.generation p) (values_in self.old.entries (P.index p))) }
         ensures first { OnSome result ((front back : List ℕ)
-            → AreByUse P.index P.generation P.Inx.number self.old.entries self.old.latest
+            → AreByUse P.index P.generation self.old.entries self.old.latest
             (front ++ P.index p ∷ back)
-            → AreByUse P.index P.generation P.Inx.number self.new.entries self.new.latest
+            → AreByUse P.index P.generation self.new.entries self.new.latest
             (P.index p ∷ front ++ back)) }
         ensures values { (i : ℕ) → values_in self.new.entries i ≡ values_in self.old.entries i }
-        ensures cache { IsCache P.index P.generation P.Inx.number
-            self.new.entries self.new.latest }
+        ensures cache { IsCache P.index P.generation self.new.entries self.new.latest }
         ensures none { IfNone result (self.new ≡ self.old) }
     {
         let latest = self.latest?;
@@ -129,18 +125,16 @@ impl<P: PtrCore, T: Drop, S: ChainSlots<P, T>> Cache<P, T, S> {
 
     /// Takes the entry out that was used longest ago, with its pointer. `None` if there is none.
     pub fn evict(&mut self) -> Option<(P, T)>
-        requires { IsCache P.index P.generation P.Inx.number self.old.entries self.old.latest }
+        requires { IsCache P.index P.generation self.old.entries self.old.latest }
         ensures oldest { IfSome result (λ e. (front : List ℕ) (i : ℕ)
-            → AreByUse P.index P.generation P.Inx.number self.old.entries self.old.latest
-            (front ++ i ∷ [])
-            → (i ≡ P.index e.0) × AreByUse P.index P.generation P.Inx.number
+            → AreByUse P.index P.generation self.old.entries self.old.latest (front ++ i ∷ [])
+            → (i ≡ P.index e.0) × AreByUse P.index P.generation
             self.new.entries self.new.latest front) }
         ensures entry { IfSome result
             (λ e. values_in self.old.entries (P.index e.0) ≡ Some (P.generation e.0, e.1)) }
         ensures gone { IfSome result (λ e. (i : ℕ) → values_in self.new.entries i
             ≡ without (values_in self.old.entries) (P.index e.0) i) }
-        ensures cache { IsCache P.index P.generation P.Inx.number
-            self.new.entries self.new.latest }
+        ensures cache { IsCache P.index P.generation self.new.entries self.new.latest }
         ensures none { IfNone result (((i : ℕ) → values_in self.old.entries i ≡ None)
             × (self.new ≡ self.old)) }
     {

@@ -36,13 +36,13 @@ pub fn add_after<P: PtrCore, T: Drop, S: ChainSlots<P, T>>(
     ensures song { IfOk result (λ q. (j : ℕ) → values_in songs.new j
         ≡ with_entry (values_in songs.old) (P.index q) (P.generation q, song) j) }
     ensures linear { IfOk result (λ q. (before after : List ℕ)
-        → IsLinear (ends_in P.Inx.number songs.old) (before ++ P.index p ∷ after)
-        → IsLinear (ends_in P.Inx.number songs.new) (before ++ (P.index p ∷ P.index q ∷ after))) }
+        → IsLinear (ends_in songs.old) (before ++ P.index p ∷ after)
+        → IsLinear (ends_in songs.new) (before ++ (P.index p ∷ P.index q ∷ after))) }
     ensures ring { IfOk result (λ q. (after : List ℕ)
-        → IsRing (ends_in P.Inx.number songs.old) (P.index p ∷ after)
-        → IsRing (ends_in P.Inx.number songs.new) (P.index p ∷ P.index q ∷ after)) }
-    ensures others { (c : Chain) → IsChainOf (ends_in P.Inx.number songs.old) c
-        → Off (members c) (P.index p) → IsChainOf (ends_in P.Inx.number songs.new) c }
+        → IsRing (ends_in songs.old) (P.index p ∷ after)
+        → IsRing (ends_in songs.new) (P.index p ∷ P.index q ∷ after)) }
+    ensures others { (c : Chain) → IsChainOf (ends_in songs.old) c
+        → Off (members c) (P.index p) → IsChainOf (ends_in songs.new) c }
     ensures counter { songs.new.counter ≡ songs.old.counter }
     ensures room { songs.new.room ≡ songs.old.room }
     ensures err { OnErr result (songs.new ≡ songs.old) }
@@ -63,8 +63,8 @@ pub fn move_after<P: Ptr, T: Drop, S: ChainSlots<P, T>>(
     ensures variant { IsSome result ↔ (IsSome (get songs.old (P.index p) (P.generation p))
         × IsSome (get songs.old (P.index q) (P.generation q)) × (P.index p ≢ P.index q)) }
     ensures moved { IfSome result (λ n. IsMoved (P.index p) (P.index q) (P.index n)
-        (ends_in P.Inx.number songs.old) (ends_in P.Inx.number songs.new)) }
-    ensures songs { IfSome result (λ n. (link : IndexLink P.Inx T)
+        (ends_in songs.old) (ends_in songs.new)) }
+    ensures songs { IfSome result (λ n. (link : IndexLink T)
         → get songs.old (P.index p) (P.generation p) ≡ Some link → (j : ℕ) → values_in songs.new j
         ≡ with_entry (without (values_in songs.old) (P.index p)) (P.index n)
         (P.generation n, link.t) j) }
@@ -95,24 +95,22 @@ pub fn reverse_pair<P: PtrCore, T: Drop, S: ChainSlots<P, T>>(
     p: P,
 ) -> Option<()>
     ensures variant { IsSome result
-        ↔ ((next_in (ends_found P.Inx.number songs.old (P.index before) (P.generation before))
+        ↔ ((next_in (ends_found songs.old (P.index before) (P.generation before))
         ≡ Some (P.index p))
-        × IsSome (next_in (ends_found P.Inx.number songs.old (P.index p) (P.generation p)))) }
+        × IsSome (next_in (ends_found songs.old (P.index p) (P.generation p)))) }
     ensures linear { OnSome result ((front rest : List ℕ) (q : ℕ)
-        → IsLinear (ends_in P.Inx.number songs.old)
-        (front ++ (P.index before ∷ P.index p ∷ q ∷ rest))
-        → IsLinear (ends_in P.Inx.number songs.new)
-        (front ++ (P.index before ∷ q ∷ P.index p ∷ rest))) }
+        → IsLinear (ends_in songs.old) (front ++ (P.index before ∷ P.index p ∷ q ∷ rest))
+        → IsLinear (ends_in songs.new) (front ++ (P.index before ∷ q ∷ P.index p ∷ rest))) }
     ensures ring { OnSome result ((rest : List ℕ) (q : ℕ)
-        → IsRing (ends_in P.Inx.number songs.old) (P.index before ∷ P.index p ∷ q ∷ rest)
-        → IsRing (ends_in P.Inx.number songs.new) (P.index before ∷ q ∷ P.index p ∷ rest)) }
+        → IsRing (ends_in songs.old) (P.index before ∷ P.index p ∷ q ∷ rest)
+        → IsRing (ends_in songs.new) (P.index before ∷ q ∷ P.index p ∷ rest)) }
     ensures ring_of_two { OnSome result
-        (IsRing (ends_in P.Inx.number songs.old) (P.index before ∷ P.index p ∷ [])
-        → IsRing (ends_in P.Inx.number songs.new) (P.index before ∷ P.index p ∷ [])) }
-    ensures alone { OnSome result (IsRing (ends_in P.Inx.number songs.old) (P.index p ∷ [])
-        → IsRing (ends_in P.Inx.number songs.new) (P.index p ∷ [])) }
-    ensures others { OnSome result ((c : Chain) → IsChainOf (ends_in P.Inx.number songs.old) c
-        → Off (members c) (P.index p) → IsChainOf (ends_in P.Inx.number songs.new) c) }
+        (IsRing (ends_in songs.old) (P.index before ∷ P.index p ∷ [])
+        → IsRing (ends_in songs.new) (P.index before ∷ P.index p ∷ [])) }
+    ensures alone { OnSome result (IsRing (ends_in songs.old) (P.index p ∷ [])
+        → IsRing (ends_in songs.new) (P.index p ∷ [])) }
+    ensures others { OnSome result ((c : Chain) → IsChainOf (ends_in songs.old) c
+        → Off (members c) (P.index p) → IsChainOf (ends_in songs.new) c) }
     ensures songs { OnSome result ((j : ℕ) → values_in songs.new j ≡ values_in songs.old j) }
     ensures none { IfNone result (songs.new ≡ songs.old) }
 {
@@ -138,7 +136,7 @@ pub fn play_from<P: PtrCore, A: ChainArenaTrait<P, u64>>(songs: &A, p: P) -> Opt
     ensures variant { IsSome result
         ↔ IsSome (get (A.links songs.now) (P.index p) (P.generation p)) }
     ensures total { IfSome result (λ total. (walk : List ℕ)
-        × IsWalkFrom (ends_in P.Inx.number (A.links songs.now)) (P.index p) walk
+        × IsWalkFrom (ends_in (A.links songs.now)) (P.index p) walk
         × (total ≡ sum (list_map (length_at (A.links songs.now)) walk) % 2 ^ 64)) }
 {
     let mut player = songs.advancer_chain(p)?;

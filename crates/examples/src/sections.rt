@@ -16,8 +16,8 @@ use triple_arena_chain::{ChainArena, ChainSlots};
 pub fn number_paragraphs<P: PtrCore, T: Drop, S: ChainSlots<P, T>>(
     document: &mut ChainArena<P, T, S>,
 )
-    ensures sections { (section : List ℕ) → IsLinear (ends_in P.Inx.number document.old) section
-        → (first : ℕ) × IsRunFrom P.Inx.number first section document.old document.new }
+    ensures sections { (section : List ℕ) → IsLinear (ends_in document.old) section
+        → (first : ℕ) × IsRunFrom first section document.old document.new }
     ensures paragraphs { live_count document.new ≡ live_count document.old }
     ensures counter { document.new.counter ≡ next_generation P.Gen.last document.old.counter }
     ensures room { document.new.room ≡ document.old.room }

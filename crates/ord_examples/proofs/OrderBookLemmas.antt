@@ -115,8 +115,8 @@ not_less x y never = by (nat_cmp x y) refl
     by Greater is = omega (arith, ranked x y Greater is)
 
 -- where a bound parts the entries, it parts the list of their indexes
-module _ {I T P : Type 0} (number : I → ℕ) (index generation : P → ℕ) (B : T → Type 0)
-    (o : Ordered I T) where
+module _ {T P : Type 0} (index generation : P → ℕ) (B : T → Type 0)
+    (o : Ordered T) where
   abbrev listed : List ℕ → List (ℕ × (ℕ × T))
   listed w = entries_at o w
 
@@ -129,7 +129,7 @@ module _ {I T P : Type 0} (number : I → ℕ) (index generation : P → ℕ) (B
   pub record IsParted (r : Option P) : Type 0 where
     pub low : List ℕ
     pub high : List ℕ
-    pub is : order_in number o ≡ low ++ high
+    pub is : order_in o ≡ low ++ high
     pub below : AllIn (λ j. (e : ℕ × T) → entry_in o j ≡ Some e → B e.1) low
     pub above : AllIn (λ j. (e : ℕ × T) → entry_in o j ≡ Some e → B e.1 → ⊥) high
     pub first : first_or high None ≡ option_map index r
@@ -204,10 +204,10 @@ module _ {I T P : Type 0} (number : I → ℕ) (index generation : P → ℕ) (B
       by None at some = absurd (cc)
       by (Some a) at some = rw at refl
 
-  pub parted : (r : Option P) → Lives (order_in number o) → IsBound number index generation B r o
+  pub parted : (r : Option P) → Lives (order_in o) → IsBound index generation B r o
       → IsParted r
   parted r lives bound =
-      let s = split (order_in number o) lives bound.low bound.high bound.is in
+      let s = split (order_in o) lives bound.low bound.high bound.is in
       record {
         low = s.front;
         high = s.back;
@@ -231,31 +231,31 @@ module _ {I T P : Type 0} (number : I → ℕ) (index generation : P → ℕ) (B
       indexes (Some p) = refl
 
 -- each index of the list is live
-module _ {I T : Type 0} (number : I → ℕ) (o : Ordered I T) where
-  lives_in : (b : Option ℕ) (w : List ℕ) → Stands (ends_in number o.chains) b w None
+module _ {T : Type 0} (o : Ordered T) where
+  lives_in : (b : Option ℕ) (w : List ℕ) → Stands (ends_in o.chains) b w None
       → AllIn (λ j. IsSome (entry_in o j)) w
   lives_in b [] s = tt
   lives_in b (i ∷ w) s = (by (entry_at o.chains i) s.0, lives_in (Some i) w s.1)
     where
-      by : (e : Option (ℕ × IndexLink I (IndexNode I T)))
-          → option_map (entry_ends number) e ≡ Some (b, first_or w None)
+      by : (e : Option (ℕ × IndexLink (IndexNode T)))
+          → option_map entry_ends e ≡ Some (b, first_or w None)
           → IsSome (option_map itemed (option_map valued e))
       by None is = absurd (cc)
       by (Some e) is = refl
 
-  pub all_live : IsOrdered number o → AllIn (λ j. IsSome (entry_in o j)) (order_in number o)
-  all_live is = lives_in None (order_in number o) is.linear
+  pub all_live : IsOrdered o → AllIn (λ j. IsSome (entry_in o j)) (order_in o)
+  all_live is = lives_in None (order_in o) is.linear
 
-  pub once : IsOrdered number o → Apart (order_in number o)
-  once is = linear_apart (ends_in number o.chains) None (order_in number o) is.linear
+  pub once : IsOrdered o → Apart (order_in o)
+  once is = linear_apart (ends_in o.chains) None (order_in o) is.linear
 
 module _ {V : Type 0} where
   -- the key of a pair
   abbrev pub price_of : OrdPair ℕ V → ℕ
   price_of pair = pair.k
 
-module _ {I V : Type 0} where
-  price_there : (o : Ordered I (OrdPair ℕ V)) (price i : ℕ) → price_in o i ≡ Some price
+module _ {V : Type 0} where
+  price_there : (o : Ordered (OrdPair ℕ V)) (price i : ℕ) → price_in o i ≡ Some price
       → IsSome (entry_in o i)
   price_there o price i = by (entry_in o i)
     where
@@ -265,7 +265,7 @@ module _ {I V : Type 0} where
       by (Some e) is = refl
 
   -- the price of an entry
-  price_is : (o : Ordered I (OrdPair ℕ V)) (j price : ℕ) → price_in o j ≡ Some price
+  price_is : (o : Ordered (OrdPair ℕ V)) (j price : ℕ) → price_in o j ≡ Some price
       → (e : ℕ × OrdPair ℕ V) × (entry_in o j ≡ Some e) × (e.1.k ≡ price)
   price_is o j price is = by (entry_in o j) refl
     where
@@ -282,7 +282,7 @@ module _ {I V : Type 0} where
 
   -- what is said of entries, said of prices
   prices_in : (Q : OrdPair ℕ V → Type 0) (R : ℕ → Type 0) → ((t : OrdPair ℕ V) → Q t → R t.k)
-      → (o : Ordered I (OrdPair ℕ V)) (w : List ℕ)
+      → (o : Ordered (OrdPair ℕ V)) (w : List ℕ)
       → AllIn (λ j. (e : ℕ × OrdPair ℕ V) → entry_in o j ≡ Some e → Q e.1) w → AllPrices R o w
   prices_in Q R so o = weaker (λ j. (e : ℕ × OrdPair ℕ V) → entry_in o j ≡ Some e → Q e.1)
       (λ j. (price : ℕ) → price_in o j ≡ Some price → R price)
@@ -292,7 +292,7 @@ module _ {I V : Type 0} where
   -- what was asked of each, said of prices
   asked_prices : (d : Ordering) (own : ℕ) (R : ℕ → Type 0)
       → ((other : ℕ) → nat_cmp own other ≢ d → R other)
-      → (o : Ordered I (OrdPair ℕ V)) (w : List ℕ)
+      → (o : Ordered (OrdPair ℕ V)) (w : List ℕ)
       → AllIn (λ j. asked_at nat_cmp price_of own o j ≢ d) w → AllPrices R o w
   asked_prices d own R so o = weaker (λ j. asked_at nat_cmp price_of own o j ≢ d)
       (λ j. (price : ℕ) → price_in o j ≡ Some price → R price)
@@ -302,7 +302,7 @@ module _ {I V : Type 0} where
   -- and the other way round
   prices_asked : (d : Ordering) (own : ℕ) (R : ℕ → Type 0)
       → (d ≢ Equal) → ((other : ℕ) → R other → nat_cmp own other ≢ d)
-      → (o : Ordered I (OrdPair ℕ V)) (w : List ℕ) → AllPrices R o w
+      → (o : Ordered (OrdPair ℕ V)) (w : List ℕ) → AllPrices R o w
       → AllIn (λ j. asked_at nat_cmp price_of own o j ≢ d) w
   prices_asked d own R turns so o = weaker (λ j. (price : ℕ) → price_in o j ≡ Some price → R price)
       (λ j. asked_at nat_cmp price_of own o j ≢ d)
@@ -314,7 +314,7 @@ module _ {I V : Type 0} where
       by None all = λ same. turns (sym same)
       by (Some e) all = so e.1.k (all e.1.k refl)
 
-  live_entry : (o : Ordered I (OrdPair ℕ V)) (i : ℕ) → IsSome (entry_in o i)
+  live_entry : (o : Ordered (OrdPair ℕ V)) (i : ℕ) → IsSome (entry_in o i)
       → (e : ℕ × OrdPair ℕ V) × (entry_in o i ≡ Some e)
   live_entry o i = by (entry_in o i) refl
     where
@@ -332,14 +332,14 @@ above x y never = by (nat_cmp x y) refl
     by Equal is = absurd (never (λ e. let z : Less ≡ Equal = sym e ∙ is in cc))
     by Greater is = absurd (never (λ e. let z : Less ≡ Greater = sym e ∙ is in cc))
 
-module _ {I V P : Type 0} (number : I → ℕ) (index generation : P → ℕ)
-    (o : Ordered I (OrdPair ℕ V)) where
+module _ {V P : Type 0} (index generation : P → ℕ)
+    (o : Ordered (OrdPair ℕ V)) where
   module _ (price : ℕ) where
     abbrev NotAbove : OrdPair ℕ V → Type 0
     NotAbove t = nat_cmp price t.k ≢ Less
 
-    behind : (r : Option P) (p : IsParted number index generation NotAbove o r) (w : List ℕ) (i : ℕ)
-        → w ≡ p.low ++ i ∷ p.high → IsBehind o price i (order_in number o) w
+    behind : (r : Option P) (p : IsParted index generation NotAbove o r) (w : List ℕ) (i : ℕ)
+        → w ≡ p.low ++ i ∷ p.high → IsBehind o price i (order_in o) w
     behind r p w i is = record {
       before = p.low;
       after = p.high;
@@ -351,53 +351,53 @@ module _ {I V P : Type 0} (number : I → ℕ) (index generation : P → ℕ)
           (λ t never. above price t.k never) o p.high p.above;
     }
 
-    at_bound : IsOrdered number o → (r : Option P) → IsBound number index generation NotAbove r o
-        → IsParted number index generation NotAbove o r
+    at_bound : IsOrdered o → (r : Option P) → IsBound index generation NotAbove r o
+        → IsParted index generation NotAbove o r
     at_bound ordered r bound =
-        parted number index generation NotAbove o r (all_live number o ordered) bound
+        parted index generation NotAbove o r (all_live o ordered) bound
 
     -- directly before the first with a greater price
-    pub behind_next : IsOrdered number o → (r : Option P)
-        → IsBound number index generation NotAbove r o → (next : P) → r ≡ Some next
+    pub behind_next : IsOrdered o → (r : Option P)
+        → IsBound index generation NotAbove r o → (next : P) → r ≡ Some next
         → (h : ℕ) → h ≡ index next → (w : List ℕ) (i : ℕ)
-        → StandsAt (Some (h, Less)) (order_in number o) w i
-        → IsBehind o price i (order_in number o) w
+        → StandsAt (Some (h, Less)) (order_in o) w i
+        → IsBehind o price i (order_in o) w
     behind_next ordered r bound next is h at w i s =
         let p = at_bound ordered r bound in
         let high = starts p.high (index next) (p.first ∙ ap (option_map index) is) in
-        let here : order_in number o ≡ p.low ++ h ∷ high.0 =
+        let here : order_in o ≡ p.low ++ h ∷ high.0 =
         p.is ∙ ap (λ l. p.low ++ l) high.1 ∙ ap (λ z. p.low ++ z ∷ high.0) (sym at) in
         let parts = parts_once s.before h s.after p.low high.0
-        (subst Apart s.was (once number o ordered)) (sym s.was ∙ here) in
+        (subst Apart s.was (once o ordered)) (sym s.was ∙ here) in
         behind r p w i
         (s.is ∙ ap (λ l. l ++ i ∷ h ∷ s.after) parts.0 ∙ ap (λ l. p.low ++ i ∷ h ∷ l) parts.1
         ∙ ap (λ z. p.low ++ i ∷ z ∷ high.0) at ∙ ap (λ l. p.low ++ i ∷ l) (sym high.1))
 
     -- behind the last, where none has a greater price
-    pub behind_last : IsOrdered number o → (r : Option P)
-        → IsBound number index generation NotAbove r o → r ≡ None
-        → (h : ℕ) → last_or None (order_in number o) ≡ Some h → (w : List ℕ) (i : ℕ)
-        → StandsAt (Some (h, Greater)) (order_in number o) w i
-        → IsBehind o price i (order_in number o) w
+    pub behind_last : IsOrdered o → (r : Option P)
+        → IsBound index generation NotAbove r o → r ≡ None
+        → (h : ℕ) → last_or None (order_in o) ≡ Some h → (w : List ℕ) (i : ℕ)
+        → StandsAt (Some (h, Greater)) (order_in o) w i
+        → IsBehind o price i (order_in o) w
     behind_last ordered r bound is h at w i s =
         let p = at_bound ordered r bound in
         let none = no_first p.high (p.first ∙ ap (option_map index) is) in
-        let e = ends (order_in number o) h at in
+        let e = ends (order_in o) h at in
         let parts = parts_once s.before h s.after e.0 []
-        (subst Apart s.was (once number o ordered)) (sym s.was ∙ e.1) in
-        let whole : s.before ++ h ∷ [] ≡ order_in number o =
+        (subst Apart s.was (once o ordered)) (sym s.was ∙ e.1) in
+        let whole : s.before ++ h ∷ [] ≡ order_in o =
         ap (λ l. s.before ++ h ∷ l) (sym parts.1) ∙ sym s.was in
-        let low : order_in number o ≡ p.low =
+        let low : order_in o ≡ p.low =
         p.is ∙ ap (λ l. p.low ++ l) none ∙ append_none p.low in
         behind r p w i
         (s.is ∙ ap (λ l. s.before ++ h ∷ i ∷ l) parts.1 ∙ regroup s.before h i
         ∙ ap (λ l. l ++ i ∷ []) (whole ∙ low) ∙ ap (λ l. p.low ++ i ∷ l) (sym none))
 
     -- alone
-    pub behind_none : IsOrdered number o → (r : Option P)
-        → IsBound number index generation NotAbove r o
-        → (w : List ℕ) (i : ℕ) → StandsAt None (order_in number o) w i
-        → IsBehind o price i (order_in number o) w
+    pub behind_none : IsOrdered o → (r : Option P)
+        → IsBound index generation NotAbove r o
+        → (w : List ℕ) (i : ℕ) → StandsAt None (order_in o) w i
+        → IsBehind o price i (order_in o) w
     behind_none ordered r bound w i s =
         let p = at_bound ordered r bound in
         let none = none_left p.low p.high (sym p.is ∙ s.0) in
@@ -418,17 +418,17 @@ module _ {I V P : Type 0} (number : I → ℕ) (index generation : P → ℕ)
         omega (arith, least, less)) o
 
   -- the first of the list
-  pub best_ask_of : IsOrdered number o → (r : Option P)
-      → option_map index r ≡ first_or (order_in number o) None
-      → ((back : List ℕ) (i : ℕ) (entry : ℕ × OrdPair ℕ V) → order_in number o ≡ i ∷ back
+  pub best_ask_of : IsOrdered o → (r : Option P)
+      → option_map index r ≡ first_or (order_in o) None
+      → ((back : List ℕ) (i : ℕ) (entry : ℕ × OrdPair ℕ V) → order_in o ≡ i ∷ back
       → entry_in o i ≡ Some entry
       → AllIn (λ k. asked_at nat_cmp price_of entry.1.k o k ≢ Greater) back)
-      → IfSome r (λ p. IsBestAsk number o (index p))
+      → IfSome r (λ p. IsBestAsk o (index p))
   best_ask_of ordered None at after = tt
   best_ask_of ordered (Some p) at after =
-      let first = starts (order_in number o) (index p) (sym at) in
+      let first = starts (order_in o) (index p) (sym at) in
       let e = live_entry o (index p)
-      (subst (AllIn (λ j. IsSome (entry_in o j))) first.1 (all_live number o ordered)).0 in
+      (subst (AllIn (λ j. IsSome (entry_in o j))) first.1 (all_live o ordered)).0 in
       record {
         own = e.0.1.k;
         later = first.0;
@@ -443,28 +443,28 @@ module _ {I V P : Type 0} (number : I → ℕ) (index generation : P → ℕ)
   pub record BestBid (r : Option P) : Type 0 where
     pub pointer : P
     pub is : r ≡ Some pointer
-    pub best : IsBestBid number o (index pointer)
+    pub best : IsBestBid o (index pointer)
 
-  pub bid_if : (r : Option P) → BestBid r → IfSome r (λ p. IsBestBid number o (index p))
+  pub bid_if : (r : Option P) → BestBid r → IfSome r (λ p. IsBestBid o (index p))
   bid_if None bid = absurd (let z = bid.is in cc)
   bid_if (Some p) bid =
-      subst (λ q. IsBestBid number o (index q)) (some_is bid.pointer p (sym bid.is)) bid.best
+      subst (λ q. IsBestBid o (index q)) (some_is bid.pointer p (sym bid.is)) bid.best
 
   pub bid_unless : (r : Option P) → BestBid r → (Q : Type 0) → IfNone r Q
   bid_unless None bid Q = absurd (let z = bid.is in cc)
   bid_unless (Some p) bid Q = tt
 
-  module _ (ordered : IsOrdered number o) (last own : ℕ)
-      (at : last_or None (order_in number o) ≡ Some last) (price : price_in o last ≡ Some own)
+  module _ (ordered : IsOrdered o) (last own : ℕ)
+      (at : last_or None (order_in o) ≡ Some last) (price : price_in o last ≡ Some own)
       (before : (front back : List ℕ) (i : ℕ) (entry : ℕ × OrdPair ℕ V)
-      → order_in number o ≡ front ++ i ∷ back → entry_in o i ≡ Some entry
+      → order_in o ≡ front ++ i ∷ back → entry_in o i ≡ Some entry
       → AllIn (λ k. asked_at nat_cmp price_of entry.1.k o k ≢ Less) front) where
     abbrev Lower : OrdPair ℕ V → Type 0
     Lower t = nat_cmp own t.k ≡ Greater
 
-    most : AllPrices (λ other. other ≤ own) o (order_in number o)
+    most : AllPrices (λ other. other ≤ own) o (order_in o)
     most =
-        let e = ends (order_in number o) last at in
+        let e = ends (order_in o) last at in
         let entry = price_is o last own price in
         let front = asked_prices Less entry.0.1.k (λ other. other ≤ own)
         (λ other never. subst (λ z. other ≤ z) entry.2 (not_less entry.0.1.k other never)) o e.0
@@ -473,11 +473,11 @@ module _ {I V P : Type 0} (number : I → ℕ) (index generation : P → ℕ)
         (joined (λ j. (other : ℕ) → price_in o j ≡ Some other → other ≤ own) e.0 (last ∷ []) front
         ((λ other there. omega (arith, some_is own other (sym price ∙ there))), tt))
 
-    pub best_bid_of : (r : Option P) → IsBound number index generation Lower r o → BestBid r
+    pub best_bid_of : (r : Option P) → IsBound index generation Lower r o → BestBid r
     best_bid_of r bound = by r p.high refl p.first
       where
-        p : IsParted number index generation Lower o r
-        p = parted number index generation Lower o r (all_live number o ordered) bound
+        p : IsParted index generation Lower o r
+        p = parted index generation Lower o r (all_live o ordered) bound
 
         less : AllPrices (λ other. other < own) o p.low
         less = prices_in Lower (λ other. other < own) (λ t is. ranked own t.k Greater (sym is)) o
@@ -495,14 +495,14 @@ module _ {I V P : Type 0} (number : I → ℕ) (index generation : P → ℕ)
 
         lives : AllIn (λ j. IsSome (entry_in o j)) p.high
         lives = later (λ j. IsSome (entry_in o j)) p.low p.high
-            (subst (AllIn (λ j. IsSome (entry_in o j))) p.is (all_live number o ordered))
+            (subst (AllIn (λ j. IsSome (entry_in o j))) p.is (all_live o ordered))
 
         by : (q : Option P) (w : List ℕ) → p.high ≡ w → first_or p.high None ≡ option_map index q
             → BestBid q
         by q [] none first =
-            let low : order_in number o ≡ p.low =
+            let low : order_in o ≡ p.low =
             p.is ∙ ap (λ l. p.low ++ l) none ∙ append_none p.low in
-            let e = ends (order_in number o) last at in
+            let e = ends (order_in o) last at in
             let here =
             at_of (λ j. (other : ℕ) → price_in o j ≡ Some other → other < own) e.0 last []
             (subst (AllPrices (λ other. other < own) o) (sym low ∙ e.1) less) own price in
@@ -534,20 +534,20 @@ module _ {I V P : Type 0} (number : I → ℕ) (index generation : P → ℕ)
 
   -- what a step leaves of a walk
   pub stepped : (before after : OrderedWalk) (given : Option P) (i : ℕ) (rest : List ℕ)
-      → OrderedSteps number o before (option_map (λ p. (index p, generation p)) given) after
-      → left_over number o before ≡ i ∷ rest → left_over number o after ≡ rest
+      → OrderedSteps o before (option_map (λ p. (index p, generation p)) given) after
+      → left_over o before ≡ i ∷ rest → left_over o after ≡ rest
   stepped before after None i rest over is =
       absurd (let none : i ∷ rest ≡ [] = sym is ∙ over.left in cc)
   stepped before after (Some p) i rest given is =
-      sym (tail_is i (index p) rest (left_over number o after) (sym is ∙ given.left))
+      sym (tail_is i (index p) rest (left_over o after) (sym is ∙ given.left))
 
   -- what the step after that of an order gives
   pub next_given : (Valid : Type 0) → (front back : List ℕ) (i : ℕ)
-      → order_in number o ≡ front ++ i ∷ back
+      → order_in o ≡ front ++ i ∷ back
       → (before after : OrderedWalk) (given : Option P)
-      → OrderedSteps number o before (option_map (λ p. (index p, generation p)) given) after
-      → left_over number o before ≡ back
-      → IfSome given (λ q. IsNext number o i (index q)) × IfNone given (Valid → IsLast number o i)
+      → OrderedSteps o before (option_map (λ p. (index p, generation p)) given) after
+      → left_over o before ≡ back
+      → IfSome given (λ q. IsNext o i (index q)) × IfNone given (Valid → IsLast o i)
   next_given Valid front back i is before after None over left = (
     tt,
     λ valid. record {
@@ -558,7 +558,7 @@ module _ {I V P : Type 0} (number : I → ℕ) (index generation : P → ℕ)
   next_given Valid front back i is before after (Some q) given left = (
     record {
       before = front;
-      after = left_over number o after;
+      after = left_over o after;
       is = is ∙ ap (λ l. front ++ i ∷ l) (sym left ∙ given.left);
     },
     tt,

@@ -30,7 +30,7 @@ pub fn count<P: PtrCore, T: Drop, S: OrdSlots<P, T>>(arena: SimpleOrdArena<P, T,
 
 /// The sum of the values. Past the greatest number it goes on from 0.
 pub fn sum<P: PtrCore, S: OrdSlots<P, u64>>(arena: SimpleOrdArena<P, u64, S>) -> u64
-    ensures { result ≡ sum_of (list_map value_of (ordered_entries P.Inx.number arena)) % 2 ^ 64 }
+    ensures { result ≡ sum_of (list_map value_of (ordered_entries arena)) % 2 ^ 64 }
 {
     let mut total = 0u64;
     for (_, value) in arena {
@@ -41,8 +41,7 @@ pub fn sum<P: PtrCore, S: OrdSlots<P, u64>>(arena: SimpleOrdArena<P, u64, S>) ->
 
 /// The same, on the heap, by a `for` of its own.
 pub fn sum_on_heap(arena: HeapOrdArena<P0, u64, Global>) -> u64
-    ensures { result ≡ sum_of
-        (list_map value_of (ordered_entries non_zero_usize_get arena)) % 2 ^ 64 }
+    ensures { result ≡ sum_of (list_map value_of (ordered_entries arena)) % 2 ^ 64 }
 {
     let mut total = 0u64;
     for (_, value) in arena {
@@ -56,10 +55,9 @@ pub fn find<P: PtrCore, S: OrdSlots<P, u64>>(
     arena: SimpleOrdArena<P, u64, S>,
     least: u64,
 ) -> Option<(P, u64)>
-    ensures none { IfNone result
-        (All (λ e. value_of e < least) (ordered_entries P.Inx.number arena)) }
+    ensures none { IfNone result (All (λ e. value_of e < least) (ordered_entries arena)) }
     ensures some { IfSome result (λ e. (least ≤ e.1)
-        × Contains (ordered_entries P.Inx.number arena) (P.index e.0, (P.generation e.0, e.1))) }
+        × Contains (ordered_entries arena) (P.index e.0, (P.generation e.0, e.1))) }
 {
     for (p, value) in arena {
         if value >= least {
@@ -73,8 +71,8 @@ pub fn find<P: PtrCore, S: OrdSlots<P, u64>>(
 pub fn first<P: PtrCore, T: Drop, S: OrdSlots<P, T>>(
     arena: SimpleOrdArena<P, T, S>,
 ) -> Option<(P, T)>
-    ensures none { IfNone result (ordered_entries P.Inx.number arena ≡ []) }
-    ensures some { IfSome result (λ e. Contains (ordered_entries P.Inx.number arena)
+    ensures none { IfNone result (ordered_entries arena ≡ []) }
+    ensures some { IfSome result (λ e. Contains (ordered_entries arena)
         (P.index e.0, (P.generation e.0, e.1))) }
 {
     let mut entries = arena.into_iter();
@@ -89,7 +87,7 @@ pub fn listed<P: PtrCore, T: Drop, S: OrdSlots<P, T>, A: Allocator>(
     alloc: A,
 ) -> Result<Vec<(P, T), A>, AllocError>
     ensures { IfOk result (λ v. list_map (λ e. (P.index e.0, (P.generation e.0, e.1))) v.items
-        ≡ ordered_entries P.Inx.number arena) }
+        ≡ ordered_entries arena) }
 {
     let mut entries = Vec::new(alloc);
     for entry in arena {
@@ -103,7 +101,7 @@ pub fn sorted<P: PtrCore, T: SimpleOrdItem + Drop, S: OrdSlots<P, T>, A: Allocat
     arena: SimpleOrdArena<P, T, S>,
     alloc: A,
 ) -> Result<Vec<(P, T), A>, AllocError>
-    requires { IsAscending P.Inx.number T.Key.cmp T.key_of arena }
+    requires { IsAscending T.Key.cmp T.key_of arena }
     ensures { IfOk result
         (λ v. IsSorted {X = ℕ × (ℕ × T)} (λ x y. T.Key.cmp (T.key_of x.1.1) (T.key_of y.1.1))
         (list_map (λ e. (P.index e.0, (P.generation e.0, e.1))) v.items)) }

@@ -43,7 +43,7 @@ pub fn open_book<P: PtrCore, V: Drop, S: NonZeroInxGenericStack<Item = OrderSlot
     ensures beyond { IsErrOf result ReallocationError.BeyondMaxCapacity
         ↔ IsBeyond (room_of P.Inx.greatest (S.room_at orders)).limit orders }
     ensures memory { IsErrOf result ReallocationError.AllocError → IsTrue S.takes_memory }
-    ensures book { IfOk result (λ book. IsBook P.Inx.number book) }
+    ensures book { IfOk result (λ book. IsBook book) }
 {
     SimpleOrdArena::with_min_capacity(alloc, orders)
 }
@@ -53,15 +53,15 @@ fn place_behind<P: PtrCore, V: Drop, S: NonZeroInxGenericStack<Item = OrderSlot<
     book: &OrderBook<P, V, S>,
     price: u64,
 ) -> Option<(P::Inx, Ordering)>
-    requires { IsBook P.Inx.number book.now }
+    requires { IsBook book.now }
     ensures live { IfSome result (λ a. IsSome (entry_in book.now (P.Inx.number a.0))) }
     ensures empty { result ≡ None → size_in book.now ≡ 0 }
     ensures new { Replaces (option_map (λ a. (P.Inx.number a.0, a.1)) result) → ⊥ }
     ensures behind { (w : List ℕ) (i : ℕ)
         → StandsAt (option_map (λ a. (P.Inx.number a.0, a.1)) result)
-        (order_in P.Inx.number book.now) w i
-        → IsBehind book.now price i (order_in P.Inx.number book.now) w }
-    ensures ordered { IsOrdered P.Inx.number book.now }
+        (order_in book.now) w i
+        → IsBehind book.now price i (order_in book.now) w }
+    ensures ordered { IsOrdered book.now }
 {
     // The book is ordered.
     let _ = book.len();
@@ -81,19 +81,19 @@ pub fn add_order<P: PtrCore, V: Drop, S: NonZeroInxGenericStack<Item = OrderSlot
     price: u64,
     order: V,
 ) -> Result<P, OrdInsertionError>
-    requires { IsBook P.Inx.number book.old }
+    requires { IsBook book.old }
     ensures added { IfOk result (λ p. (i : ℕ) → orders_in book.new i
         ≡ with_entry (orders_in book.old) (P.index p) (P.generation p, (price, order)) i) }
     ensures fresh { IfOk result (λ p. (orders_in book.old (P.index p) ≡ None)
         × (P.generation p ≡ book.old.chains.counter)) }
     ensures behind { IfOk result (λ p. IsBehind book.old price (P.index p)
-        (order_in P.Inx.number book.old) (order_in P.Inx.number book.new)) }
+        (order_in book.old) (order_in book.new)) }
     ensures error { IfErr result (λ e. e ≡ OrdInsertionError.NotWithinCapacity) }
     ensures full { IsErrOf result OrdInsertionError.NotWithinCapacity
         ↔ (arena_capacity book.old.chains ≤ live_count book.old.chains) }
     ensures counter { book.new.chains.counter ≡ book.old.chains.counter }
     ensures room { book.new.chains.room ≡ book.old.chains.room }
-    ensures book { IsBook P.Inx.number book.new }
+    ensures book { IsBook book.new }
     ensures err { OnErr result (book.new ≡ book.old) }
 {
     insertions_keep_keys_ascending::<P, OrdPair<u64, V>>();
@@ -110,16 +110,15 @@ pub fn cancel_order<P: PtrCore, V: Drop, S: NonZeroInxGenericStack<Item = OrderS
     book: &mut OrderBook<P, V, S>,
     p: P,
 ) -> Option<(u64, V)>
-    requires { IsBook P.Inx.number book.old }
+    requires { IsBook book.old }
     ensures order { result ≡ value_if (P.generation p) (orders_in book.old (P.index p)) }
     ensures gone { OnSome result
         ((i : ℕ) → orders_in book.new i ≡ without (orders_in book.old) (P.index p) i) }
-    ensures list { OnSome result
-        (Loses (order_in P.Inx.number book.old) (order_in P.Inx.number book.new) (P.index p)) }
+    ensures list { OnSome result (Loses (order_in book.old) (order_in book.new) (P.index p)) }
     ensures counter { OnSome result
         (book.new.chains.counter ≡ next_generation P.Gen.last book.old.chains.counter) }
     ensures room { book.new.chains.room ≡ book.old.chains.room }
-    ensures book { IsBook P.Inx.number book.new }
+    ensures book { IsBook book.new }
     ensures none { IfNone result (book.new ≡ book.old) }
 {
     removals_keep_keys_ascending::<P, OrdPair<u64, V>>();
@@ -132,10 +131,10 @@ pub fn cancel_order<P: PtrCore, V: Drop, S: NonZeroInxGenericStack<Item = OrderS
 pub fn best_ask<P: PtrCore, V: Drop, S: NonZeroInxGenericStack<Item = OrderSlot<P, V>> + Drop>(
     book: &OrderBook<P, V, S>,
 ) -> Option<P>
-    requires { IsBook P.Inx.number book.now }
+    requires { IsBook book.now }
     ensures live { IfSome result
         (λ p. generation_at (orders_in book.now) (P.index p) ≡ Some (P.generation p)) }
-    ensures best { IfSome result (λ p. IsBestAsk P.Inx.number book.now (P.index p)) }
+    ensures best { IfSome result (λ p. IsBestAsk book.now (P.index p)) }
     ensures none { IfNone result (live_count book.now.chains ≡ 0) }
 {
     keys_ascend_along_the_list::<P, OrdPair<u64, V>>();
@@ -149,10 +148,10 @@ pub fn best_ask<P: PtrCore, V: Drop, S: NonZeroInxGenericStack<Item = OrderSlot<
 pub fn best_bid<P: PtrCore, V: Drop, S: NonZeroInxGenericStack<Item = OrderSlot<P, V>> + Drop>(
     book: &OrderBook<P, V, S>,
 ) -> Option<P>
-    requires { IsBook P.Inx.number book.now }
+    requires { IsBook book.now }
     ensures live { IfSome result
         (λ p. generation_at (orders_in book.now) (P.index p) ≡ Some (P.generation p)) }
-    ensures best { IfSome result (λ p. IsBestBid P.Inx.number book.now (P.index p)) }
+    ensures best { IfSome result (λ p. IsBestBid book.now (P.index p)) }
     ensures none { IfNone result (live_count book.now.chains ≡ 0) }
 {
     keys_ascend_along_the_list::<P, OrdPair<u64, V>>();
@@ -173,10 +172,10 @@ pub fn next_order<P: PtrCore, V: Drop, S: NonZeroInxGenericStack<Item = OrderSlo
         → IsSome (value_if (P.generation p) (orders_in book.now (P.index p))) }
     ensures live { IfSome result
         (λ q. generation_at (orders_in book.now) (P.index q) ≡ Some (P.generation q)) }
-    ensures next { IfSome result (λ q. IsNext P.Inx.number book.now (P.index p) (P.index q)) }
+    ensures next { IfSome result (λ q. IsNext book.now (P.index p) (P.index q)) }
     ensures none { IfNone result
         (IsSome (value_if (P.generation p) (orders_in book.now (P.index p)))
-        → IsLast P.Inx.number book.now (P.index p)) }
+        → IsLast book.now (P.index p)) }
 {
     let mut walk = book.advancer_ordered(p, false)?;
     walk.advance(book)?;

@@ -36,10 +36,9 @@ where
     V: Drop,
     S: NonZeroInxGenericStack<Item = OrderSlot<P, V>> + Drop,
     R: NonZeroInxGenericStack<Item = OrderSlot<Q, V>> + Drop,
-    ensures orders { OnOk result (list_map listed_order (ordered_entries P.Inx.number book.new)
-        ≡ list_map listed_order (ordered_entries Q.Inx.number source.old)) }
-    ensures indexes { OnOk result
-        (order_in P.Inx.number book.new ≡ range_with_len 1 (size_in source.old)) }
+    ensures orders { OnOk result (list_map listed_order (ordered_entries book.new)
+        ≡ list_map listed_order (ordered_entries source.old)) }
+    ensures indexes { OnOk result (order_in book.new ≡ range_with_len 1 (size_in source.old)) }
     ensures filled { OnOk result
         (IsFilled entry_in size_in counter_in room_in indexed (size_in source.old)
         (P.Gen.number generation) (room_with (size_in source.old) (room_in book.old))

@@ -24,7 +24,7 @@ pub fn get_link<P: PtrCore, T: Drop, C: ChainArenaTrait<P, T>>(
         ≡ value_if (P.generation p) (values_in (C.links chains.now) (P.index p)) }
     ensures interlinks { option_map
         (λ l. (option_map P.index l.prev, option_map P.index l.next)) result
-        ≡ ends_found P.Inx.number (C.links chains.now) (P.index p) (P.generation p) }
+        ≡ ends_found (C.links chains.now) (P.index p) (P.generation p) }
     ensures live { IfSome result (λ l. IsLivePtr P.index P.generation (C.links chains.now) l.prev
         × IsLivePtr P.index P.generation (C.links chains.now) l.next) }
 {
@@ -35,7 +35,7 @@ pub fn get_link<P: PtrCore, T: Drop, C: ChainArenaTrait<P, T>>(
 /// Whether `q` is the next of `p`.
 pub fn are_neighbors<P: PtrCore, T: Drop, C: ChainArenaTrait<P, T>>(chains: &C, p: P, q: P) -> bool
     ensures { IsTrue result
-        ↔ ((next_in (ends_found P.Inx.number (C.links chains.now) (P.index p) (P.generation p))
+        ↔ ((next_in (ends_found (C.links chains.now) (P.index p) (P.generation p))
         ≡ Some (P.index q))
         × IsSome (get (C.links chains.now) (P.index q) (P.generation q))) }
 {
@@ -51,12 +51,12 @@ pub fn connect<P: PtrCore, T: Drop, C: ChainArenaTrait<P, T>>(
 ) -> Option<()>
     ensures variant { IsSome result
         ↔ IsSome (gap_among P.index P.generation P.Inx.number (C.links chains.old) (Bridge p q)) }
-    ensures relinked { OnSome result (IsRelinked P.Inx.number
-        (linked (ends_in P.Inx.number (C.links chains.old)) (P.index p) (P.index q))
+    ensures relinked { OnSome result (IsRelinked
+        (linked (ends_in (C.links chains.old)) (P.index p) (P.index q))
         (C.links chains.old) (C.links chains.new)) }
     ensures lists { OnSome result (IsAppended (P.index p) (P.index q)
-        (ends_in P.Inx.number (C.links chains.old)) (ends_in P.Inx.number (C.links chains.new))) }
-    ensures formed { IsChained P.Inx.number (C.links chains.new) }
+        (ends_in (C.links chains.old)) (ends_in (C.links chains.new))) }
+    ensures formed { IsChained (C.links chains.new) }
     ensures none { IfNone result (chains.new ≡ chains.old) }
 {
     let connected = chains.connect(p, q);
@@ -66,18 +66,15 @@ pub fn connect<P: PtrCore, T: Drop, C: ChainArenaTrait<P, T>>(
 /// Parts `p` from its next.
 pub fn break_next<P: PtrCore, T: Drop, C: ChainArenaTrait<P, T>>(chains: &mut C, p: P) -> Option<()>
     ensures variant { IsSome result
-        ↔ IsSome (next_in (ends_found P.Inx.number (C.links chains.old) (P.index p)
-        (P.generation p))) }
+        ↔ IsSome (next_in (ends_found (C.links chains.old) (P.index p) (P.generation p))) }
     ensures relinked { OnSome result ((q : ℕ)
-        → next_at (ends_in P.Inx.number (C.links chains.old)) (P.index p) ≡ Some q
-        → IsRelinked P.Inx.number
-        (unlinked (ends_in P.Inx.number (C.links chains.old)) (P.index p) q)
+        → next_at (ends_in (C.links chains.old)) (P.index p) ≡ Some q
+        → IsRelinked (unlinked (ends_in (C.links chains.old)) (P.index p) q)
         (C.links chains.old) (C.links chains.new)) }
     ensures lists { OnSome result ((q : ℕ)
-        → next_at (ends_in P.Inx.number (C.links chains.old)) (P.index p) ≡ Some q
-        → IsSplit (P.index p) q (ends_in P.Inx.number (C.links chains.old))
-        (ends_in P.Inx.number (C.links chains.new))) }
-    ensures formed { IsChained P.Inx.number (C.links chains.new) }
+        → next_at (ends_in (C.links chains.old)) (P.index p) ≡ Some q
+        → IsSplit (P.index p) q (ends_in (C.links chains.old)) (ends_in (C.links chains.new))) }
+    ensures formed { IsChained (C.links chains.new) }
     ensures none { IfNone result (chains.new ≡ chains.old) }
 {
     let parted = chains.break_next(p);
@@ -87,18 +84,15 @@ pub fn break_next<P: PtrCore, T: Drop, C: ChainArenaTrait<P, T>>(chains: &mut C,
 /// Parts `p` from its previous link.
 pub fn break_prev<P: PtrCore, T: Drop, C: ChainArenaTrait<P, T>>(chains: &mut C, p: P) -> Option<()>
     ensures variant { IsSome result
-        ↔ IsSome (prev_in (ends_found P.Inx.number (C.links chains.old) (P.index p)
-        (P.generation p))) }
+        ↔ IsSome (prev_in (ends_found (C.links chains.old) (P.index p) (P.generation p))) }
     ensures relinked { OnSome result ((q : ℕ)
-        → prev_at (ends_in P.Inx.number (C.links chains.old)) (P.index p) ≡ Some q
-        → IsRelinked P.Inx.number
-        (unlinked (ends_in P.Inx.number (C.links chains.old)) q (P.index p))
+        → prev_at (ends_in (C.links chains.old)) (P.index p) ≡ Some q
+        → IsRelinked (unlinked (ends_in (C.links chains.old)) q (P.index p))
         (C.links chains.old) (C.links chains.new)) }
     ensures lists { OnSome result ((q : ℕ)
-        → prev_at (ends_in P.Inx.number (C.links chains.old)) (P.index p) ≡ Some q
-        → IsSplit q (P.index p) (ends_in P.Inx.number (C.links chains.old))
-        (ends_in P.Inx.number (C.links chains.new))) }
-    ensures formed { IsChained P.Inx.number (C.links chains.new) }
+        → prev_at (ends_in (C.links chains.old)) (P.index p) ≡ Some q
+        → IsSplit q (P.index p) (ends_in (C.links chains.old)) (ends_in (C.links chains.new))) }
+    ensures formed { IsChained (C.links chains.new) }
     ensures none { IfNone result (chains.new ≡ chains.old) }
 {
     let opened = chains.break_prev(p);
@@ -112,19 +106,16 @@ pub fn exchange_next<P: PtrCore, T: Drop, C: ChainArenaTrait<P, T>>(
     q: P,
 ) -> Option<()>
     ensures variant { IsSome result
-        ↔ (IsSome (next_in (ends_found P.Inx.number (C.links chains.old) (P.index p)
-        (P.generation p)))
-        × IsSome (next_in (ends_found P.Inx.number (C.links chains.old) (P.index q)
-        (P.generation q)))) }
+        ↔ (IsSome (next_in (ends_found (C.links chains.old) (P.index p) (P.generation p)))
+        × IsSome (next_in (ends_found (C.links chains.old) (P.index q) (P.generation q)))) }
     ensures relinked { OnSome result ((s t : ℕ)
-        → next_at (ends_in P.Inx.number (C.links chains.old)) (P.index p) ≡ Some s
-        → next_at (ends_in P.Inx.number (C.links chains.old)) (P.index q) ≡ Some t
-        → IsRelinked P.Inx.number
-        (exchanged (ends_in P.Inx.number (C.links chains.old)) (P.index p) (P.index q) s t)
+        → next_at (ends_in (C.links chains.old)) (P.index p) ≡ Some s
+        → next_at (ends_in (C.links chains.old)) (P.index q) ≡ Some t
+        → IsRelinked (exchanged (ends_in (C.links chains.old)) (P.index p) (P.index q) s t)
         (C.links chains.old) (C.links chains.new)) }
     ensures lists { OnSome result (IsExchanged (P.index p) (P.index q)
-        (ends_in P.Inx.number (C.links chains.old)) (ends_in P.Inx.number (C.links chains.new))) }
-    ensures formed { IsChained P.Inx.number (C.links chains.new) }
+        (ends_in (C.links chains.old)) (ends_in (C.links chains.new))) }
+    ensures formed { IsChained (C.links chains.new) }
     ensures none { IfNone result (chains.new ≡ chains.old) }
 {
     let exchanged = chains.exchange_next(p, q);

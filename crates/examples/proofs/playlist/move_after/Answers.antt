@@ -6,7 +6,7 @@ use Rattle.examples.proofs.playlist.move_after.Goals as goal
 
 -- the song is put in again
 put_in : (g : _) (c : goal.After-ok g) → (n : g.row.P.Denot) × (c.ok.result ≡ Some n)
-    × Settled g.P.PtrCore.index g.P.PtrCore.generation g.P.Inx.PtrInxCore.number
+    × Settled g.P.PtrCore.index g.P.PtrCore.generation
     g.P.Gen.PtrGenCore.last c.args.songs.now c.insert_within_capacity.new.self c.args.p c.args.q
     c.in_ok-link.link.t n
 put_in g c =
@@ -17,14 +17,14 @@ put_in g c =
     let between = c.remove_link_no_gen.new.self in
     let p = c.args.p in
     let q = c.args.q in
-    let taken : IsTakenOut number g.P.Gen.PtrGenCore.last (index p) old between = search rules in
+    let taken : IsTakenOut g.P.Gen.PtrGenCore.last (index p) old between = search rules in
     let some : IsSome (get old (index q) (generation q)) = search rules in
     let some_p : IsSome (get old (index p) (generation p)) = search rules in
     let unequal : ((index p == index q) && (generation p == generation q)) ≡ false =
     sym (g.met.P.Ptr.equal p q) ∙ sym c.eq.ensures ∙ c.if-eq.false in
     let differs = differ old (index p) (index q) (generation p) (generation q) unequal some_p some
     in
-    let chained : IsChained number between = search rules in
+    let chained : IsChained between = search rules in
     let room : live_count between < arena_capacity between = search rules in
     let there = gap_left index generation number g.P.Gen.PtrGenCore.last old between p q taken
     differs some in
@@ -55,7 +55,7 @@ returns-clause-counter g c = let put = put_in g c in rw put.1 put.2.counter
 
 pub returns-clause-room : goal.returns-clause-room
 returns-clause-room g c =
-    let taken : IsTakenOut g.P.Inx.PtrInxCore.number g.P.Gen.PtrGenCore.last
+    let taken : IsTakenOut g.P.Gen.PtrGenCore.last
     (g.P.PtrCore.index c.args.p) c.args.songs.now c.remove_link_no_gen.new.self =
     search rules in
     c.insert_within_capacity.ensures.inserts.room ∙ taken.room

@@ -9,11 +9,10 @@ use Rattle.examples.proofs.playlist.play_from.Goals as goal
 
 -- the walk gave the pointer to a song, and goes on behind it
 pub heard_one : (g : _) (c : goal.After-row_known-1 g)
-    → Heard g.P.Inx.PtrInxCore.number (g.A.ChainArenaTrait.links c.args.songs.now)
+    → Heard (g.A.ChainArenaTrait.links c.args.songs.now)
     (g.A.ChainArenaTrait.chain_walk c.loop-q.player)
     (g.A.ChainArenaTrait.chain_walk c.advance.new.self) c.in-Some-get.length.now
 heard_one g c =
-    let number = g.P.Inx.PtrInxCore.number in
     let songs = g.A.ChainArenaTrait.links c.args.songs.now in
     let q = g.P.PtrCore.index c.in-Some.q in
     let h = g.P.PtrCore.generation c.in-Some.q in
@@ -21,7 +20,7 @@ heard_one g c =
     ≡ Some c.in-Some-get.length.now = search rules in
     let value : value_if h (values_in songs q) ≡ Some c.in-Some-get.length.now =
     ap (value_if h) (g.met.A.ChainArenaTrait.links_entries c.args.songs.now q) ∙ found in
-    heard number songs (g.A.ChainArenaTrait.chain_walk c.loop-q.player)
+    heard songs (g.A.ChainArenaTrait.chain_walk c.loop-q.player)
     (g.A.ChainArenaTrait.chain_walk c.advance.new.self) q h
     c.in-Some-get.length.now c.loop-q.invariant.ends
     (g.met.A.ChainArenaTrait.advances_along c.loop-q.player c.args.songs.now (Some c.in-Some.q)
@@ -53,17 +52,16 @@ loop-q-preserved g c =
 
 pub returns-clause-total : goal.returns-clause-total
 returns-clause-total g c =
-    let number = g.P.Inx.PtrInxCore.number in
     let songs = g.A.ChainArenaTrait.links c.args.songs.now in
     let along = c.in_ok-player.ensures.along in
-    let given : ChainSteps (ends_in number songs) (values_in songs)
+    let given : ChainSteps (ends_in songs) (values_in songs)
     (g.A.ChainArenaTrait.chain_walk c.loop-q.player) None
     (g.A.ChainArenaTrait.chain_walk c.advance.new.self) =
     g.met.A.ChainArenaTrait.advances_along c.loop-q.player c.args.songs.now None c.advance.new.self
     (search rules) in
     let fits : c.loop-q.total < 2 ^ 64 = search rules in
     let whole = ends_at c.loop-q.total _ _
-    (all_heard number songs (g.A.ChainArenaTrait.chain_walk c.loop-q.player)
+    (all_heard songs (g.A.ChainArenaTrait.chain_walk c.loop-q.player)
     (g.A.ChainArenaTrait.chain_walk c.advance.new.self) c.loop-q.invariant.ends given)
     c.loop-q.invariant.total fits in
     (along.walk, along.from, whole ∙ ap (λ l. sum (map (length_at songs) l) % 2 ^ 64) along.steps)

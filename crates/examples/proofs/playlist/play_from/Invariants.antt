@@ -8,19 +8,19 @@ use Rattle.examples.proofs.playlist.play_from.Given as goal
 abbrev pub invariant-loop-q : goal.invariant-loop-q
 invariant-loop-q g l =
     record {
-      ends : IsEnding g.P.Inx.PtrInxCore.number (g.A.ChainArenaTrait.links l.songs)
+      ends : IsEnding (g.A.ChainArenaTrait.links l.songs)
           (g.A.ChainArenaTrait.chain_walk l.player);
       total : (l.total + sum
           (map (length_at (g.A.ChainArenaTrait.links l.songs))
-          (left_over g.P.Inx.PtrInxCore.number (g.A.ChainArenaTrait.links l.songs)
+          (left_over (g.A.ChainArenaTrait.links l.songs)
           (g.A.ChainArenaTrait.chain_walk l.player)))) % 2 ^ 64
           ≡ sum (map (length_at (g.A.ChainArenaTrait.links l.songs))
-          (left_over g.P.Inx.PtrInxCore.number (g.A.ChainArenaTrait.links l.songs)
+          (left_over (g.A.ChainArenaTrait.links l.songs)
           (g.A.ChainArenaTrait.chain_walk l.initial.player))) %
           2 ^ 64;
     }
 
 abbrev pub decreases-loop-q : goal.decreases-loop-q
 decreases-loop-q g l =
-    length (left_over g.P.Inx.PtrInxCore.number (g.A.ChainArenaTrait.links l.songs)
+    length (left_over (g.A.ChainArenaTrait.links l.songs)
     (g.A.ChainArenaTrait.chain_walk l.player))

@@ -11,7 +11,7 @@ use Rattle.examples.proofs.playlist.reverse_pair.Goals as goal
 
 -- the first of the two was put in again by an exchange
 exchanged_twice : (g : _) (c : goal.Then-is_some g)
-    → Reversed g.P.Inx.PtrInxCore.number c.args.songs.now (g.P.PtrCore.index c.args.before)
+    → Reversed c.args.songs.now (g.P.PtrCore.index c.args.before)
     (g.P.PtrCore.index c.args.p) c.exchange_next-2.new.self
 exchanged_twice g c =
     let number = g.P.Inx.PtrInxCore.number in
@@ -21,20 +21,20 @@ exchanged_twice g c =
     let o = index c.args.before in
     let p = index c.args.p in
     let q = index c.in_ok-q.q in
-    let to_p : next_in (ends_found number old o (generation c.args.before)) ≡ Some p =
+    let to_p : next_in (ends_found old o (generation c.args.before)) ≡ Some p =
     search rules in
-    let to_q : next_in (ends_found number old p (generation c.args.p)) ≡ Some q = search rules in
+    let to_q : next_in (ends_found old p (generation c.args.p)) ≡ Some q = search rules in
     let at_q : generation_at (values_in old) q ≡ Some (generation c.in_ok-q.q) = search rules in
     let came : IsSome c.exchange_next-2.result = search rules in
     let there : IsSome (next_in
-    (ends_found number c.exchange_next.new.self q (generation c.in_ok-q.q))) = search rules in
-    let again : (s t : ℕ) → next_at (ends_in number c.exchange_next.new.self) q ≡ Some s
-    → next_at (ends_in number c.exchange_next.new.self) p ≡ Some t
-    → IsRelinked number (exchanged (ends_in number c.exchange_next.new.self) q p s t)
+    (ends_found c.exchange_next.new.self q (generation c.in_ok-q.q))) = search rules in
+    let again : (s t : ℕ) → next_at (ends_in c.exchange_next.new.self) q ≡ Some s
+    → next_at (ends_in c.exchange_next.new.self) p ≡ Some t
+    → IsRelinked (exchanged (ends_in c.exchange_next.new.self) q p s t)
     c.exchange_next.new.self c.exchange_next-2.new.self =
     on_some c.exchange_next-2.result came c.exchange_next-2.ensures.relinked in
-    let second : IsExchanged q p (ends_in number c.exchange_next.new.self)
-    (ends_in number c.exchange_next-2.new.self) =
+    let second : IsExchanged q p (ends_in c.exchange_next.new.self)
+    (ends_in c.exchange_next-2.new.self) =
     on_some c.exchange_next-2.result came c.exchange_next-2.ensures.lists in
     (exchanged_back number old c.exchange_next.new.self o p q (generation c.args.before)
     (generation c.args.p) (generation c.in_ok-q.q)
@@ -44,7 +44,7 @@ exchanged_twice g c =
 -- or at the end, where it was parted from itself and appended
 appended : (g : _) (c : goal.After-connect g)
     → IsSome c.connect.result
-    × Reversed g.P.Inx.PtrInxCore.number c.args.songs.now (g.P.PtrCore.index c.args.before)
+    × Reversed c.args.songs.now (g.P.PtrCore.index c.args.before)
     (g.P.PtrCore.index c.args.p)
     c.connect.new.self
 appended g c =
@@ -55,48 +55,48 @@ appended g c =
     let o = index c.args.before in
     let p = index c.args.p in
     let q = index c.in_ok-q.q in
-    let to_p : next_in (ends_found number old o (generation c.args.before)) ≡ Some p =
+    let to_p : next_in (ends_found old o (generation c.args.before)) ≡ Some p =
     search rules in
-    let to_q : next_in (ends_found number old p (generation c.args.p)) ≡ Some q = search rules in
+    let to_q : next_in (ends_found old p (generation c.args.p)) ≡ Some q = search rules in
     let at_q : generation_at (values_in old) q ≡ Some (generation c.in_ok-q.q) = search rules in
     let h = generation c.in_ok-q.q in
     let m = c.exchange_next-2.new.self in
     let same : c.exchange_next-2.new.self ≡ c.exchange_next.new.self = search rules in
-    let relinked : (s t : ℕ) → next_at (ends_in number old) o ≡ Some s
-    → next_at (ends_in number old) p ≡ Some t
-    → IsRelinked number (exchanged (ends_in number old) o p s t) old m =
-    subst (λ x. (s t : ℕ) → next_at (ends_in number old) o ≡ Some s
-    → next_at (ends_in number old) p ≡ Some t
-    → IsRelinked number (exchanged (ends_in number old) o p s t) old x) (sym same)
+    let relinked : (s t : ℕ) → next_at (ends_in old) o ≡ Some s
+    → next_at (ends_in old) p ≡ Some t
+    → IsRelinked (exchanged (ends_in old) o p s t) old m =
+    subst (λ x. (s t : ℕ) → next_at (ends_in old) o ≡ Some s
+    → next_at (ends_in old) p ≡ Some t
+    → IsRelinked (exchanged (ends_in old) o p s t) old x) (sym same)
     c.in_ok-exchange_next.ensures.relinked in
-    let first : IsExchanged o p (ends_in number old) (ends_in number m) =
-    subst (λ x. IsExchanged o p (ends_in number old) (ends_in number x)) (sym same)
+    let first : IsExchanged o p (ends_in old) (ends_in m) =
+    subst (λ x. IsExchanged o p (ends_in old) (ends_in x)) (sym same)
     c.in_ok-exchange_next.ensures.lists in
     let gone : c.exchange_next-2.result ≡ None = search rules in
-    let variant : IsSome (next_in (ends_found number m q h))
-    × IsSome (next_in (ends_found number m p (generation c.args.p)))
+    let variant : IsSome (next_in (ends_found m q h))
+    × IsSome (next_in (ends_found m p (generation c.args.p)))
     → IsSome c.exchange_next-2.result =
-    subst (λ x. IsSome (next_in (ends_found number x q h))
-    × IsSome (next_in (ends_found number x p (generation c.args.p)))
+    subst (λ x. IsSome (next_in (ends_found x q h))
+    × IsSome (next_in (ends_found x p (generation c.args.p)))
     → IsSome c.exchange_next-2.result) (sym same)
     c.exchange_next-2.ensures.variant.1 in
     let end = is_end number old m o p q (generation c.args.before) (generation c.args.p) h
     c.len.ensures.formed to_p to_q at_q relinked first c.exchange_next-2.result variant gone in
-    let breaks : (s : ℕ) → next_at (ends_in number m) p ≡ Some s
-    → IsRelinked number (unlinked (ends_in number m) p s) m c.break_next.new.self =
+    let breaks : (s : ℕ) → next_at (ends_in m) p ≡ Some s
+    → IsRelinked (unlinked (ends_in m) p s) m c.break_next.new.self =
     search rules in
-    let splits : (s : ℕ) → next_at (ends_in number m) p ≡ Some s
-    → IsSplit p s (ends_in number m) (ends_in number c.break_next.new.self) = search rules in
+    let splits : (s : ℕ) → next_at (ends_in m) p ≡ Some s
+    → IsSplit p s (ends_in m) (ends_in c.break_next.new.self) = search rules in
     let fit : IsSome (gap_among index generation number c.break_next.new.self
     (Bridge c.in_ok-q.q c.args.p)) =
     fits number old m o p q (generation c.args.before) (generation c.args.p) h c.len.ensures.formed
     to_p to_q at_q relinked first c.break_next.new.self end breaks index generation c.args.p
     c.in_ok-q.q refl refl refl refl in
     let some : IsSome c.connect.result = c.connect.ensures.variant.1 fit in
-    let joined : IsRelinked number (linked (ends_in number c.break_next.new.self) q p)
+    let joined : IsRelinked (linked (ends_in c.break_next.new.self) q p)
     c.break_next.new.self c.connect.new.self = search rules in
-    let ends : IsAppended q p (ends_in number c.break_next.new.self)
-    (ends_in number c.connect.new.self) = search rules in
+    let ends : IsAppended q p (ends_in c.break_next.new.self)
+    (ends_in c.connect.new.self) = search rules in
     let turned = appended_back number old m o p q (generation c.args.before) (generation c.args.p) h
     c.len.ensures.formed to_p to_q at_q relinked first c.break_next.new.self end breaks
     c.connect.new.self splits joined ends in
@@ -112,32 +112,32 @@ parts g c =
     let o = index c.args.before in
     let p = index c.args.p in
     let q = index c.in_ok-q.q in
-    let to_p : next_in (ends_found number old o (generation c.args.before)) ≡ Some p =
+    let to_p : next_in (ends_found old o (generation c.args.before)) ≡ Some p =
     search rules in
-    let to_q : next_in (ends_found number old p (generation c.args.p)) ≡ Some q = search rules in
+    let to_q : next_in (ends_found old p (generation c.args.p)) ≡ Some q = search rules in
     let at_q : generation_at (values_in old) q ≡ Some (generation c.in_ok-q.q) = search rules in
     let h = generation c.in_ok-q.q in
     let m = c.exchange_next-2.new.self in
     let same : c.exchange_next-2.new.self ≡ c.exchange_next.new.self = search rules in
-    let relinked : (s t : ℕ) → next_at (ends_in number old) o ≡ Some s
-    → next_at (ends_in number old) p ≡ Some t
-    → IsRelinked number (exchanged (ends_in number old) o p s t) old m =
-    subst (λ x. (s t : ℕ) → next_at (ends_in number old) o ≡ Some s
-    → next_at (ends_in number old) p ≡ Some t
-    → IsRelinked number (exchanged (ends_in number old) o p s t) old x) (sym same)
+    let relinked : (s t : ℕ) → next_at (ends_in old) o ≡ Some s
+    → next_at (ends_in old) p ≡ Some t
+    → IsRelinked (exchanged (ends_in old) o p s t) old m =
+    subst (λ x. (s t : ℕ) → next_at (ends_in old) o ≡ Some s
+    → next_at (ends_in old) p ≡ Some t
+    → IsRelinked (exchanged (ends_in old) o p s t) old x) (sym same)
     c.in_ok-exchange_next.ensures.relinked in
-    let first : IsExchanged o p (ends_in number old) (ends_in number m) =
-    subst (λ x. IsExchanged o p (ends_in number old) (ends_in number x)) (sym same)
+    let first : IsExchanged o p (ends_in old) (ends_in m) =
+    subst (λ x. IsExchanged o p (ends_in old) (ends_in x)) (sym same)
     c.in_ok-exchange_next.ensures.lists in
     let gone : c.exchange_next-2.result ≡ None = search rules in
-    let variant : IsSome (next_in (ends_found number m q h))
-    × IsSome (next_in (ends_found number m p (generation c.args.p)))
+    let variant : IsSome (next_in (ends_found m q h))
+    × IsSome (next_in (ends_found m p (generation c.args.p)))
     → IsSome c.exchange_next-2.result =
-    subst (λ x. IsSome (next_in (ends_found number x q h))
-    × IsSome (next_in (ends_found number x p (generation c.args.p)))
+    subst (λ x. IsSome (next_in (ends_found x q h))
+    × IsSome (next_in (ends_found x p (generation c.args.p)))
     → IsSome c.exchange_next-2.result) (sym same)
     c.exchange_next-2.ensures.variant.1 in
-    let there : IsSome (next_in (ends_found number m p (generation c.args.p))) = ap is_some
+    let there : IsSome (next_in (ends_found m p (generation c.args.p))) = ap is_some
     (still_next number old m o p q (generation c.args.before) (generation c.args.p) h
     c.len.ensures.formed to_p to_q at_q relinked first) in
     let some : IsSome c.break_next.result = c.break_next.ensures.variant.1 there in
@@ -170,11 +170,10 @@ returns-in_err-break_next-clause-none g c = absurd (parts g c)
 
 pub returns-clause-variant : goal.returns-clause-variant
 returns-clause-variant g c =
-    let number = g.P.Inx.PtrInxCore.number in
-    let to_p : next_in (ends_found number c.args.songs.now (g.P.PtrCore.index c.args.before)
+    let to_p : next_in (ends_found c.args.songs.now (g.P.PtrCore.index c.args.before)
     (g.P.PtrCore.generation c.args.before)) ≡ Some (g.P.PtrCore.index c.args.p) =
     search rules in
-    let to_q : next_in (ends_found number c.args.songs.now (g.P.PtrCore.index c.args.p)
+    let to_q : next_in (ends_found c.args.songs.now (g.P.PtrCore.index c.args.p)
     (g.P.PtrCore.generation c.args.p)) ≡ Some (g.P.PtrCore.index c.in_ok-q.q) = search rules in
     let some = (appended g c).0 in
     search (rules, some, to_p, to_q)

@@ -6,6 +6,6 @@ use Rattle.ord_examples.proofs.by_value.find.Given as goal
 abbrev pub invariant-loop-p : goal.invariant-loop-p
 invariant-loop-p g l =
     (All (λ e. value_of e < l.least) l.p-iterator
-    → All (λ e. value_of e < l.least) (ordered_entries g.P.Inx.PtrInxCore.number l.fn.arena))
+    → All (λ e. value_of e < l.least) (ordered_entries l.fn.arena))
     × ((e : ℕ × (ℕ × ℕ)) → Contains l.p-iterator e
-    → Contains (ordered_entries g.P.Inx.PtrInxCore.number l.fn.arena) e)
+    → Contains (ordered_entries l.fn.arena) e)

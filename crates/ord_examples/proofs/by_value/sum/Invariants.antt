@@ -7,4 +7,4 @@ use Rattle.ord_examples.proofs.by_value.sum.Given as goal
 abbrev pub invariant-loop-value : goal.invariant-loop-value
 invariant-loop-value g l =
     (l.total + sum (map value_of l.value-iterator)) % 2 ^ 64
-    ≡ sum (map value_of (ordered_entries g.P.Inx.PtrInxCore.number l.fn.arena)) % 2 ^ 64
+    ≡ sum (map value_of (ordered_entries l.fn.arena)) % 2 ^ 64

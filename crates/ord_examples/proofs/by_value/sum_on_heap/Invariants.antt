@@ -8,4 +8,4 @@ use Rattle.ord_examples.proofs.by_value.sum_on_heap.Given as goal
 abbrev pub invariant-loop-value : goal.invariant-loop-value
 invariant-loop-value l =
     (l.total + sum (map value_of l.value-iterator)) % 2 ^ 64
-    ≡ sum (map value_of (ordered_entries non_zero_usize_get l.fn.arena)) % 2 ^ 64
+    ≡ sum (map value_of (ordered_entries l.fn.arena)) % 2 ^ 64

@@ -8,19 +8,18 @@ use Rattle.ord_examples.proofs.order_book.add_order.Goals as goal
 
 pub returns-clause-book : goal.returns-clause-book
 returns-clause-book g c =
-    let number = g.P.Inx.PtrInxCore.number in
     let index = g.P.PtrCore.index in
     let generation = g.P.PtrCore.generation in
     let old = c.args.book.now in
     let put = c.insert_inx_manual_within_capacity in
     let i = index put.result in
-    let b = c.place_behind-place.ensures.behind (order_in number put.new.self) i put.ensures.stands
+    let b = c.place_behind-place.ensures.behind (order_in put.new.self) i put.ensures.stands
     in
     c.insertions_keep_keys_ascending.ensures.between b.before b.after i (generation put.result)
     c.new.result old put.new.self put.ensures.ordered put.ensures.added b.was b.is
     (subst (λ z. AllIn (λ j. asked_at nat_cmp price_of z old j ≢ Less) b.before)
     (sym c.new.ensures.key)
-    (not_less_before number index generation old c.args.price b.before b.not_greater))
+    (not_less_before index generation old c.args.price b.before b.not_greater))
     (subst (λ z. AllIn (λ j. asked_at nat_cmp price_of z old j ≢ Greater) b.after)
     (sym c.new.ensures.key)
-    (not_greater_behind number index generation old c.args.price b.after b.greater)) c.requires
+    (not_greater_behind index generation old c.args.price b.after b.greater)) c.requires

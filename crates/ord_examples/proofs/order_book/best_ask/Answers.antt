@@ -6,7 +6,7 @@ pub returns-clause-best : goal.returns-clause-best
 returns-clause-best g c =
     let o = c.args.book.now in
     let ordered = c.len.ensures.formed.ordered in
-    best_ask_of g.P.Inx.PtrInxCore.number g.P.PtrCore.index g.P.PtrCore.generation o ordered
+    best_ask_of g.P.PtrCore.index g.P.PtrCore.generation o ordered
     c.first.result c.first.ensures.at
     (λ back i entry is stands. c.keys_ascend_along_the_list.ensures.after o [] back i entry ordered
     c.requires is stands)

@@ -5,10 +5,9 @@ use Rattle.ord_examples.specs.OrderBooks.{price_in}
 use Rattle.ord_examples.proofs.OrderBookLemmas.{BestBid, best_bid_of, bid_if, bid_unless}
 use Rattle.ord_examples.proofs.order_book.best_bid.Goals as goal
 
-bid : (g : _) (c : goal.After-lower_bound g) → BestBid g.P.Inx.PtrInxCore.number g.P.PtrCore.index
+bid : (g : _) (c : goal.After-lower_bound g) → BestBid g.P.PtrCore.index
     g.P.PtrCore.generation c.args.book.now c.lower_bound.result
 bid g c =
-    let number = g.P.Inx.PtrInxCore.number in
     let index = g.P.PtrCore.index in
     let generation = g.P.PtrCore.generation in
     let o = c.args.book.now in
@@ -16,7 +15,7 @@ bid g c =
     let own = c.k.result.now in
     let last = index c.in_ok-last.last in
     let price : price_in o last ≡ Some own = search rules in
-    best_bid_of number index generation o ordered last own
+    best_bid_of index generation o ordered last own
     (sym c.last.ensures.at ∙ ap (option_map index) c.in_ok-last.was) price
     (λ front back i entry is stands. c.keys_ascend_along_the_list.ensures.before o front back i
     entry ordered c.requires is stands) c.lower_bound.result
@@ -24,10 +23,10 @@ bid g c =
 
 pub returns-clause-best : goal.returns-clause-best
 returns-clause-best g c =
-    bid_if g.P.Inx.PtrInxCore.number g.P.PtrCore.index g.P.PtrCore.generation c.args.book.now
+    bid_if g.P.PtrCore.index g.P.PtrCore.generation c.args.book.now
     c.lower_bound.result (bid g c)
 
 pub returns-clause-none : goal.returns-clause-none
 returns-clause-none g c =
-    bid_unless g.P.Inx.PtrInxCore.number g.P.PtrCore.index g.P.PtrCore.generation c.args.book.now
+    bid_unless g.P.PtrCore.index g.P.PtrCore.generation c.args.book.now
     c.lower_bound.result (bid g c) (live_count c.args.book.now.chains ≡ 0)

@@ -9,11 +9,10 @@ returns-clause-next g c =
     let o = c.args.book.now in
     let index = g.P.PtrCore.index in
     let generation = g.P.PtrCore.generation in
-    let number = g.P.Inx.PtrInxCore.number in
     let from = c.in_ok-walk.ensures.along in
-    let left = stepped number index generation o c.in_ok-walk.walk c.advance.new.self
+    let left = stepped index generation o c.in_ok-walk.walk c.advance.new.self
     c.advance.result (index c.args.p) from.after c.advance.ensures.given from.left_is in
-    (next_given number index generation o
+    (next_given index generation o
     (IsSome (value_if (generation c.args.p) (orders_in o (index c.args.p))))
     from.before from.after (index c.args.p) from.is c.advance.new.self c.advance-2.new.self
     c.advance-2.result c.advance-2.ensures.given left).0
@@ -23,11 +22,10 @@ returns-clause-none g c =
     let o = c.args.book.now in
     let index = g.P.PtrCore.index in
     let generation = g.P.PtrCore.generation in
-    let number = g.P.Inx.PtrInxCore.number in
     let from = c.in_ok-walk.ensures.along in
-    let left = stepped number index generation o c.in_ok-walk.walk c.advance.new.self
+    let left = stepped index generation o c.in_ok-walk.walk c.advance.new.self
     c.advance.result (index c.args.p) from.after c.advance.ensures.given from.left_is in
-    (next_given number index generation o
+    (next_given index generation o
     (IsSome (value_if (generation c.args.p) (orders_in o (index c.args.p))))
     from.before from.after (index c.args.p) from.is c.advance.new.self c.advance-2.new.self
     c.advance-2.result c.advance-2.ensures.given left).1

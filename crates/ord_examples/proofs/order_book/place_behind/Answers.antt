@@ -5,14 +5,14 @@ use Rattle.ord_examples.proofs.order_book.place_behind.Goals as goal
 
 pub returns-in-Some-clause-behind : goal.returns-in-Some-clause-behind
 returns-in-Some-clause-behind g c =
-    behind_next g.P.Inx.PtrInxCore.number g.P.PtrCore.index g.P.PtrCore.generation
+    behind_next g.P.PtrCore.index g.P.PtrCore.generation
     c.args.book.now c.args.price c.len.ensures.formed.ordered c.upper_bound.result
     (c.upper_bound.ensures.bound c.requires) c.in-Some.next c.in-Some.is
     (g.P.Inx.PtrInxCore.number c.inx.result) c.inx.ensures
 
 pub returns-in-Some-last-clause-behind : goal.returns-in-Some-last-clause-behind
 returns-in-Some-last-clause-behind g c =
-    behind_last g.P.Inx.PtrInxCore.number g.P.PtrCore.index g.P.PtrCore.generation
+    behind_last g.P.PtrCore.index g.P.PtrCore.generation
     c.args.book.now c.args.price c.len.ensures.formed.ordered c.upper_bound.result
     (c.upper_bound.ensures.bound c.requires) c.in-None.is
     (g.P.Inx.PtrInxCore.number c.inx-in-Some-last.result)
@@ -21,6 +21,6 @@ returns-in-Some-last-clause-behind g c =
 
 pub returns-in-None-last-clause-behind : goal.returns-in-None-last-clause-behind
 returns-in-None-last-clause-behind g c =
-    behind_none g.P.Inx.PtrInxCore.number g.P.PtrCore.index g.P.PtrCore.generation
+    behind_none g.P.PtrCore.index g.P.PtrCore.generation
     c.args.book.now c.args.price c.len.ensures.formed.ordered c.upper_bound.result
     (c.upper_bound.ensures.bound c.requires)

@@ -14,7 +14,7 @@ returns-clause-first g c = λ uses is.
     added index generation number old new c.args.self.now.latest p c.args.t
     (gap_there index generation number old c.args.self.now.latest uses is)
     (subst (λ k. IfSome (gap_among index generation number old k)
-    (λ gap. IsLinkInserted number gap (index p) (generation p) c.args.t old new))
+    (λ gap. IsLinkInserted gap (index p) (generation p) c.args.t old new))
     c.kind-kind.ensures c.in_ok-p.ensures.inserts.inserted) uses is
 
 pub returns-clause-cache : goal.returns-clause-cache
@@ -29,6 +29,6 @@ returns-clause-cache g c =
       added index generation number old new c.args.self.now.latest p c.args.t
           (gap_there index generation number old c.args.self.now.latest c.requires.0 c.requires.1)
           (subst (λ k. IfSome (gap_among index generation number old k)
-          (λ gap. IsLinkInserted number gap (index p) (generation p) c.args.t old new))
+          (λ gap. IsLinkInserted gap (index p) (generation p) c.args.t old new))
           c.kind-kind.ensures c.in_ok-p.ensures.inserts.inserted) c.requires.0 c.requires.1,
     )

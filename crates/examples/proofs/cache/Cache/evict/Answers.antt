@@ -13,8 +13,8 @@ returns-in_err-oldest-clause-none g c =
     let old = c.args.self.now.entries in
     let q = c.in_ok-latest.latest in
     let latest : c.args.self.now.latest ≡ Some q = search rules in
-    let cache = subst (IsCache index generation number old) latest c.requires in
-    let none : prev_in (ends_found number old (index q) (generation q)) ≡ None = search rules in
+    let cache = subst (IsCache index generation old) latest c.requires in
+    let none : prev_in (ends_found old (index q) (generation q)) ≡ None = search rules in
     absurd (never_none index generation number old q cache.0 cache.1 none)
 
 pub returns-clause-oldest : goal.returns-clause-oldest
@@ -28,10 +28,10 @@ returns-clause-oldest g c = λ front i is.
     let q = c.in_ok-latest.latest in
     let o = c.in_ok-oldest.oldest in
     let latest : c.args.self.now.latest ≡ Some q = search rules in
-    let taken : IsTakenOut number last (index o) old new = search rules in
-    let found : prev_in (ends_found number old (index q) (generation q)) ≡ Some (index o) =
+    let taken : IsTakenOut last (index o) old new = search rules in
+    let found : prev_in (ends_found old (index q) (generation q)) ≡ Some (index o) =
     search rules in
-    let own = subst (λ l. AreByUse index generation number old l (front ++ i ∷ [])) latest is in
+    let own = subst (λ l. AreByUse index generation old l (front ++ i ∷ [])) latest is in
     let prev = prev_found index generation number old q (front ++ i ∷ []) own (index o) found in (
       is_oldest index generation number old new last q o taken prev front i own,
       left index generation number old new last q o taken prev front i own c.if_there-self.result
@@ -49,12 +49,12 @@ returns-clause-cache g c =
     let q = c.in_ok-latest.latest in
     let o = c.in_ok-oldest.oldest in
     let latest : c.args.self.now.latest ≡ Some q = search rules in
-    let taken : IsTakenOut number last (index o) old new = search rules in
-    let found : prev_in (ends_found number old (index q) (generation q)) ≡ Some (index o) =
+    let taken : IsTakenOut last (index o) old new = search rules in
+    let found : prev_in (ends_found old (index q) (generation q)) ≡ Some (index o) =
     search rules in
-    let cache = subst (IsCache index generation number old) latest c.requires in
+    let cache = subst (IsCache index generation old) latest c.requires in
     let parts = parts_last cache.0 (index q) cache.1.first in
-    let own = subst (AreByUse index generation number old (Some q)) parts.1.1 cache.1 in
+    let own = subst (AreByUse index generation old (Some q)) parts.1.1 cache.1 in
     let prev = prev_found index generation number old q (parts.0 ++ parts.1.0 ∷ []) own (index o)
     found in (
       parts.0,
