@@ -27,9 +27,9 @@ live-none {T} at (Some p) live e = absurd (none (value_if p.1 (at p.0)) e live)
     none None e some = cc
     none (Some x) e some = cc
 
-module _ {I : Type 0} (t : ℕ) (old new : Book I) where
+module _ (t : ℕ) (old new : Book) where
   -- `stops` are those that an arena lends
-  pub dead : (stops : Content (IndexLink I StopView)) → stops ≡ new.stops
+  pub dead : (stops : Content (IndexLink StopView)) → stops ≡ new.stops
       → new.state ≡ after_removed old.state t
       → ((x : ℕ) → stop_of (after_removed old.state t).routes x
       ≡ option_map (clear_stop t) (stop_of old.state.routes x))

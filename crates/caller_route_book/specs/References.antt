@@ -13,14 +13,13 @@ pub record Names (s : State) (stop place : ℕ) : Type 0 where
   pub living : stop_of s.routes stop ≡ Some named
   pub names : named.place ≡ Some place
 
-module _ {I : Type 0} where
-  -- the references of the stops that named a place find nothing
-  abbrev pub AreDead : ℕ → Book I → Book I → Type 0
-  AreDead place old new =
-      (i g : ℕ) (v : StopView) → values_in new.stops i ≡ Some (g, v)
-      → Names old.state v.ticket place → found_by (entry_in new.places) v.place ≡ None
+-- the references of the stops that named a place find nothing
+abbrev pub AreDead : ℕ → Book → Book → Type 0
+AreDead place old new =
+    (i g : ℕ) (v : StopView) → values_in new.stops i ≡ Some (g, v)
+    → Names old.state v.ticket place → found_by (entry_in new.places) v.place ≡ None
 
-  -- and none is kept
-  abbrev pub AreGone : ℕ → Book I → Book I → Type 0
-  AreGone place old new = (i g : ℕ) (v : StopView) → values_in new.stops i ≡ Some (g, v)
-      → Names old.state v.ticket place → v.place ≡ None
+-- and none is kept
+abbrev pub AreGone : ℕ → Book → Book → Type 0
+AreGone place old new = (i g : ℕ) (v : StopView) → values_in new.stops i ≡ Some (g, v)
+    → Names old.state v.ticket place → v.place ≡ None

@@ -45,7 +45,7 @@ pub fn close_and_pack<P: PtrCore, B: BookBacking<P>>(
     ensures state { book.new.state ≡ after_removed book.old.state ticket }
     ensures gone { (p : Place) → holder book.old.state ticket ≡ Ok (place p)
         → AreGone ticket book.old book.new }
-    ensures order { IfOk result (λ _. order_in P.Inx.number book.new.places
+    ensures order { IfOk result (λ _. order_in book.new.places
         ≡ range_with_len 1 (length book.new.state.places)) }
 {
     removed_places_leave_no_reference();

@@ -141,15 +141,15 @@ ascending (x ∷ y ∷ l) rise (suc k) d low high =
 
 -- each live index stands in the list
 abbrev pub AllStand : Type 0
-AllStand = (o : Arena) (i : ℕ) → IsOrdered non_zero_u32_get o → IsSome (entry_in o i)
-    → On (order_in non_zero_u32_get o) i
+AllStand = (o : Arena) (i : ℕ) → IsOrdered o → IsSome (entry_in o i)
+    → On (order_in o) i
 
 -- an index of the list does not stand before or behind itself
-pub apart_of : (o : Arena) → IsOrdered non_zero_u32_get o → (front back : List ℕ) (i : ℕ)
-    → order_in non_zero_u32_get o ≡ front ++ i ∷ back → Off front i × Off back i
+pub apart_of : (o : Arena) → IsOrdered o → (front back : List ℕ) (i : ℕ)
+    → order_in o ≡ front ++ i ∷ back → Off front i × Off back i
 apart_of o ordered front back i is =
     Apart-split front back i (subst Apart is
-    (linear_apart (ends_in non_zero_u32_get o.chains) None (order_in non_zero_u32_get o)
+    (linear_apart (ends_in o.chains) None (order_in o)
     ordered.linear))
 
 -- an entry stands in the list
@@ -158,7 +158,7 @@ pub record Standing (o : Arena) (e : Entry) : Type 0 where
   pub high : List Entry
   pub is : listed o ≡ low ++ e ∷ high
 
-pub standing : (o : Arena) → IsOrdered non_zero_u32_get o → AllStand → (i : ℕ) (e : ℕ × Pair)
+pub standing : (o : Arena) → IsOrdered o → AllStand → (i : ℕ) (e : ℕ × Pair)
     → entry_in o i ≡ Some e → Standing o (i, e)
 standing o ordered law i e is =
     let on = law o i ordered (rw is refl) in
@@ -169,7 +169,7 @@ standing o ordered law i e is =
     }
 
 pub ascends : (o : Arena) → KeysRise (listed o)
-    → IsAscending non_zero_u32_get nat_cmp key_in o
+    → IsAscending nat_cmp key_in o
 ascends o rise = ascending (listed o) rise
 
 -- an entry that stands in the arena has its key in the list

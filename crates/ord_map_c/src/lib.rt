@@ -161,10 +161,9 @@ pub extern "C" fn ord_map_insert(
     ensures listed { (result ≡ 0) ⊎ (result ≡ 8) → entries map.new.kept
         ≡ put_in (entries map.old.kept) (entry handle.new.index handle.new.generation key value) }
     ensures added { result ≡ 0 → OnKept map.old.kept (λ before. OnKept map.new.kept (λ is.
-        IsAdded non_zero_u32_get handle.new.index handle.new.generation (pair key value)
-        before.arena is.arena)) }
+        IsAdded handle.new.index handle.new.generation (pair key value) before.arena is.arena)) }
     ensures replaced { result ≡ 8 → OnKept map.old.kept (λ before. OnKept map.new.kept (λ is.
-        IsReplaced non_zero_u32_get handle.new.index handle.new.generation (pair key value)
+        IsReplaced handle.new.index handle.new.generation (pair key value)
         (pair key was.new) before.arena is.arena)) }
     ensures replaces { result ≡ 8 ↔ IsSome (with_key (entries map.old.kept) key) }
     ensures was { result ≡ 8
@@ -441,7 +440,7 @@ pub extern "C" fn ord_map_remove(
     value: &mut u64,
 ) -> u8
     ensures removed { result ≡ 0 → OnKept map.old.kept (λ was. OnKept map.new.kept
-        (λ is. IsEntryRemoved non_zero_u32_get (Some greatest) handle.index was.arena is.arena)) }
+        (λ is. IsEntryRemoved (Some greatest) handle.index was.arena is.arena)) }
     ensures listed { result ≡ 0
         → entries map.new.kept ≡ without_key (entries map.old.kept) key.new }
     ensures pair { result ≡ 0 → pair_at map.old.kept handle.index handle.generation
@@ -491,7 +490,7 @@ pub extern "C" fn ord_map_remove_key(
 ) -> u8
     ensures removed { result ≡ 0 → IfSome (with_key (entries map.old.kept) key)
         (λ e. OnKept map.old.kept (λ was. OnKept map.new.kept (λ is.
-        IsEntryRemoved non_zero_u32_get (Some greatest) e.0 was.arena is.arena))) }
+        IsEntryRemoved (Some greatest) e.0 was.arena is.arena))) }
     ensures listed { result ≡ 0
         → entries map.new.kept ≡ without_key (entries map.old.kept) key }
     ensures value { result ≡ 0

@@ -332,10 +332,10 @@ module _ (at : ℕ → Option (ℕ × Place)) where
 
 -- ---- a store
 
-module _ {I : Type 0} (number : I → ℕ) (rooms : Rooms) (last : ℕ) (s : State)
-    (places : Ordered I Place) (stops : Content (IndexLink I StopView)) (marks : Content MarkView)
-    (book : List Entry) (b : IsBook number rooms last s places stops marks book)
-    (ordered : IsOrdered number places)
+module _ (rooms : Rooms) (last : ℕ) (s : State)
+    (places : Ordered Place) (stops : Content (IndexLink StopView)) (marks : Content MarkView)
+    (book : List Entry) (b : IsBook rooms last s places stops marks book)
+    (ordered : IsOrdered places)
     (k : PlaceKey) (newest : (j n : ℕ) (q : Place) → entry_in places j ≡ Some (n, q)
     → q.ticket < k.ticket) (near i g : ℕ) (p : Place)
     (value : value_if g (entry_in places i) ≡ Some p) (held : place_holder s near ≡ Ok p) where
@@ -347,21 +347,21 @@ module _ {I : Type 0} (number : I → ℕ) (rooms : Rooms) (last : ℕ) (s : Sta
   has : p.ticket ≡ near
   has = found_has (λ (q : Place). q.ticket) near s.places p (held_place s near p held)
 
-  rise : PlacesRise (in_order number places)
+  rise : PlacesRise (in_order places)
   rise = subst PlacesRise b.held.in_order b.places_rise
 
   -- a search for a key that begins at the place with a ticket makes no more comparisons with keys
   -- than it may
   pub hint_bound : is_full_of_places s ≡ false → (old new : ℕ)
       → new ≤ old + (7 + most_comparisons (size_in places))
-      → (IsAscending number key_cmp key_of places → IsSome (entry_in places i)
-      → IsAtHand 7 (asked_at key_cmp key_of k places) (order_in number places) i → new ≤ old + 7)
+      → (IsAscending key_cmp key_of places → IsSome (entry_in places i)
+      → IsAtHand 7 (asked_at key_cmp key_of k places) (order_in places) i → new ≤ old + 7)
       → new ≤ old + most_near s k.key near
   hint_bound free old new bound close =
       rw (held, free) (subst (λ l. new ≤ old + most_from l k.key near) (sym b.held.in_order)
       (near_bound (entry_in places) k.key (asked_at key_cmp key_of k places)
-      (newest_past places k newest) (order_in number places)
-      (live_along number places None (order_in number places) ordered.linear) rise near i g p
+      (newest_past places k newest) (order_in places)
+      (live_along places None (order_in places) ordered.linear) rise near i g p
       stands has
       (λ j k q is same. booked_once (λ (r : Place). r.ticket) OfPlace (entry_in places) book
       b.held.places_in j i k g q p is stands (same ∙ sym has))

@@ -216,7 +216,7 @@ module _ (s : State) (f : Found) (order order' : List Place) (ends : ℕ → Opt
           let item : reword p.ticket word e.1 ≡ q = ap (λ (x : ℕ × Place). x.1) both in (
             e.1,
             (
-              was ∙ ap (λ m. Some (m, e.1)) number,
+              was ∙ ap (λ m. Some (m, e.1)),
               ap (λ (x : Place). x.ticket) (sym item) ∙ ticket_kept p.ticket word e.1,
             ),
           )

@@ -47,27 +47,26 @@ move_refusal_of last greatest limit rooms s =
     option_or (refusal_of last greatest limit (rooms.places + rooms.stops + rooms.marks))
     (if is_too_small rooms s then Some TooSmall else None)
 
-module _ {I : Type 0} where
-  -- a store that was moved: its state is the old one in its rooms, its counters have started, at
-  -- the generation that all items have, its arenas have the rooms of a new store's and are laid out
-  -- as a pack does it, and no reference is dead
-  pub record IsMovedIn (number : I → ℕ) (last : Option ℕ) (greatest : ℕ) (room : ℕ → Room)
-      (wanted : Rooms) (old : State) (new : Book I) : Type 0 where
-    pub state : new.state ≡ in_rooms wanted old
-    pub place_counter : new.places.chains.counter ≡ second_generation last
-    pub stop_counter : new.stops.counter ≡ second_generation last
-    pub mark_counter : new.marks.counter ≡ second_generation last
-    pub place_generations : HaveGeneration (second_generation last) (entry_in new.places)
-    pub stop_generations : HaveGeneration (second_generation last) (values_in new.stops)
-    pub mark_generations : HaveGeneration (second_generation last) (entry_at new.marks)
-    pub rooms : HasRooms greatest room wanted new
-    pub order : order_in number new.places ≡ range_with_len 1 (length new.state.places)
-    pub stop_runs : IsLaidOut (ends_in number new.stops) (live_count new.stops)
-    pub mark_run : (i : ℕ) → IsSome (entry_at new.marks i) ↔ ((1 ≤ i) × (i ≤ live_count new.marks))
-    pub place_free : new.places.chains.free ≡ []
-    pub stop_free : new.stops.free ≡ []
-    pub mark_free : new.marks.free ≡ []
-    pub stops : (i g : ℕ) (v : StopView) → values_in new.stops i ≡ Some (g, v)
-        → IsLive (entry_in new.places) v.place
-    pub marks : (i g : ℕ) (m : MarkView) → entry_at new.marks i ≡ Some (g, m)
-        → IsLive (entry_in new.places) m.place × IsLive (values_in new.stops) m.stop
+-- a store that was moved: its state is the old one in its rooms, its counters have started, at
+-- the generation that all items have, its arenas have the rooms of a new store's and are laid out
+-- as a pack does it, and no reference is dead
+pub record IsMovedIn (last : Option ℕ) (greatest : ℕ) (room : ℕ → Room)
+    (wanted : Rooms) (old : State) (new : Book) : Type 0 where
+  pub state : new.state ≡ in_rooms wanted old
+  pub place_counter : new.places.chains.counter ≡ second_generation last
+  pub stop_counter : new.stops.counter ≡ second_generation last
+  pub mark_counter : new.marks.counter ≡ second_generation last
+  pub place_generations : HaveGeneration (second_generation last) (entry_in new.places)
+  pub stop_generations : HaveGeneration (second_generation last) (values_in new.stops)
+  pub mark_generations : HaveGeneration (second_generation last) (entry_at new.marks)
+  pub rooms : HasRooms greatest room wanted new
+  pub order : order_in new.places ≡ range_with_len 1 (length new.state.places)
+  pub stop_runs : IsLaidOut (ends_in new.stops) (live_count new.stops)
+  pub mark_run : (i : ℕ) → IsSome (entry_at new.marks i) ↔ ((1 ≤ i) × (i ≤ live_count new.marks))
+  pub place_free : new.places.chains.free ≡ []
+  pub stop_free : new.stops.free ≡ []
+  pub mark_free : new.marks.free ≡ []
+  pub stops : (i g : ℕ) (v : StopView) → values_in new.stops i ≡ Some (g, v)
+      → IsLive (entry_in new.places) v.place
+  pub marks : (i g : ℕ) (m : MarkView) → entry_at new.marks i ≡ Some (g, m)
+      → IsLive (entry_in new.places) m.place × IsLive (values_in new.stops) m.stop

@@ -27,10 +27,9 @@ refusal_of last greatest limit total =
     else if is_past limit total then Some Stack
     else None
 
-module _ {I : Type 0} where
-  -- the arenas have the rooms that stacks are made with for so many places, stops and marks, over
-  -- indexes up to `greatest`
-  pub record HasRooms (greatest : ℕ) (room : ℕ → Room) (rooms : Rooms) (b : Book I) : Type 0 where
-    pub places : b.places.chains.room ≡ room_of greatest (room rooms.places)
-    pub stops : b.stops.room ≡ room_of greatest (room rooms.stops)
-    pub marks : b.marks.room ≡ room_of greatest (room rooms.marks)
+-- the arenas have the rooms that stacks are made with for so many places, stops and marks, over
+-- indexes up to `greatest`
+pub record HasRooms (greatest : ℕ) (room : ℕ → Room) (rooms : Rooms) (b : Book) : Type 0 where
+  pub places : b.places.chains.room ≡ room_of greatest (room rooms.places)
+  pub stops : b.stops.room ≡ room_of greatest (room rooms.stops)
+  pub marks : b.marks.room ≡ room_of greatest (room rooms.marks)

@@ -37,7 +37,7 @@ impl<P: PtrCore, B: BookBacking<P>> RouteBook<P, B> {
         counts: &mut Counts,
     ) -> io::Result<()>
         ensures state { self.new.state ≡ next self.old.state (command_of line.now) }
-        ensures steps { Steps P.Inx.number P.Gen.last
+        ensures steps { Steps P.Gen.last
             (command_of line.now) counts.old.looks counts.new.looks self.old self.new }
         ensures stays { Stays self.old.state (command_of line.now) self.old self.new }
         ensures others { Spares (command_of line.now) self.old self.new }
@@ -62,7 +62,7 @@ impl<P: PtrCore, B: BookBacking<P>> RouteBook<P, B> {
         counts: &mut Counts,
     ) -> io::Result<()>
         ensures state { self.new.state ≡ next self.old.state command }
-        ensures steps { Steps P.Inx.number P.Gen.last command counts.old.looks counts.new.looks
+        ensures steps { Steps P.Gen.last command counts.old.looks counts.new.looks
             self.old self.new }
         ensures stays { Stays self.old.state command self.old self.new }
         ensures others { Spares command self.old self.new }
@@ -94,7 +94,7 @@ impl<P: PtrCore, B: BookBacking<P>> RouteBook<P, B> {
     fn push_reply(&mut self, command: Command, text: &mut ReplyText, counts: &mut Counts)
         requires { text.old ≡ [] }
         ensures state { self.new.state ≡ next self.old.state (Some command) }
-        ensures steps { Steps P.Inx.number P.Gen.last
+        ensures steps { Steps P.Gen.last
             (Some command) counts.old.looks counts.new.looks self.old self.new }
         ensures stays { Stays self.old.state (Some command) self.old self.new }
         ensures others { Spares (Some command) self.old self.new }

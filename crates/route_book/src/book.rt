@@ -69,13 +69,13 @@ impl<P: PtrCore, B: BookBacking<P>> Model for RouteBook<P, B> {
     ghost use Rattle.route_lines.specs.Sound.{IsSound};
     ghost use Rattle.route_book.specs.Rooms.{counts_short};
 
-    ghost Value = { Book P.Inx };
+    ghost Value = { Book };
 
     ghost view = { λ b. record
         { state = b.held.state; places = b.places; stops = b.stops; marks = b.marks } };
 
     ghost invariant = { λ b. record {
-      book : IsBook P.Inx.number
+      book : IsBook
           (record { places = b.place_room; stops = b.stop_room; marks = b.mark_room }) b.last
           b.held.state b.places b.stops b.marks b.tickets.entries;
       sound : IsSound b.held.state;
@@ -150,7 +150,7 @@ impl<P: PtrCore, B: BookBacking<P>> RouteBook<P, B> {
     pub fn places_arena(&self) -> &SimpleOrdArena<P, Place, B::Places>
         ensures content { result.now ≡ self.now.places }
         ensures sound { IsSound self.now.state }
-        ensures order { self.now.state.places ≡ in_order P.Inx.number result.now }
+        ensures order { self.now.state.places ≡ in_order result.now }
     {
         &self.places
     }
@@ -161,10 +161,9 @@ impl<P: PtrCore, B: BookBacking<P>> RouteBook<P, B> {
         ensures content { result.now ≡ self.now.stops }
         ensures sound { IsSound self.now.state }
         ensures routes { AreRoutes (stop_in (found_of self.now))
-            (ends_in P.Inx.number result.now) self.now.state.routes }
+            (ends_in result.now) self.now.state.routes }
         ensures next { LeadAs (λ (t : StopView). t.ticket) (values_in result.now)
-            (ends_in P.Inx.number result.now)
-            (next_stop self.now.state.routes) }
+            (ends_in result.now) (next_stop self.now.state.routes) }
         ensures items { (i g : ℕ) (t : StopView) → values_in result.now i ≡ Some (g, t)
             → stop_of self.now.state.routes t.ticket ≡ Some (state_stop (found_of self.now) t) }
         ensures count { live_count result.now ≡ length (stop_list self.now.state.routes) }

@@ -32,17 +32,15 @@ pub(crate) fn put_place<P: PtrCore, S: OrdSlots<P, Place>>(
     found: Option<(P, Ordering)>,
     place: Place,
 ) -> P
-    requires rise { PlacesRise (in_order P.Inx.number arena.old) }
+    requires rise { PlacesRise (in_order arena.old) }
     requires newest { (i g : ℕ) (p : View) → entry_in arena.old i ≡ Some (g, p)
         → p.ticket < place.ticket }
-    requires found { IsSimilar P.index P.generation P.Inx.number
+    requires found { IsSimilar P.index P.generation
         (asked_at key_cmp key_of (key_of place) arena.old)
-        (IsAscending P.Inx.number key_cmp key_of arena.old) found arena.old }
+        (IsAscending key_cmp key_of arena.old) found arena.old }
     requires room { size_in arena.old < arena_capacity arena.old.chains }
-    ensures order { in_order P.Inx.number arena.new
-        ≡ put_in place (in_order P.Inx.number arena.old) }
-    ensures added { IsAdded P.Inx.number (P.index result)
-        (P.generation result) place arena.old arena.new }
+    ensures order { in_order arena.new ≡ put_in place (in_order arena.old) }
+    ensures added { IsAdded (P.index result) (P.generation result) place arena.old arena.new }
     ensures counter { arena.new.chains.counter ≡ arena.old.chains.counter }
     ensures same_room { arena.new.chains.room ≡ arena.old.chains.room }
 {
@@ -65,7 +63,7 @@ pub(crate) fn reword<P: PtrCore, S: OrdSlots<P, Place>>(
         → result ≡ p.word }
     ensures replaced { (p : View)
         → value_if (P.generation at) (entry_in arena.old (P.index at)) ≡ Some p
-        → IsReplaced P.Inx.number (P.index at) (P.generation at)
+        → IsReplaced (P.index at) (P.generation at)
         (record p { word = word }) p arena.old arena.new }
 {
     writes_keep_the_list::<P, Place>();
@@ -83,10 +81,10 @@ pub(crate) fn ticket_before<P: PtrCore, S: OrdSlots<P, Place>>(
     at: P,
 ) -> Option<u64>
     requires live { IsSome (value_if (P.generation at) (entry_in places.now (P.index at))) }
-    requires rise { PlacesRise (in_order P.Inx.number places.now) }
+    requires rise { PlacesRise (in_order places.now) }
     ensures { (front back : List View) (p : View)
         → value_if (P.generation at) (entry_in places.now (P.index at)) ≡ Some p
-        → in_order P.Inx.number places.now ≡ front ++ p ∷ back
+        → in_order places.now ≡ front ++ p ∷ back
         → result ≡ option_map (λ (q : View). q.ticket) (last_item front) }
 {
     entries_stand_in_the_list::<P, Place>();
@@ -105,10 +103,10 @@ pub(crate) fn ticket_after<P: PtrCore, S: OrdSlots<P, Place>>(
     at: P,
 ) -> Option<u64>
     requires live { IsSome (value_if (P.generation at) (entry_in places.now (P.index at))) }
-    requires rise { PlacesRise (in_order P.Inx.number places.now) }
+    requires rise { PlacesRise (in_order places.now) }
     ensures { (front back : List View) (p : View)
         → value_if (P.generation at) (entry_in places.now (P.index at)) ≡ Some p
-        → in_order P.Inx.number places.now ≡ front ++ p ∷ back
+        → in_order places.now ≡ front ++ p ∷ back
         → result ≡ option_map (λ (q : View). q.ticket) (first_item back) }
 {
     entries_stand_in_the_list::<P, Place>();
@@ -128,9 +126,9 @@ pub(crate) fn floor_ticket<P: PtrCore, S: OrdSlots<P, Place>>(
     key: u64,
     probes: &mut Probes,
 ) -> Option<u64>
-    requires rise { PlacesRise (in_order P.Inx.number places.now) }
+    requires rise { PlacesRise (in_order places.now) }
     ensures ticket { result ≡ option_map (λ (p : View). p.ticket)
-        (find (λ (p : View). nat_le p.key key) (reverse (in_order P.Inx.number places.now))) }
+        (find (λ (p : View). nat_le p.key key) (reverse (in_order places.now))) }
     ensures bound { probes.new ≤ probes.old + most_comparisons (size_in places.now) }
     ensures rises { probes.old ≤ probes.new }
 {
@@ -159,9 +157,9 @@ pub(crate) fn first_ticket<P: PtrCore, S: OrdSlots<P, Place>>(
     key: u64,
     probes: &mut Probes,
 ) -> Option<u64>
-    requires rise { PlacesRise (in_order P.Inx.number places.now) }
+    requires rise { PlacesRise (in_order places.now) }
     ensures ticket { result ≡ option_map (λ (p : View). p.ticket)
-        (with_key key (in_order P.Inx.number places.now)) }
+        (with_key key (in_order places.now)) }
     ensures bound { probes.new ≤ probes.old + most_comparisons (size_in places.now) }
     ensures rises { probes.old ≤ probes.new }
 {

@@ -125,7 +125,7 @@ pub(crate) fn recast_all_stops<P: PtrCore, S: ChainSlots<P, Stop<P>>, R: DirectS
           recast_stop (numbers P.index P.generation (entry_at places.now))
               e.1,
         )) (values_in stops.old j) }
-    ensures ends { (j : ℕ) → ends_in P.Inx.number stops.new j ≡ ends_in P.Inx.number stops.old j }
+    ensures ends { (j : ℕ) → ends_in stops.new j ≡ ends_in stops.old j }
     ensures live { live_count stops.new ≡ live_count stops.old }
     ensures free { stops.new.free ≡ stops.old.free }
     ensures counter { stops.new.counter ≡ stops.old.counter }

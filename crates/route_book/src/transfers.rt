@@ -62,14 +62,14 @@ pub(crate) fn transfer_places<P: PtrCore, S: OrdSlots<P, Place>, Q: PtrCore, R: 
 )
     requires fits { size_in from ≤ arena_capacity to.old.chains }
     requires no_more { ⊤ }
-    ensures entries { order_in P.Inx.number from ≡ range_with_len 1 (size_in from)
+    ensures entries { order_in from ≡ range_with_len 1 (size_in from)
         → (k : ℕ)
         → entry_in to.new k
         ≡ option_map (λ e. (second_generation Q.Gen.last, e.1)) (entry_in from k) }
-    ensures within { order_in P.Inx.number from ≡ range_with_len 1 (size_in from)
+    ensures within { order_in from ≡ range_with_len 1 (size_in from)
         → (k : ℕ) → IsSome (entry_in from k) → k ≤ max_index_of Q.Inx.greatest }
-    ensures order { in_order Q.Inx.number to.new ≡ in_order P.Inx.number from }
-    ensures run { order_in Q.Inx.number to.new ≡ range_with_len 1 (size_in from) }
+    ensures order { in_order to.new ≡ in_order from }
+    ensures run { order_in to.new ≡ range_with_len 1 (size_in from) }
     ensures size { size_in to.new ≡ size_in from }
     ensures free { to.new.chains.free ≡ [] }
     ensures counter { to.new.chains.counter ≡ second_generation Q.Gen.last }
@@ -101,22 +101,21 @@ pub(crate) fn transfer_stops<
 >(from: ChainArena<P, Stop<P>, S>, to: &mut ChainArena<Q, Stop<Q>, R>)
     requires fits { live_count from ≤ arena_capacity to.old }
     requires no_more { ⊤ }
-    ensures entries { IsLaidOut (ends_in P.Inx.number from) (live_count from)
+    ensures entries { IsLaidOut (ends_in from) (live_count from)
         → (k : ℕ)
         → values_in to.new k
         ≡ option_map (λ e. (
           second_generation Q.Gen.last,
           stop_over (max_index_of Q.Inx.greatest) (second_generation Q.Gen.last) e.1,
         )) (values_in from k) }
-    ensures within { IsLaidOut (ends_in P.Inx.number from) (live_count from)
+    ensures within { IsLaidOut (ends_in from) (live_count from)
         → (k : ℕ) → IsSome (values_in from k) → k ≤ max_index_of Q.Inx.greatest }
-    ensures on { (i k : ℕ)
-        → next_at (ends_in P.Inx.number from) i ≡ Some k → IsSome (values_in from k) }
-    ensures next { IsLaidOut (ends_in P.Inx.number from) (live_count from)
+    ensures on { (i k : ℕ) → next_at (ends_in from) i ≡ Some k → IsSome (values_in from k) }
+    ensures next { IsLaidOut (ends_in from) (live_count from)
         → (k : ℕ) → IsSome (values_in from k)
-        → next_at (ends_in Q.Inx.number to.new) k ≡ next_at (ends_in P.Inx.number from) k }
-    ensures laid { IsLaidOut (ends_in P.Inx.number from) (live_count from)
-        → IsLaidOut (ends_in Q.Inx.number to.new) (live_count from) }
+        → next_at (ends_in to.new) k ≡ next_at (ends_in from) k }
+    ensures laid { IsLaidOut (ends_in from) (live_count from)
+        → IsLaidOut (ends_in to.new) (live_count from) }
     ensures live { live_count to.new ≡ live_count from }
     ensures free { to.new.free ≡ [] }
     ensures counter { to.new.counter ≡ second_generation Q.Gen.last }

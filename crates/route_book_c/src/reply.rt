@@ -124,7 +124,7 @@ pub(crate) fn gather<P: PtrCore, B: BookBacking<P>>(
     ensures short { length text.new ≤ 59 }
     ensures rooms { KeepsRooms book.old book.new }
     ensures packed { command ≡ Asked.Pack → (looks : ℕ)
-        × IsPacked P.Inx.number P.Gen.last 0 looks book.old book.new }
+        × IsPacked P.Gen.last 0 looks book.old book.new }
 {
     match command {
         Command::Place { key, word, near } => match near {

@@ -33,7 +33,7 @@ impl<P: PtrCore, B: BookBacking<P>> RouteBook<P, B> {
         stops: usize,
         marks: usize,
     ) -> Result<RouteBook<Q, C>, (RoomError, RouteBook<P, B>)>
-        ensures moved { IfOk result (λ book. IsMovedIn Q.Inx.number Q.Gen.last Q.Inx.greatest
+        ensures moved { IfOk result (λ book. IsMovedIn Q.Gen.last Q.Inx.greatest
             C.room (record { places = places; stops = stops; marks = marks }) self.state book) }
         ensures back { IfErr result (λ refused. refused.1 ≡ self) }
         ensures refused { (e : Refused)
@@ -75,7 +75,7 @@ impl<P: PtrCore, B: BookBacking<P>> RouteBook<P, B> {
         ensures { (rooms : Rooms)
             → to.state.rooms ≡ rooms
             → HasRooms Q.Inx.greatest C.room rooms to
-            → IsMovedIn Q.Inx.number Q.Gen.last Q.Inx.greatest C.room rooms self.state result }
+            → IsMovedIn Q.Gen.last Q.Inx.greatest C.room rooms self.state result }
     {
         let mut store = self;
         store.pack();
@@ -84,15 +84,14 @@ impl<P: PtrCore, B: BookBacking<P>> RouteBook<P, B> {
 
     // Moves what a packed store holds to another one, whose rooms hold it.
     fn move_packed<Q: PtrCore, C: BookBacking<Q>>(self, to: RouteBook<Q, C>) -> RouteBook<Q, C>
-        requires packed { (old : Book P.Inx)
-            × ((looks : ℕ) × IsPacked P.Inx.number P.Gen.last 0 looks old self) }
+        requires packed { (old : Book) × ((looks : ℕ) × IsPacked P.Gen.last 0 looks old self) }
         requires places { length self.state.places ≤ to.state.rooms.places }
         requires stops { length (stop_list self.state.routes) ≤ to.state.rooms.stops }
         requires marks { length self.state.marks ≤ to.state.rooms.marks }
         ensures { (rooms : Rooms)
             → to.state.rooms ≡ rooms
             → HasRooms Q.Inx.greatest C.room rooms to
-            → IsMovedIn Q.Inx.number Q.Gen.last Q.Inx.greatest C.room rooms self.state result }
+            → IsMovedIn Q.Gen.last Q.Inx.greatest C.room rooms self.state result }
     {
         changes_keep_states_sound();
         let mut moved = to;

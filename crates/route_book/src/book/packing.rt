@@ -35,7 +35,7 @@ fn compress_all<
     stops: &mut ChainArena<P, Stop<P>, R>,
     marks: &mut Arena<P, Mark<P>, Q>,
 )
-    ensures { IsAllCompressed P.Inx.number P.Gen.last places.old places.new stops.old stops.new
+    ensures { IsAllCompressed P.Gen.last places.old places.new stops.old stops.new
         marks.old marks.new }
 {
     // The lists are as they must be, and each live index is within the room.
@@ -68,14 +68,14 @@ pub(crate) fn pack_if<P: PtrCore, B: BookBacking<P>>(
     mirrors: &mut Mirrors<P, B::Mirror>,
     looks: &mut Probes,
 )
-    requires book { IsBook P.Inx.number held.now.state.rooms held.now.state.last held.now.state
+    requires book { IsBook held.now.state.rooms held.now.state.last held.now.state
         places.old stops.old marks.old tickets.old.entries }
     requires place_mirror { arena_capacity places.old.chains ≡ mirror_capacity mirrors.old.places }
     requires stop_mirror { arena_capacity stops.old ≡ mirror_capacity mirrors.old.stops }
     requires mark_mirror { arena_capacity marks.old ≡ mirror_capacity mirrors.old.marks }
-    ensures book { IsBook P.Inx.number held.now.state.rooms held.now.state.last held.now.state
+    ensures book { IsBook held.now.state.rooms held.now.state.last held.now.state
         places.new stops.new marks.new tickets.new.entries }
-    ensures ready { IsReady P.Inx.number P.Gen.last needed looks.old looks.new
+    ensures ready { IsReady P.Gen.last needed looks.old looks.new
         (as_book held.now.state places.old stops.old marks.old)
         (as_book held.now.state places.new stops.new marks.new) }
     ensures stand { StandAs (entry_at tickets.old) (entry_at tickets.new) }
@@ -110,7 +110,7 @@ impl<P: PtrCore, B: BookBacking<P>> RouteBook<P, B> {
     /// other items, or none. No memory is taken, and the state and the rooms stay.
     pub fn pack(&mut self)
         ensures state { self.new.state ≡ self.old.state }
-        ensures packed { (looks : ℕ) × IsPacked P.Inx.number P.Gen.last 0 looks self.old self.new }
+        ensures packed { (looks : ℕ) × IsPacked P.Gen.last 0 looks self.old self.new }
     {
         self.pack_counted(&mut Counts::new());
     }
@@ -118,8 +118,7 @@ impl<P: PtrCore, B: BookBacking<P>> RouteBook<P, B> {
     /// The same, with the looks at stored references counted. Its searches by ticket are not.
     pub fn pack_counted(&mut self, counts: &mut Counts)
         ensures state { self.new.state ≡ self.old.state }
-        ensures packed { IsPacked P.Inx.number P.Gen.last counts.old.looks counts.new.looks
-            self.old self.new }
+        ensures packed { IsPacked P.Gen.last counts.old.looks counts.new.looks self.old self.new }
         ensures counts { ComparesWithin counts.old counts.new 0 0 0 }
     {
         pack_if::<P, B>(

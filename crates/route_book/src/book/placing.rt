@@ -159,10 +159,10 @@ impl<P: PtrCore, B: BookBacking<P>> RouteBook<P, B> {
     // A place under the next ticket, beside the one that the search for its key and ticket found;
     // that ticket.
     fn add_place(&mut self, found: Option<(P, Ordering)>, key: u64, word: Word) -> u64
-        requires similar { IsSimilar P.index P.generation P.Inx.number
+        requires similar { IsSimilar P.index P.generation
             (asked_at key_cmp key_of (record { key = key; ticket = self.old.state.last + 1 })
             self.old.places)
-            (IsAscending P.Inx.number key_cmp key_of self.old.places) found self.old.places }
+            (IsAscending key_cmp key_of self.old.places) found self.old.places }
         requires free { is_full_of_places self.old.state ≡ false }
         ensures changes { Changes (placed self.old.state)
             (after_place self.old.state key word) (Ok result) self.old self.new }

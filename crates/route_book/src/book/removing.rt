@@ -42,14 +42,14 @@ fn end_at<P: PtrCore, B: BookBacking<P>>(
     tickets: &mut TicketBook<P, B::Book>,
     at: P::Inx,
 )
-    requires book { IsBook P.Inx.number held.old.state.rooms held.old.state.last held.old.state
+    requires book { IsBook held.old.state.rooms held.old.state.last held.old.state
         places.old stops.old marks.old tickets.old.entries }
     requires sound { IsSound held.old.state }
     requires counts { counts_short P.Gen.last ≡ false }
     requires stands { (e : EntryView) × (entry_at tickets.old (P.Inx.number at) ≡ Some e)
         × (removal_wraps P.Gen.last (as_book held.old.state places.old stops.old marks.old) e.kind
         ≡ false) }
-    ensures book { IsBook P.Inx.number held.old.state.rooms held.old.state.last held.new.state
+    ensures book { IsBook held.old.state.rooms held.old.state.last held.new.state
         places.new stops.new marks.new tickets.new.entries }
     ensures sound { IsSound held.new.state }
     ensures ends { (e : EntryView) → entry_at tickets.old (P.Inx.number at) ≡ Some e
@@ -96,8 +96,7 @@ impl<P: PtrCore, B: BookBacking<P>> RouteBook<P, B> {
         ensures result { result ≡ removed self.old.state ticket }
         ensures state { self.new.state ≡ after_removed self.old.state ticket }
         ensures removes { (looks : ℕ)
-            × Removes P.Inx.number P.Gen.last ticket 0 looks self.old self.new
-            (holder self.old.state ticket) }
+            × Removes P.Gen.last ticket 0 looks self.old self.new (holder self.old.state ticket) }
     {
         self.remove_counted(ticket, &mut Counts::new())
     }
@@ -111,7 +110,7 @@ impl<P: PtrCore, B: BookBacking<P>> RouteBook<P, B> {
     pub fn remove_counted(&mut self, ticket: u64, counts: &mut Counts) -> Result<(), Refusal>
         ensures result { result ≡ removed self.old.state ticket }
         ensures state { self.new.state ≡ after_removed self.old.state ticket }
-        ensures removes { Removes P.Inx.number P.Gen.last ticket counts.old.looks counts.new.looks
+        ensures removes { Removes P.Gen.last ticket counts.old.looks counts.new.looks
             self.old self.new
             (holder self.old.state ticket) }
         ensures counts { ComparesWithin counts.old counts.new

@@ -21,7 +21,7 @@ impl<P: PtrCore, B: BookBacking<P>> RouteBook<P, B> {
     // Whether no further stop can be had.
     pub(crate) fn is_full_of_stops(&self) -> bool
         ensures is { result ≡ is_full_of_stops self.now.state }
-        ensures chained { IsChained P.Inx.number self.now.stops }
+        ensures chained { IsChained self.now.stops }
     {
         self.stops.len() >= self.stop_room || self.last == u64::MAX
     }

@@ -14,7 +14,7 @@ returns-in-Some-clause-listed c =
     c.entries_stand_in_the_list.ensures (Some greatest) (non_zero_u32_get c.args.inx)
     (non_zero_u32_get c.in-Some.taken.0) c.in-Some.taken.1
     (where_some value_of answer c.in-Some.taken found c.remove_inx.ensures.exact)
-    (taken_stood non_zero_u32_get value_of answer c.in-Some.taken _ found
+    (taken_stood value_of answer c.in-Some.taken _ found
     c.remove_inx.ensures.value)).entries
 
 pub returns-in-Some-clause-map : goal.returns-in-Some-clause-map
@@ -25,6 +25,6 @@ returns-in-Some-clause-map c =
     c.entries_stand_in_the_list.ensures (Some greatest) (non_zero_u32_get c.args.inx)
     (non_zero_u32_get c.in-Some.taken.0) c.in-Some.taken.1
     (where_some value_of answer c.in-Some.taken found c.remove_inx.ensures.exact)
-    (taken_stood non_zero_u32_get value_of answer c.in-Some.taken _ found
+    (taken_stood value_of answer c.in-Some.taken _ found
     c.remove_inx.ensures.value) in
     record { ordered = c.remove_inx.ensures.formed.ordered; rise = out.rise }
