@@ -1,6 +1,6 @@
 -- The laws of comparisons and of hashing, at options.
 use Rattle.std.specs.Prelude.{◌≡◌, List, ℕ, ◌∷◌, Bool, true, Option, Some, None, IsTrue, refl}
-use Rattle.std.specs.Cmp.{IsPartialEquivalence, IsPartialOrder}
+use Rattle.std.specs.Cmp.{IsPartialEquivalence, IsPartialOrder, IsTotalOrder}
 use Rattle.std.specs.Hash.{le_bytes, option as option_fed}
 use Rattle.std.specs.Option.{option_map, option_eq, option_cmp, option_partial_cmp}
 use Rattle.std.specs.Ordering.{ordering_reverse}
@@ -106,3 +106,11 @@ module _ {K V : Type 0} (E : K → K → Bool) where
     matches_eq = λ p q. o.matches_eq (f p) (f q);
     congr = λ p q s. o.congr (f p) (f q) (f s);
   }
+
+pub total_by : {K V : Type 0} (R : K → K → Ordering) (f : V → K) → IsTotalOrder R
+    → IsTotalOrder (λ (x : V) (y : V). R (f x) (f y))
+total_by R f o = record {
+  antisymm = λ p q. o.antisymm (f p) (f q);
+  trans = λ p q s. o.trans (f p) (f q) (f s);
+  congr = λ p q s. o.congr (f p) (f q) (f s);
+}

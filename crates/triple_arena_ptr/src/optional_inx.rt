@@ -5,6 +5,7 @@ ghost use Rattle.std.specs.Cmp.Rules.{comparing};
 ghost use Rattle.std.proofs.Common.{rules};
 ghost use Rattle.triple_arena_ptr.specs.OptionLaws.{options_agree, options_fed, options_per};
 ghost use Rattle.triple_arena_ptr.specs.OptionLaws.{options_po, options_tied, per_by, po_by};
+ghost use Rattle.triple_arena_ptr.specs.OptionLaws.{total_by};
 
 use crate::ptr::PtrInxCore;
 use std::alloc::AllocError;
@@ -134,7 +135,8 @@ impl<I: PtrInxCore<Word = W> + PartialOrd, W: Copy> PartialOrd for OptionalInx<I
 impl<I: PtrInxCore<Word = W> + Ord, W: Copy> Ord for OptionalInx<I, W> {
     ghost cmp = { λ x y. ⟦<Option<I> as Ord>⟧.cmp (I.held (I.word x)) (I.held (I.word y)) };
 
-    ghost total = { Prim.search (comparing, rules) };
+    ghost total = { total_by ⟦<Option<I> as Ord>⟧.cmp (λ (o : Option ℕ). I.held (I.word o))
+        (Prim.search (comparing, rules)) };
 
     ghost matches_partial_cmp = { Prim.search (options_agree, rules) };
 
