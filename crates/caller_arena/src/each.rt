@@ -1,5 +1,5 @@
-//! Writing each value of an arena: an advancer goes over the pointers, and each value is lent in
-//! turn.
+//! Writing each value of an arena: an advancer goes over the pointers, and each value is borrowed
+//! in turn.
 ghost use Rattle.std.specs.Prelude.{◌≡◌, ℕ, ◌+◌, ◌%◌, ◌^◌};
 ghost use Rattle.std.specs.Option.{option_map};
 

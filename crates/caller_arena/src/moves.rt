@@ -35,7 +35,7 @@ pub fn drain<P: PtrCore, T: Drop, S: ArenaSlots<P, T>>(arena: &mut Arena<P, T, S
     drop(arena.drain());
 }
 
-/// A drain that is dropped after its first item leaves the same.
+/// A drain that is dropped after its first item leaves what one that is dropped at once leaves.
 pub fn take_first<P: PtrCore, T: Drop, S: ArenaSlots<P, T>>(
     arena: &mut Arena<P, T, S>,
 ) -> Option<InvalidationOption<(P, T)>>
@@ -47,7 +47,8 @@ pub fn take_first<P: PtrCore, T: Drop, S: ArenaSlots<P, T>>(
     drain.next()
 }
 
-/// The same of any arena. The item is the first removal of all.
+/// A drain of any arena that is dropped after its first item leaves what one that is dropped at
+/// once leaves. The item is the first removal of all.
 pub fn take_first_of_any<P: PtrCore, T: Drop, A: ArenaTrait<P, T>>(
     arena: &mut A,
 ) -> Option<InvalidationOption<(P, T)>>
@@ -141,7 +142,7 @@ pub fn limit<P: PtrCore, T: Drop, S: NonZeroInxLimitedStack<Item = ArenaSlot<P, 
     arena.set_max_capacity(max)
 }
 
-/// The same of an arena to which the caller gives the pointers.
+/// A limit that is set on an arena to which the caller gives the pointers.
 #[tactic(auto, using(triple_arena::specs::DirectLaws::direct_limits))]
 pub fn limit_direct<P: PtrCore, T: Drop, S: NonZeroInxLimitedStack<Item = DirectSlot<P, T>> + Drop>(
     arena: &mut DirectArena<P, T, S>,

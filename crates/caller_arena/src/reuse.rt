@@ -10,9 +10,9 @@ use triple_arena::{ArenaInsertTrait, InvalidationResult, PtrCore};
 /// Removes what `p` points to, and stores `t` if there is room now. It answers the pointer of `t`,
 /// or `None`, and changes nothing, if `p` points to no entry.
 ///
-/// If generations are counted, whatever was done with the arena since it was new, and as long as
-/// no step started the generations again: that pointer is none of those that the arena gave before,
-/// and `p`, if the arena gave it, finds nothing ever after.
+/// If generations are counted, whatever was done with the arena since it was new, and as long as no
+/// step wrapped the generations: that pointer is none of those that the arena gave before, and `p`,
+/// if the arena gave it, finds nothing ever after.
 pub fn replace<P: PtrCore, T: Drop, A: ArenaInsertTrait<P, T>>(
     arena: &mut A,
     p: P,

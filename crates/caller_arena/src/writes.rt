@@ -1,4 +1,4 @@
-//! What a caller learns of a write through what an arena lends, and of `arena[p]`.
+//! What a caller learns of a write through a borrowed value, and of `arena[p]`.
 ghost use Rattle.std.specs.Prelude.{◌≡◌, ℕ, ◌↔◌, false, IsTrue, IsSome};
 ghost use Rattle.triple_arena.specs.Content.{get, with_value};
 ghost use Rattle.triple_arena.specs.Entries.{value_if, with_value_at};

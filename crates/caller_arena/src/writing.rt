@@ -39,7 +39,8 @@ pub fn double_each<P: PtrCore, S: ArenaSlots<P, u64>>(arena: &mut Arena<P, u64, 
     double(arena.vals_mut());
 }
 
-/// The same of a direct arena over known pointers, where the loop needs no function of its own.
+/// Doubles each value of a direct arena over known pointers, where the loop needs no function of
+/// its own. No pointer ends.
 pub fn double_each_directly<S: DirectSlots<P0, u64>>(arena: &mut DirectArena<P0, u64, S>)
     ensures { IsRewritten direct_entry_at direct_live_count no_counter (λ d. d.room)
         arena.old arena.new }
@@ -148,7 +149,8 @@ pub fn add<P: PtrCore, A: DisjointableArenaTrait<P, u64>>(arena: &mut A, p: P, q
     }
 }
 
-/// The same at an arena in a vector, whose size is known.
+/// Adds the value that `q` points to to that of `p`, in an arena in a vector, whose size is known,
+/// and tells whether it did.
 pub fn add_on_heap(arena: &mut HeapArena<P0, u64, Global>, p: P0, q: P0) -> bool
     ensures { result ≡ false → arena.new ≡ arena.old }
 {

@@ -34,7 +34,8 @@ pub fn sum<P: PtrCore, S: ArenaSlots<P, u64>>(arena: Arena<P, u64, S>) -> u64
     total
 }
 
-/// The same, on the heap, by a `for` of its own.
+/// The sum of the values of an arena on the heap, by a `for` of its own. Past the greatest number
+/// it goes on from 0.
 pub fn sum_on_heap(arena: HeapArena<P0, u64, Global>) -> u64
     ensures { result ≡ sum_of (list_map value_of (live_entries arena)) % 2 ^ 64 }
 {

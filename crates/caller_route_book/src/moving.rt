@@ -112,7 +112,8 @@ pub fn grow<P: PtrCore, B: BookBacking<P>, Q: PtrCore, C: BookBacking<Q>>(
     }
 }
 
-/// The same out of small arrays, over narrow pointers, and onto the heap.
+/// A store of one place and one stop in small arrays, over narrow pointers, that moves onto the
+/// heap as its second stop comes. `None` if it is not made, or does not move.
 pub fn grow_to_heap<P: PtrCore, A: Allocator + Copy>(
     alloc: A,
     word: Word,

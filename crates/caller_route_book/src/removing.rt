@@ -36,7 +36,8 @@ pub fn close<P: PtrCore, B: BookBacking<P>>(
     closed
 }
 
-/// The same, and then a pack: each reference to the place is `Gone`.
+/// Removes a place, and then packs: each reference to the place is `Gone`. A refused removal packs
+/// nothing.
 pub fn close_and_pack<P: PtrCore, B: BookBacking<P>>(
     book: &mut RouteBook<P, B>,
     ticket: u64,

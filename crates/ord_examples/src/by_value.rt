@@ -39,7 +39,8 @@ pub fn sum<P: PtrCore, S: OrdSlots<P, u64>>(arena: SimpleOrdArena<P, u64, S>) ->
     total
 }
 
-/// The same, on the heap, by a `for` of its own.
+/// The sum of the values of an arena on the heap, by a `for` of its own. Past the greatest number
+/// it goes on from 0.
 pub fn sum_on_heap(arena: HeapOrdArena<P0, u64, Global>) -> u64
     ensures { result ≡ sum_of (list_map value_of (ordered_entries arena)) % 2 ^ 64 }
 {
@@ -96,7 +97,8 @@ pub fn listed<P: PtrCore, T: Drop, S: OrdSlots<P, T>, A: Allocator>(
     Ok(entries)
 }
 
-/// The same, of keys that ascend: so do they in the vector.
+/// The items beside their pointers, in the order of the list. If the keys ascend there, they do in
+/// the vector.
 pub fn sorted<P: PtrCore, T: SimpleOrdItem + Drop, S: OrdSlots<P, T>, A: Allocator>(
     arena: SimpleOrdArena<P, T, S>,
     alloc: A,

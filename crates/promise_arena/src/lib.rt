@@ -84,7 +84,7 @@ pub fn free_neighbors<P: PtrCore, T: Drop, S: ArenaSlots<P, T>>(
     }
 }
 
-/// Removes a value, and tells where the step of the counter started the generations again.
+/// Removes a value, and tells where the step of the counter wrapped.
 pub fn remove<P: PtrCore, T: Drop, A: ArenaTrait<P, T>>(
     arena: &mut A,
     p: P,

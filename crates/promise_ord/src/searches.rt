@@ -41,7 +41,8 @@ pub fn find_key_counted<P: PtrCore, T: SimpleOrdItem + Drop, S: OrdSlots<P, T>>(
     found
 }
 
-/// The same, along the list from an entry first, for so many comparisons.
+/// Finds an entry with an equal key, along the list from an entry first, for so many comparisons;
+/// in a list whose keys ascend, exactly if there is one. Each comparison is a tick.
 pub fn find_key_linear_counted<P: PtrCore, T: SimpleOrdItem + Drop, S: OrdSlots<P, T>>(
     arena: &SimpleOrdArena<P, T, S>,
     p_init: P,

@@ -14,9 +14,9 @@ use triple_arena_ptr::PtrCore;
 /// A pointer that finds nothing in its arena is a reference to an item that has ended.
 #[derive(Clone, Copy)]
 pub enum Ref<P> {
-    /// To what the pointer finds.
+    /// A reference to the item that the pointer finds, if it finds one.
     To(P),
-    /// To nothing.
+    /// A reference to an item that is gone.
     Gone,
 }
 
@@ -61,7 +61,7 @@ impl Place {
         self.key.ticket
     }
 
-    /// The key as a number. `key` lends it, for the arena.
+    /// The key as a number. `key` borrows the key as the arena orders it, with the ticket.
     pub fn key_number(&self) -> u64
         ensures { result ≡ self.now.key }
     {

@@ -1,5 +1,5 @@
-//! Whether the tree of an arena agrees with its list, seen from outside: by the nodes that the
-//! arena lends.
+//! Whether the tree of an arena agrees with its list, seen from outside: by the nodes that are
+//! borrowed from the arena.
 use crate::knots::{Knot, ShowsKnots};
 use crate::work::most;
 use triple_arena::{PtrCore, PtrInxCore};

@@ -83,7 +83,8 @@ fn limit_of_search<P: PtrCore + PartialEq, A: ShowsKnots<P>>(
     }
 }
 
-/// The same of one that goes along the list from an index until it comes to the place.
+/// How many comparisons a search may make that goes along the list from an index until it comes to
+/// the place of the key.
 pub fn limit_from<P: PtrCore, A: ShowsKnots<P>>(
     arena: &A,
     start: P::Inx,

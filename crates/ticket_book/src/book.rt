@@ -113,7 +113,8 @@ fn put_last<P: PtrCore, S: OrdSlots<P, Entry<P>>>(
 }
 
 impl<P: PtrCore, S: OrdSlots<P, Entry<P>>> TicketBook<P, S> {
-    /// A book without a ticket, with room for so many.
+    /// A book without a ticket, with room for so many. It returns `BeyondMaxCapacity` if no book of
+    /// this type has so much room, and `AllocError` if the memory was refused.
     pub fn with_room(alloc: S::Alloc, room: usize) -> Result<Self, ReallocationError>
         ensures empty { IfOk result (λ book. book.entries ≡ []) }
         ensures fits { IfOk result (λ book. room ≤ book.capacity) }
@@ -219,7 +220,8 @@ impl<P: PtrCore, S: OrdSlots<P, Entry<P>>> TicketBook<P, S> {
         }
     }
 
-    /// The entry of a ticket, found as by [`locate`](TicketBook::locate).
+    /// The entry of a ticket, or `None` if the book does not have the ticket. It is found as by
+    /// [`locate`](TicketBook::locate), and each comparison is a tick.
     pub fn find_counted(&self, ticket: u64, probes: &mut Probes) -> Option<&Entry<P>>
         ensures found { option_map (λ e. e.now) result ≡ lookup self.now.entries ticket }
         ensures ticks { probes.new ≡ probes.old + asked self.now ticket }
@@ -231,7 +233,9 @@ impl<P: PtrCore, S: OrdSlots<P, Entry<P>>> TicketBook<P, S> {
         }
     }
 
-    /// A ticket above all others. It is compared with none, and its entry stands at the next index.
+    /// Adds a ticket above all others, with the kind of its item and the pointer to it. The caller
+    /// owes that it is above them and that there is room. The ticket is compared with none, and its
+    /// entry stands at the next index.
     pub fn add(&mut self, ticket: u64, kind: Kind, at: P)
         requires above { AreBelow self.old.entries ticket }
         requires room { length self.old.entries < self.old.capacity }
@@ -285,8 +289,8 @@ impl<P: PtrCore, S: OrdSlots<P, Entry<P>>> TicketBook<P, S> {
         }
     }
 
-    /// Each pointer becomes what the mirror of its kind has under it. One that the mirror has not
-    /// stays, and so does each entry where it is.
+    /// Replaces the pointer of each entry by the one that the mirror of its kind has under it. A
+    /// pointer that the mirror does not have stays, and each entry stays at its index.
     pub fn renew<M: ArenaTrait<P, P>, N: ArenaTrait<P, P>, O: ArenaTrait<P, P>>(
         &mut self,
         places: &M,

@@ -50,7 +50,7 @@ use unreached::unreached;
 ///
 /// Each value that is inserted gets a pointer of type `P`: an index of a slot, and the generation
 /// of the arena's counter. Each removal steps the counter. If generations are counted, a pointer
-/// finds its own value or nothing, until they start again or a call sets, resets or copies the
+/// finds its own value or nothing, until the generations wrap, or a call sets, resets or copies the
 /// counter.
 #[derive(Drop)]
 pub struct Arena<P: PtrCore, T: Drop, S: ArenaSlots<P, T>> {

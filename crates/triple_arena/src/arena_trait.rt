@@ -215,9 +215,9 @@ pub trait ArenaTrait<P: PtrCore, T: Drop> {
             → (walk result).high ≡ min (P.Inx.number i) (2 ^ 64 - 1) };
 
     /// Removes the entry at an index that is live, steps the counter, if there is one, and says
-    /// whether the generations started again. The caller owes that the index is live: the call
-    /// makes no test. The entry is not wrapped in the answer, so that a caller who keeps a part of
-    /// it copies no more than that.
+    /// whether the generations wrapped. The caller owes that the index is live: the call makes no
+    /// test. The entry stands in the answer as it is, so that a caller who keeps a part of it
+    /// copies no more than that.
     fn take_inx_unwrap(&mut self, i: P::Inx) -> ((P::Gen, T), bool)
         requires { IsSome (entry_at self.old (P.Inx.number i)) }
         ensures value { Some (P.Gen.number result.0.0, result.0.1)
@@ -269,10 +269,11 @@ pub trait ArenaTrait<P: PtrCore, T: Drop> {
     /// each what `map` makes of its value. `map` is called once for each, in that order, with the
     /// old pointer, the value and the new pointer. No memory is taken.
     ///
-    /// With `reset` the generations start again at the second one, and the answer is `Success`; an
-    /// old pointer may then find an entry that it was not given for. Else the counter steps once,
-    /// every entry gets the stepped generation, and the answer is `GenerationOverflow` if that step
-    /// started the generations again. An arena without a counter steps each entry's own generation.
+    /// With `reset` every entry and the counter, if there is one, get the second generation, and
+    /// the answer is `Success`; an old pointer may then find an entry that it was not given for.
+    /// Else the counter steps once, every entry gets the stepped generation, and the answer is
+    /// `GenerationOverflow` if that step wrapped. An arena without a counter steps each entry's own
+    /// generation.
     fn compress_with<F: FnMut(P, T, P) -> T>(
         &mut self,
         reset: bool,
@@ -345,7 +346,13 @@ pub trait ArenaTrait<P: PtrCore, T: Drop> {
     }
 
     /// Moves the live entries, in the order of their indexes, to the indexes from 1 on, with their
-    /// values as they are. What `reset` does and what is answered is said at `compress_with`.
+    /// values as they are. No memory is taken.
+    ///
+    /// With `reset` every entry and the counter, if there is one, get the second generation, and
+    /// the answer is `Success`; an old pointer may then find an entry that it was not given for.
+    /// Else the counter steps once, every entry gets the stepped generation, and the answer is
+    /// `GenerationOverflow` if that step wrapped. An arena without a counter steps each entry's own
+    /// generation.
     final fn compress(&mut self, reset: bool) -> InvalidationOption<()>
         ensures values { list_map value_of_entry (live_entries self.new)
             ≡ list_map value_of_entry (live_entries self.old) }

@@ -1,4 +1,5 @@
-//! Going over the live entries of an arena that is lent for reading, in the order of the indexes.
+//! Going over the live entries of an arena that is borrowed for reading, in the order of the
+//! indexes.
 ghost use Rattle.std.specs.Prelude.{◌≡◌, ℕ, Option, length, map as list_map, ⊤};
 ghost use Rattle.std.specs.Iterator.{YieldsFirstBy, item_count};
 ghost use Rattle.std.specs.Option.{option_map};

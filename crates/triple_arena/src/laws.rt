@@ -1,13 +1,12 @@
-//! What follows from the calls of an arena for those who keep pointers, and for those who go over
-//! them.
+//! What follows from the calls of an arena: laws on the pointers that a caller keeps, and on walks
+//! over the entries.
 //!
-//! `specs/Steps.antt` has the words for the first: a history is a list of steps, each with the
-//! arena that it left, and what a step changes is what the calls' contracts say.
+//! `specs/Steps.antt` has the words of the laws on pointers: a history is a list of steps, each
+//! with the arena that it left, and what a step changes is what the calls' contracts say. If
+//! generations are counted (`P::Gen` is no `()`), and as long as no step wraps the counter and
+//! nobody sets, resets or copies it, a pointer never comes to mean another entry.
 //!
-//! If generations are counted (`P::Gen` is no `()`), and as long as no step of the counter starts
-//! them again and nobody sets, resets or copies it, a pointer never comes to mean another entry.
-//!
-//! `specs/Walk.antt` has them for the second.
+//! `specs/Walk.antt` has the words of the laws on walks.
 ghost use Rattle.std.specs.Prelude.{◌≡◌, ◌≤◌, ◌↔◌, ℕ, List, length, map as list_map, Option, Some};
 ghost use Rattle.std.specs.Prelude.{IsSome, false};
 ghost use Rattle.std.specs.List.{FoldsTo};
@@ -63,7 +62,7 @@ pub fn invalid_pointers_find_nothing<P: PtrCore, T: Drop, A: ArenaTrait<P, T>>()
         → Finds A.entry_at (reached made history) (index, 1) → ⊥ }
 {}
 
-/// A value that is written where it was lent is a step of a history.
+/// A write of a value through a borrow is a step of a history.
 pub fn writes_are_steps<P: PtrCore, T: Drop, A: ArenaTrait<P, T>>()
     ensures { (arena : A) (index : ℕ) (value : T) → Takes A.entry_at A.live_count A.counter A.room
         A.live_entries P.Gen.last (write index value) arena (A.with_value arena index value) }

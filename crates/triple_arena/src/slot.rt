@@ -35,7 +35,7 @@ enum SlotState<O, G, T> {
     Used(G, T),
 }
 
-// What keeps one value, if any, and lends it.
+// A type that keeps one value, if any, which can be borrowed.
 pub(crate) trait ValueMut<T> {
     ghost held: { Self → Option T };
 

@@ -90,8 +90,9 @@ pub trait ChainArenaTrait<P: PtrCore, T: Drop>: ArenaTrait<P, T> {
         ensures along { IfSome result (λ a. IsWalkAlong (ends_in (links self.now))
             (length (links self.now).slots + 1) (chain_walk a) (P.index p)) };
 
-    /// What `insert_within_capacity` does, with the kind lent: an implementation cannot take it by
-    /// value today.
+    /// Stores `t` in a link where the kind says, if there is room. `insert_within_capacity` calls
+    /// it, and says what each error means. The kind is borrowed, since an implementation cannot
+    /// take it by value today.
     fn insert_lent_within_capacity(
         &mut self,
         kind: &LinkInsertKind<P>,
@@ -101,7 +102,9 @@ pub trait ChainArenaTrait<P: PtrCore, T: Drop>: ArenaTrait<P, T> {
             (links self.old) (links self.new) }
         ensures err { OnErr result (self.new ≡ self.old) };
 
-    /// What `insert_reallocating` does, with the kind lent.
+    /// Stores `t` in a link where the kind says, and grows if there is no room.
+    /// `insert_reallocating` calls it, and says what each error means. The kind is borrowed, since
+    /// an implementation cannot take it by value today.
     fn insert_lent_reallocating(
         &mut self,
         kind: &LinkInsertKind<P>,
@@ -281,7 +284,9 @@ pub trait ChainArenaTrait<P: PtrCore, T: Drop>: ArenaTrait<P, T> {
     }
 
     /// Stores `t` in a link where the kind says. The links must be as the kind requires. If there
-    /// is no room, the arena grows; the growth and the errors are those of `insert_reallocating`.
+    /// is no room, the arena grows. It returns `BeyondMaxCapacity` if as many links are live as the
+    /// greatest capacity, and `AllocError` if the memory was refused. The links and the room stay
+    /// as they are then, and `t` is dropped.
     #[inline(always)]
     final fn insert(&mut self, kind: LinkInsertKind<P>, t: T) -> Result<P, ChainInsertionError>
         requires { IsSome (gap_among P.index P.generation P.Inx.number (links self.old) kind) }

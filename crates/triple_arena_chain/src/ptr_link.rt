@@ -68,7 +68,7 @@ impl<P: PtrCore, T> Link<P, T> {
         IndexLink::new((inx_of(self.prev), inx_of(self.next)), self.t)
     }
 
-    /// The link with the indexes of its neighbors alone, and with its value lent.
+    /// The link with the indexes of its neighbors alone, and with its value borrowed.
     pub fn no_gen_ref(&self) -> LinkNoGen<P, &T>
         ensures prev { result.prev ≡ option_map P.index self.now.prev }
         ensures next { result.next ≡ option_map P.index self.now.next }

@@ -59,7 +59,7 @@ fn uproot<P: PtrCore, T: Drop, S: OrdSlots<P, T>>(
 }
 
 // The entry at an index, which has this one after it, leaves the tree and the list. Its generation
-// and its item are given back, and whether the generations started again.
+// and its item are given back, and whether the generations wrapped.
 #[inline(always)]
 pub(crate) fn take_entry<P: PtrCore, T: Drop, S: OrdSlots<P, T>>(
     chains: &mut ChainArena<P, SimpleOrdArenaNode<P, T>, S>,

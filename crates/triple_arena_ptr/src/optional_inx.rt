@@ -49,7 +49,7 @@ impl<I: PtrInxCore<Word = W>, W: Copy> OptionalInx<I, W> {
         }
     }
 
-    /// The index.
+    /// An optional index that is `i`.
     #[inline(always)]
     pub fn some(i: I) -> Self
         ensures { result ≡ Some (I.number i) }
@@ -60,7 +60,7 @@ impl<I: PtrInxCore<Word = W>, W: Copy> OptionalInx<I, W> {
         }
     }
 
-    /// The same index, or none.
+    /// The optional index that the `Option` is.
     #[inline(always)]
     pub fn of(i: Option<I>) -> Self
         ensures { result ≡ option_map I.number i }
@@ -71,7 +71,7 @@ impl<I: PtrInxCore<Word = W>, W: Copy> OptionalInx<I, W> {
         }
     }
 
-    /// The same as an `Option`.
+    /// The index as an `Option`: `None` if there is no index.
     #[inline(always)]
     pub fn get(self) -> Option<I>
         ensures { option_map I.number result ≡ self }
@@ -157,7 +157,7 @@ impl<I: PtrInxCore<Word = W> + Hash, W: Copy> Hash for OptionalInx<I, W> {
     }
 }
 
-/// As an `Option`.
+/// The text is that of the `Option` that the index is.
 impl<I: PtrInxCore<Word = W> + fmt::Debug, W: Copy> fmt::Debug for OptionalInx<I, W> {
     ghost debug_output = { λ x. ⟦<Option<I> as fmt::Debug>⟧.debug_output (I.held (I.word x)) };
 

@@ -33,7 +33,7 @@ pub trait PtrGenCore: Copy + PartialEq + Drop {
     fn two() -> Self
         ensures { number result ≡ second_generation last };
 
-    /// The generation that follows, and whether it started again at 2.
+    /// The generation that follows, and whether it wrapped to 2.
     fn generational_inc(self) -> (Self, bool)
         ensures next { number result.0 ≡ next_generation last (number self) }
         ensures wraps { result.1 ≡ next_wraps last (number self) }

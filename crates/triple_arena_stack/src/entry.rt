@@ -13,7 +13,7 @@ use std::num::NonZeroUsize;
 use triple_arena_ptr::{NotWithinCapacityError, ReallocationError};
 use unreached::unreached;
 
-/// The calls of a stack that answer an entry. Each stack has them.
+/// The calls of a stack that return an entry, which is room for one item more. Each stack has them.
 pub trait NonZeroInxGenericStackEntries: NonZeroInxGenericStack {
     /// Room for one item more. If all slots are taken, it returns `NotWithinCapacityError`, and the
     /// stack stays as it is.
@@ -27,8 +27,10 @@ pub trait NonZeroInxGenericStackEntries: NonZeroInxGenericStack {
         ensures* err { sem 𝓛 (RestsIfErr Self.row self.entry entry_lender result
             (λ s. s ≡ self.old)) };
 
-    /// Room for one item more. If all slots are taken, the stack grows, and returns the
-    /// errors, as `push_reallocating` does. An error leaves the stack as it was.
+    /// Room for one item more. If all slots are taken, the stack grows: to 4 at first, then to the
+    /// double, and never past its greatest capacity. It returns `BeyondMaxCapacity` if the length
+    /// is the greatest capacity, and `AllocError` if the memory was refused. An error leaves the
+    /// stack as it was.
     fn entry_push_reallocating(
         &mut self,
     ) -> Result<NonZeroInxGenericStackPushEntry<'_, Self::Item, Self>, ReallocationError>
@@ -40,7 +42,9 @@ pub trait NonZeroInxGenericStackEntries: NonZeroInxGenericStack {
         ensures* err { sem 𝓛 (RestsIfErr Self.row self.entry entry_lender result
             (λ s. s ≡ self.old)) };
 
-    /// The same as `entry_push_reallocating`.
+    /// Room for one item more: another name of `entry_push_reallocating`. If all slots are taken,
+    /// the stack grows. It returns `BeyondMaxCapacity` if the length is the greatest capacity, and
+    /// `AllocError` if the memory was refused. An error leaves the stack as it was.
     fn entry_push(
         &mut self,
     ) -> Result<NonZeroInxGenericStackPushEntry<'_, Self::Item, Self>, ReallocationError>

@@ -87,8 +87,8 @@ pub trait NonZeroInxGenericStack {
         ensures memory { IsErrOf result ReallocationError.AllocError → IsTrue takes_memory }
         ensures err { OnErr result (self.new ≡ self.old) };
 
-    /// Appends `value`, and returns its index. If all slots are taken, the stack stays as it is,
-    /// and `value` is dropped.
+    /// Appends `value`, and returns its index. If all slots are taken, it returns
+    /// `NotWithinCapacityError`, the stack stays as it is, and `value` is dropped.
     fn push_within_capacity(
         &mut self,
         value: Self::Item,
@@ -154,7 +154,10 @@ pub trait NonZeroInxGenericStack {
         Ok(push_in_room(self, value))
     }
 
-    /// The same as `push_reallocating`.
+    /// Appends `value`, and returns its index: another name of `push_reallocating`. If all slots
+    /// are taken, the stack grows. It returns `BeyondMaxCapacity` if the length is the greatest
+    /// capacity, and `AllocError` if the memory was refused; the stack is then as it was, and
+    /// `value` is dropped.
     final fn push(&mut self, value: Self::Item) -> Result<NonZeroUsize, ReallocationError>
         ensures { IsGrowingPush items room takes_memory value self.old result self.new }
     {
@@ -201,8 +204,9 @@ pub trait NonZeroInxGenericStack {
         self.as_mut_slice().swap(i.get() - 1, j.get() - 1);
     }
 
-    /// Whether `get_disjoint_mut` can lend the items at `i` and `j`. It returns `IndexOutOfBounds`
-    /// if one of them is not there, and else `OverlappingIndices` if they are one.
+    /// Whether `get_disjoint_mut` can borrow the items at `i` and `j`. It returns
+    /// `IndexOutOfBounds` if one of them is not there, and else `OverlappingIndices` if they are
+    /// one.
     final fn check_disjoint(
         &self,
         i: NonZeroUsize,

@@ -5,7 +5,8 @@
 //! cannot be, and the test goes with it.
 #![tactic(auto)]
 
-/// As `unreachable!()`: the proof has to show that control never comes here.
+/// Marks a place that is never reached: the proof has to show, as for `unreachable!()`, that
+/// control never comes here.
 ///
 /// What it would do, a write through an element of an array that has none, is no behaviour of any
 /// program. So LLVM drops the way that leads here, and each test that only decided on it.

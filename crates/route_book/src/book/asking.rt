@@ -34,7 +34,10 @@ impl<P: PtrCore, B: BookBacking<P>> RouteBook<P, B> {
         self.show_counted(ticket, &mut Counts::new())
     }
 
-    /// The same, with the comparisons of its search counted as `first`.
+    /// What stands under a ticket. The comparisons of the search for it are counted in
+    /// `counts.first`.
+    ///
+    /// `Unknown` if the ticket was never given, `Gone` if its item has ended.
     pub fn show_counted(&self, ticket: u64, counts: &mut Counts) -> Result<Shown, Refusal>
         ensures result { result ≡ shown self.now.state ticket }
         ensures counts { CountsWithin counts.old counts.new
@@ -65,14 +68,15 @@ impl<P: PtrCore, B: BookBacking<P>> RouteBook<P, B> {
         }
     }
 
-    /// The smallest ticket of the places with this key.
+    /// The smallest ticket of the places with this key, or `None` if no place has it.
     pub fn find(&self, key: u64) -> Option<u64>
         ensures { result ≡ found self.now.state key }
     {
         self.find_counted(key, &mut Counts::new())
     }
 
-    /// The same, with the comparisons of its search counted as `key`.
+    /// The smallest ticket of the places with this key, or `None` if no place has it. The
+    /// comparisons of the search are counted in `counts.key`.
     pub fn find_counted(&self, key: u64, counts: &mut Counts) -> Option<u64>
         ensures result { result ≡ found self.now.state key }
         ensures counts { CountsWithin counts.old counts.new
@@ -81,14 +85,15 @@ impl<P: PtrCore, B: BookBacking<P>> RouteBook<P, B> {
         first_ticket(&self.places, key, &mut counts.key)
     }
 
-    /// The ticket of the last place whose key is not above this one.
+    /// The ticket of the last place whose key is not above this one, or `None` if there is none.
     pub fn floor(&self, key: u64) -> Option<u64>
         ensures { result ≡ floor_of self.now.state key }
     {
         self.floor_counted(key, &mut Counts::new())
     }
 
-    /// The same, with the comparisons of its search counted as `key`.
+    /// The ticket of the last place whose key is not above this one, or `None` if there is none.
+    /// The comparisons of the search are counted in `counts.key`.
     pub fn floor_counted(&self, key: u64, counts: &mut Counts) -> Option<u64>
         ensures result { result ≡ floor_of self.now.state key }
         ensures counts { CountsWithin counts.old counts.new
@@ -107,7 +112,11 @@ impl<P: PtrCore, B: BookBacking<P>> RouteBook<P, B> {
         self.after_counted(ticket, &mut Counts::new())
     }
 
-    /// The same, with the comparisons of its search counted as `first`.
+    /// The ticket of the place after this one in the order of the keys, if there is one. The
+    /// comparisons of the search for this place are counted in `counts.first`.
+    ///
+    /// `Unknown` if the ticket was never given, `Gone` if its item has ended, `Kind` if it is no
+    /// place.
     pub fn after_counted(&self, ticket: u64, counts: &mut Counts) -> Result<Option<u64>, Refusal>
         ensures result { result ≡ place_after self.now.state ticket }
         ensures counts { CountsWithin counts.old counts.new
@@ -120,15 +129,21 @@ impl<P: PtrCore, B: BookBacking<P>> RouteBook<P, B> {
         Ok(ticket_after(&self.places, at))
     }
 
-    /// The ticket of the place before this one in the order of the keys, if there is one; refused
-    /// as `after` is.
+    /// The ticket of the place before this one in the order of the keys, if there is one.
+    ///
+    /// `Unknown` if the ticket was never given, `Gone` if its item has ended, `Kind` if it is no
+    /// place.
     pub fn before(&self, ticket: u64) -> Result<Option<u64>, Refusal>
         ensures { result ≡ place_before self.now.state ticket }
     {
         self.before_counted(ticket, &mut Counts::new())
     }
 
-    /// The same, with the comparisons of its search counted as `first`.
+    /// The ticket of the place before this one in the order of the keys, if there is one. The
+    /// comparisons of the search for this place are counted in `counts.first`.
+    ///
+    /// `Unknown` if the ticket was never given, `Gone` if its item has ended, `Kind` if it is no
+    /// place.
     pub fn before_counted(&self, ticket: u64, counts: &mut Counts) -> Result<Option<u64>, Refusal>
         ensures result { result ≡ place_before self.now.state ticket }
         ensures counts { CountsWithin counts.old counts.new

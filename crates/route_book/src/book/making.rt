@@ -13,8 +13,13 @@ use route_lines::{Change, Held, RoomError};
 use triple_arena_ptr::PtrCore;
 
 impl<P: PtrCore, B: BookBacking<P>> RouteBook<P, B> {
-    /// A store with nothing in it, with room for so many places, stops and marks; see
-    /// [`RouteBook::new_after`].
+    /// A store with nothing in it, with room for so many places, stops and marks. Its first ticket
+    /// is 1.
+    ///
+    /// `Generation` if the pointers' generations do not count to 3; else `Index` if the rooms
+    /// together are past what an index can count; else `Stack` if they are past what a stack of the
+    /// backing holds; else `Memory` if the memory was refused. A backing that takes no memory is
+    /// never refused it.
     pub fn new(backing: &B, places: usize, stops: usize, marks: usize) -> Result<Self, RoomError>
         ensures made { IfOk result (λ book. book.state
             ≡ empty (record { places = places; stops = stops; marks = marks }) 0) }
@@ -37,7 +42,8 @@ impl<P: PtrCore, B: BookBacking<P>> RouteBook<P, B> {
         Self::new_after(backing, places, stops, marks, 0)
     }
 
-    /// The same, if the tickets 1 to `last` count as ended.
+    /// A store with nothing in it, with room for so many places, stops and marks, in which the
+    /// tickets 1 to `last` count as given and their items as ended.
     ///
     /// `Generation` if the pointers' generations do not count to 3; else `Index` if the rooms
     /// together are past what an index can count; else `Stack` if they are past what a stack of the

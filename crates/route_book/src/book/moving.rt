@@ -23,9 +23,11 @@ impl<P: PtrCore, B: BookBacking<P>> RouteBook<P, B> {
     /// leaves them. All memory is taken before anything moves, and with an error the store comes
     /// back as it was.
     ///
-    /// `Generation`, `Index` and `Stack` as by [`RouteBook::new_after`], in this order; else
-    /// `TooSmall` if more items of a kind live than its new room holds; else `Memory` if the memory
-    /// was refused. A backing that takes no memory is never refused it.
+    /// `Generation` if the new pointers' generations do not count to 3; else `Index` if the new
+    /// rooms together are past what an index can count; else `Stack` if they are past what a stack
+    /// of the new backing holds; else `TooSmall` if more items of a kind live than its new room
+    /// holds; else `Memory` if the memory was refused. A backing that takes no memory is never
+    /// refused it.
     pub fn into_room<Q: PtrCore, C: BookBacking<Q>>(
         self,
         backing: &C,

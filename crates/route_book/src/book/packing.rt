@@ -24,7 +24,7 @@ use triple_arena_ord::{OrdSlots, SimpleOrdArena};
 use triple_arena_ptr::{Probes, PtrCore};
 
 // Moves the items of the three arenas to the first indexes, places and stops in the order of their
-// lists. All counters start again.
+// lists. All counters are reset.
 fn compress_all<
     P: PtrCore,
     S: OrdSlots<P, Place>,
@@ -45,7 +45,7 @@ fn compress_all<
     let _ = stops.capacity();
     let _ = marks.capacity();
 
-    // The work. That a counter starts again is no error here.
+    // The work. That a counter is reset is no error here.
     let _ = places.compress_canonical(true);
     let _ = stops.compress_canonical(true);
     let _ = marks.compress(true);
@@ -115,7 +115,13 @@ impl<P: PtrCore, B: BookBacking<P>> RouteBook<P, B> {
         self.pack_counted(&mut Counts::new());
     }
 
-    /// The same, with the looks at stored references counted. Its searches by ticket are not.
+    /// Moves all items to the first indexes: places in the order of their keys, the stops of a
+    /// route one after another. No index is free then. The looks at stored references are counted
+    /// in `counts.looks`; the searches by ticket are not counted.
+    ///
+    /// Each stored reference is looked at once; one to an item that has ended is `Gone` from then
+    /// on. All items have the second generation then, and pointers into the arenas may find other
+    /// items, or none. No memory is taken, and the state and the rooms stay.
     pub fn pack_counted(&mut self, counts: &mut Counts)
         ensures state { self.new.state ≡ self.old.state }
         ensures packed { IsPacked P.Gen.last counts.old.looks counts.new.looks self.old self.new }

@@ -37,7 +37,11 @@ impl<P: PtrCore, B: BookBacking<P>> RouteBook<P, B> {
         self.place_counted(key, word, &mut Counts::new())
     }
 
-    /// The same, with the comparisons of its search counted as `key`.
+    /// A new place with this key and word, behind all places that have the key; its ticket. The
+    /// comparisons of the search for the key are counted in `counts.key`.
+    ///
+    /// `Full` if as many places live as the room holds, or every ticket was given; then nothing
+    /// changes.
     pub fn place_counted(
         &mut self,
         key: u64,
@@ -64,9 +68,12 @@ impl<P: PtrCore, B: BookBacking<P>> RouteBook<P, B> {
         Ok(self.add_place(found, key, word))
     }
 
-    /// The same, with a hint: the search begins at the place with the ticket `near`.
+    /// A new place with this key and word, behind all places that have the key; its ticket. The
+    /// search for the key begins at the place with the ticket `near`.
     ///
-    /// Before all else it is refused if `near` is no living place: `Unknown`, `Gone` or `Kind`.
+    /// `Unknown` if `near` was never given, `Gone` if its item has ended, `Kind` if it is no place.
+    /// Then `Full` if as many places live as the room holds, or every ticket was given. A refused
+    /// call changes nothing.
     pub fn place_near(&mut self, key: u64, word: Word, near: u64) -> Result<u64, Refusal>
         ensures changes { Changes (placed_near self.old.state near)
             (after_place_near self.old.state key word near) result self.old self.new }
@@ -75,9 +82,17 @@ impl<P: PtrCore, B: BookBacking<P>> RouteBook<P, B> {
         self.place_near_counted(key, word, near, &mut Counts::new())
     }
 
-    /// The same, with the comparisons of its searches counted as `key` and `first`. At most 7 are
-    /// made along the list, and no more with keys if each place beside the gap for the new one is
-    /// less than 7 steps from that of `near`. None is made with keys if the place is refused.
+    /// A new place with this key and word, behind all places that have the key; its ticket. The
+    /// search for the key begins at the place with the ticket `near`.
+    ///
+    /// `Unknown` if `near` was never given, `Gone` if its item has ended, `Kind` if it is no place.
+    /// Then `Full` if as many places live as the room holds, or every ticket was given. A refused
+    /// call changes nothing.
+    ///
+    /// The comparisons of the searches for the key and for `near` are counted in `counts.key` and
+    /// `counts.first`. At most 7 comparisons with keys are made along the list, and no more if each
+    /// place beside the gap for the new one is less than 7 steps from that of `near`. None is made
+    /// with keys if the place is refused.
     pub fn place_near_counted(
         &mut self,
         key: u64,
@@ -107,10 +122,10 @@ impl<P: PtrCore, B: BookBacking<P>> RouteBook<P, B> {
         Ok(self.add_place(found, key, word))
     }
 
-    /// Another word for the place with a ticket; the one that it had.
+    /// Gives the place with a ticket another word, and returns the one that it had.
     ///
-    /// `Unknown` if the ticket was never given, `Gone` if its item has ended, `Kind` if it
-    /// is no place; then nothing changes.
+    /// `Unknown` if the ticket was never given, `Gone` if its item has ended, `Kind` if it is no
+    /// place; then nothing changes.
     pub fn set_word(&mut self, ticket: u64, word: Word) -> Result<Word, Refusal>
         ensures changes { Changes (worded self.old.state ticket)
             (after_word self.old.state ticket word) result self.old self.new }
@@ -119,7 +134,11 @@ impl<P: PtrCore, B: BookBacking<P>> RouteBook<P, B> {
         self.set_word_counted(ticket, word, &mut Counts::new())
     }
 
-    /// The same, with the comparisons of its search counted as `first`.
+    /// Gives the place with a ticket another word, and returns the one that it had. The comparisons
+    /// of the search for the ticket are counted in `counts.first`.
+    ///
+    /// `Unknown` if the ticket was never given, `Gone` if its item has ended, `Kind` if it is no
+    /// place; then nothing changes.
     pub fn set_word_counted(
         &mut self,
         ticket: u64,

@@ -25,14 +25,14 @@ use triple_arena_chain::{ChainArena, ChainArenaTrait};
 use triple_arena_ord::SimpleOrdArena;
 use triple_arena_ptr::{PtrCore, PtrGenCore};
 
-// Whether the next step of a counter starts it again.
+// Whether a counter wraps at its next step.
 fn wraps<P: PtrCore>(counter: P::Gen) -> bool
     ensures { result ≡ next_wraps P.Gen.last (P.Gen.number counter) }
 {
     counter.generational_inc().1
 }
 
-// Ends the item whose entry stands at an index of the ticket book. No counter starts again that a
+// Ends the item whose entry stands at an index of the ticket book. No counter wraps that a
 // reference may be under.
 fn end_at<P: PtrCore, B: BookBacking<P>>(
     held: &mut Held,
@@ -101,12 +101,16 @@ impl<P: PtrCore, B: BookBacking<P>> RouteBook<P, B> {
         self.remove_counted(ticket, &mut Counts::new())
     }
 
-    /// The same, with the comparisons of its search counted as `first`, and the looks at stored
-    /// references.
+    /// Removes a living place, stop or mark. Its ticket never comes again, and each stored
+    /// reference to it is gone. The comparisons of the search for the ticket are counted in
+    /// `counts.first`, and the looks at stored references in `counts.looks`.
+    ///
+    /// `Unknown` if the ticket was never given, and `Gone` if its item has ended; then nothing
+    /// changes.
     ///
     /// A reference to the removed item stays as it is and finds nothing, so no reference is looked
-    /// at. If that cannot be, since the arena's counter would start again, the store is packed
-    /// first. The searches by ticket of a pack are not counted.
+    /// at. If that cannot be, since the arena's counter would wrap, the store is packed first. The
+    /// searches by ticket of a pack are not counted.
     pub fn remove_counted(&mut self, ticket: u64, counts: &mut Counts) -> Result<(), Refusal>
         ensures result { result ≡ removed self.old.state ticket }
         ensures state { self.new.state ≡ after_removed self.old.state ticket }
@@ -144,8 +148,7 @@ impl<P: PtrCore, B: BookBacking<P>> RouteBook<P, B> {
         Ok(())
     }
 
-    // Whether the removal of an item of a kind would start a counter again that references may be
-    // under.
+    // Whether the removal of an item of a kind would wrap a counter that references may be under.
     fn removal_wraps(&self, kind: Kind) -> bool
         ensures { result ≡ removal_wraps P.Gen.last self.now kind }
     {

@@ -39,7 +39,12 @@ impl<P: PtrCore, B: BookBacking<P>> RouteBook<P, B> {
         self.start_counted(place, &mut Counts::new())
     }
 
-    /// The same, with the comparisons of its search counted as `first`.
+    /// A new stop at a place, alone on a linear route. The comparisons of the search for the place
+    /// are counted in `counts.first`.
+    ///
+    /// `Unknown` if the ticket was never given, `Gone` if its item has ended, `Kind` if it is no
+    /// place. Then `Full` if as many stops live as the room holds, or every ticket was given. A
+    /// refused call changes nothing.
     pub fn start_counted(&mut self, place: u64, counts: &mut Counts) -> Result<u64, Refusal>
         ensures changes { Changes (started self.old.state place)
             (after_start self.old.state place) result self.old self.new }

@@ -86,7 +86,12 @@ impl<P: PtrCore, B: BookBacking<P>> RouteBook<P, B> {
         self.walk_counted(stop, &mut Counts::new())
     }
 
-    /// The same, with the comparisons of its search counted as `first`.
+    /// The stops of a stop's route, from it on: to the end of the route and then backwards from the
+    /// stop before it, or once round a ring. The comparisons of the search for the stop are counted
+    /// in `counts.first`.
+    ///
+    /// `Unknown` if the ticket was never given, `Gone` if its item has ended, `Kind` if it is no
+    /// stop.
     pub fn walk_counted(
         &self,
         stop: u64,

@@ -1,4 +1,4 @@
-//! What is found in an arena, and the lend of a value.
+//! What is found in an arena, and the borrow of a value.
 ghost use Rattle.std.specs.Prelude.{◌≡◌, ◌↔◌, ℕ, suc, IsSome, IfSome, Option, Some, ⊤};
 ghost use Rattle.std.specs.Borrow.{sem, Lends};
 ghost use Rattle.std.specs.Int.NonZero.{non_zero_usize_get};
@@ -83,8 +83,8 @@ impl<P: PtrCore, T: Drop, S: ArenaSlots<P, T>> Arena<P, T, S> {
     }
 }
 
-// What lends the values at its indexes. A method of a trait names the row of the lender in one
-// word.
+// A type whose values can be borrowed by index. A method of a trait names the row of the type that
+// is borrowed from in one word.
 pub(crate) trait ValueAtMut<T> {
     ghost has_value: { Self → ℕ → Type 0 };
 

@@ -56,7 +56,7 @@ pub(crate) fn recast_values<I, T: Recast<I> + Drop, A: RecastByIndex<T>, R: Reca
     Ok(())
 }
 
-/// The items are those of the values, in the order of the indexes.
+/// A recast renames the items that the values hold, in the order of the indexes.
 impl<I, P: PtrCore, T: Recast<I> + Drop, S: ArenaSlots<P, T>> Recast<I> for Arena<P, T, S> {
     ghost items = { content_items T.items };
 

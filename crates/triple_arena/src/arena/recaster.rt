@@ -31,8 +31,7 @@ use triple_arena_ptr::{OptionalInx, PtrCore, ReallocationError};
 /// returns `BeyondMaxCapacity` if the map cannot have so many, and `AllocError` if the memory was
 /// refused. An error leaves the arena as it was.
 ///
-/// Whether the step of the counter started the generations again is not returned: the counter
-/// before the call tells it.
+/// Whether the step of the counter wrapped is not returned: the counter before the call tells it.
 pub fn compress_recaster<P: PtrCore, T: Drop, S: ArenaSlots<P, T>, R: DirectSlots<P, P>>(
     arena: &mut Arena<P, T, S>,
     reset: bool,
@@ -64,8 +63,9 @@ pub fn compress_recaster<P: PtrCore, T: Drop, S: ArenaSlots<P, T>, R: DirectSlot
     Ok(map)
 }
 
-/// Does what `compress_recaster` does with a map that is handed in, whose entries are dropped. A map
-/// that is kept for it takes memory only where the last live index is past its capacity.
+/// Moves the live entries to the first indexes, as `compress` does, and makes `map`, whose entries
+/// are dropped, the map from each old pointer to the new one. A map that is kept for it takes
+/// memory only where the last live index is past its capacity.
 ///
 /// It returns `BeyondMaxCapacity` if the map cannot have so many slots, and `AllocError` if the
 /// memory was refused. An error leaves the arena and the map as they were.

@@ -17,7 +17,7 @@ use unreached::unreached;
 
 impl<P: PtrCore, T: Drop, S: ArenaSlots<P, T>> Arena<P, T, S> {
     // Removes the entry at `i`, which is live, steps the counter, and says whether the generations
-    // started again.
+    // wrapped.
     #[inline]
     pub(crate) fn remove_at(&mut self, i: NonZeroUsize) -> ((P::Gen, T), bool)
         requires { IsSome (entry_at self.old (non_zero_usize_get i)) }

@@ -1,4 +1,4 @@
-//! What is found in a direct arena, and the lend of a value.
+//! What is found in a direct arena, and the borrow of a value.
 ghost use Rattle.std.specs.Prelude.{◌≡◌, ◌↔◌, suc, length, IsSome, IfSome, IsTrue, Option, Some, ⊤};
 ghost use Rattle.std.specs.Int.NonZero.{non_zero_usize_get};
 ghost use Rattle.std.specs.Option.{option_map};

@@ -280,8 +280,7 @@ where
 impl<P: PtrCore, T: Drop, S: ChainSlots<P, T>> ChainArena<P, T, S> {
     /// Moves the links to the indexes from 1 on, so that each chain has successive ones, from the
     /// start of a linear one on. Which chain comes first is left open; where they stand so already
-    /// no index changes. The generations are renewed as by `compress`, and so is the answer. No
-    /// memory is taken.
+    /// no index changes. The generations and the answer are as by `compress`. No memory is taken.
     pub fn compress_canonical(&mut self, reset: bool) -> InvalidationOption<()>
         ensures overflow { overflowed result ≡ renewal_wraps P.Gen.last reset self.old.counter }
         ensures canonical { IsCanonical P.Gen.last reset self.old self.new }

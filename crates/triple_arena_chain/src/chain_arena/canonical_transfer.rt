@@ -216,8 +216,8 @@ impl<P: PtrCore, T: Drop, S: ChainSlots<P, T>> ChainArena<P, T, S> {
     ///
     /// `map` is called once for each link, in that order, with the pointer that it had in `source`,
     /// the value, and the pointer that it gets. `source` is left with no link and no slot in the
-    /// room that it had, and its counter is stepped once for each link: if that step started the
-    /// generations again, `map` gets the value as a `GenerationOverflow`.
+    /// room that it had, and its counter is stepped once for each link: if that step wrapped, `map`
+    /// gets the value as a `GenerationOverflow`.
     ///
     /// A pointer of what this arena held before may find a link that came in, if `new_generation`
     /// is its generation.

@@ -19,7 +19,7 @@ use triple_arena::{InvalidationOption, PtrCore, PtrInxCore};
 /// the link before it, or once round a ring.
 ///
 /// Each item is one removal, which joins the neighbors and steps the counter; it is
-/// `GenerationOverflow` if that step started the generations again. Dropped, at whatever item, it
+/// `GenerationOverflow` if that step wrapped. If the iterator is dropped, at whatever item, it
 /// takes those of the chain that are left in the same way. All other chains stay.
 pub struct ChainDrain<'a, P: PtrCore, T: Drop, S: ChainSlots<P, T>> {
     chains: &'a mut ChainArena<P, T, S>,

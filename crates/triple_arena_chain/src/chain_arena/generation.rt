@@ -24,7 +24,7 @@ impl<P: PtrCore, T: Drop, S: ChainSlots<P, T>> ChainArena<P, T, S> {
         self.arena.set_generation(generation);
     }
 
-    /// Steps the counter once, as a removal does, and says whether the generations started again.
+    /// Steps the counter once, as a removal does, and says whether the generations wrapped.
     pub fn inc_generation(&mut self) -> InvalidationOption<()>
         ensures exact { self.new ≡ stepped P.Gen.last self.old }
         ensures overflow { overflowed result ≡ next_wraps P.Gen.last self.old.counter }

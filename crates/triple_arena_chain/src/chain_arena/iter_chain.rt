@@ -1,4 +1,4 @@
-//! Going over one chain that is lent for reading.
+//! Going over one chain of an arena that is borrowed for reading.
 ghost use Rattle.std.specs.Prelude.{◌≡◌, ◌↔◌, ℕ, List, Option, Some, None, IsSome, IfSome};
 ghost use Rattle.std.specs.Iterator.{YieldsFirstBy, item_count};
 ghost use Rattle.std.specs.Option.{option_map};

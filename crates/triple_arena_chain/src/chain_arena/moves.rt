@@ -75,7 +75,9 @@ impl<P: PtrCore, T: Drop, S: ChainSlots<P, T>> ChainArena<P, T, S> {
         Some(())
     }
 
-    /// Moves the link at `p` directly before the one at `q`, as `move_next_to` does behind it.
+    /// Moves the link at `p` directly before the one at `q`, under its pointer: what stood on both
+    /// sides of `p` is joined, and `p` follows what came before `q`. It returns `None`, and changes
+    /// nothing, if one of them is invalid, or if both are one.
     pub fn move_prev_to(&mut self, p: P, q: P) -> Option<()>
         ensures variant { IsSome result ↔ ((IsSome (get self.old (P.index p) (P.generation p))
             × IsSome (get self.old (P.index q) (P.generation q))) × (P.index p ≢ P.index q)) }

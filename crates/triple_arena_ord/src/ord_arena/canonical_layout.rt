@@ -31,8 +31,7 @@ pub(crate) fn ends_of_run<I: PtrInxCore>(len: usize) -> (Option<I>, Option<I>)
 
 impl<P: PtrCore, T: Drop, S: OrdSlots<P, T>> SimpleOrdArena<P, T, S> {
     /// Moves the entries to the indexes from 1 on, in the order of the list, and writes the tree
-    /// anew. The generations are renewed as by a compression, and so is the answer. No memory is
-    /// taken.
+    /// anew. The generations and the answer are as by `compress`. No memory is taken.
     pub fn compress_canonical(&mut self, reset: bool) -> InvalidationOption<()>
         ensures overflow { overflowed result
             ≡ renewal_wraps P.Gen.last reset self.old.chains.counter }

@@ -25,7 +25,7 @@ impl<P: PtrCore, T: Drop, S: OrdSlots<P, T>> SimpleOrdArena<P, T, S> {
     /// `map` is called once for each entry, along the list, with the pointer that it had in
     /// `source`, the item, and the pointer that it gets. `source` is left with no entry and no slot
     /// in the room that it had, and its counter is stepped once for each entry: if that step
-    /// started the generations again, `map` gets the item as a `GenerationOverflow`.
+    /// wrapped, `map` gets the item as a `GenerationOverflow`.
     ///
     /// A pointer of what this arena held before may find an entry that came in, if `new_generation`
     /// is its generation.

@@ -13,8 +13,8 @@ use triple_arena::{ArenaTrait, InvalidationOption, PtrCore};
 /// Takes the entries out of an arena, from the first of the list to the last.
 ///
 /// Each item is one removal, which steps the counter; it is `GenerationOverflow` if that step
-/// started the generations again. Dropped, at whatever item, it clears the arena: the entries that
-/// are left go at once, by one step of the counter more, which is made also if none is left, and no
+/// wrapped. If the iterator is dropped, at whatever item, it clears the arena: the entries that are
+/// left go at once, by one step of the counter more, which is made also if none is left, and no
 /// slot stays.
 pub struct OrderedDrain<'a, P: PtrCore, T: Drop, S: OrdSlots<P, T>> {
     arena: &'a mut SimpleOrdArena<P, T, S>,

@@ -206,7 +206,10 @@ impl<P: PtrCore, T: SimpleOrdItem + Drop, S: OrdSlots<P, T>> SimpleOrdArena<P, T
         self.insert_at_reallocating(found, t)
     }
 
-    /// Puts an item in by its key, and grows: another name of `insert_reallocating`.
+    /// Puts an item in by its key, and returns the pointer to it, and the item that it replaced if
+    /// an entry with an equal key is found: another name of `insert_reallocating`. If there is no
+    /// room for a new entry, the arena grows. `BeyondMaxCapacity` and `AllocError` change nothing,
+    /// and `t` is dropped.
     pub fn insert(&mut self, t: T) -> Result<(P, Option<T>), OrdInsertionError>
         ensures { InsertsByKey T.Key.cmp T.key_of P.index P.generation
             (Some S.takes_memory) t result self.old self.new }

@@ -1,4 +1,4 @@
-//! Going over the entries of an arena that is lent for reading, along the list.
+//! Going over the entries of an arena that is borrowed for reading, along the list.
 ghost use Rattle.std.specs.Prelude.{◌≡◌, length};
 ghost use Rattle.std.specs.Iterator.{YieldsFirstBy, item_count};
 ghost use Rattle.triple_arena.specs.Iterators.{IsExact};

@@ -25,9 +25,9 @@ impl<P: PtrCore, T: Drop, S: OrdSlots<P, T>> SimpleOrdArena<P, T, S> {
     }
 
     /// Removes the first entry of the list, which has the least key if the keys ascend, and returns
-    /// it with its pointer; `None` if there is no entry. It looks for nothing and compares no key.
+    /// it with its pointer; `None` if there is no entry. It makes no search and compares no key.
     /// Like each removal it steps the counter, and `GenerationOverflow` says that the generations
-    /// started again.
+    /// wrapped.
     pub fn pop_first(&mut self) -> Option<InvalidationOption<(P, T)>>
         ensures { TakesFirst P.Gen.last P.index P.generation result self.old self.new }
     {
@@ -36,9 +36,9 @@ impl<P: PtrCore, T: Drop, S: OrdSlots<P, T>> SimpleOrdArena<P, T, S> {
     }
 
     /// Removes the last entry of the list, which has the greatest key if the keys ascend, and
-    /// returns it with its pointer; `None` if there is no entry. It looks for nothing and compares
-    /// no key. Like each removal it steps the counter, and `GenerationOverflow` says that the
-    /// generations started again.
+    /// returns it with its pointer; `None` if there is no entry. It makes no search and compares no
+    /// key. Like each removal it steps the counter, and `GenerationOverflow` says that the
+    /// generations wrapped.
     pub fn pop_last(&mut self) -> Option<InvalidationOption<(P, T)>>
         ensures { TakesLast P.Gen.last P.index P.generation result self.old self.new }
     {

@@ -42,7 +42,7 @@ fn leave_end<I: PtrInxCore>(end: &mut Option<I>, gone: I, neighbor: Option<I>)
 
 impl<P: PtrCore, T: Drop, S: OrdSlots<P, T>> SimpleOrdArena<P, T, S> {
     // The entry at a live index leaves: its generation and its item, and whether the generations
-    // started again. `prev` and `next` are its neighbors in the list.
+    // wrapped. `prev` and `next` are its neighbors in the list.
     #[inline(always)]
     pub(crate) fn remove_live(
         &mut self,

@@ -76,7 +76,8 @@ impl<P: PtrCore, T: SimpleOrdItem + Drop, S: OrdSlots<P, T>> SimpleOrdArena<P, T
         found_at(&self.chains, place)
     }
 
-    /// What `find_key_counted` finds, with no count.
+    /// The pointer to an entry with an equal key. If the keys ascend, `None` means that there is
+    /// none.
     pub fn find_key(&self, k: &T::Key) -> Option<P>
         ensures { IsFound P.index P.generation (asked_at T.Key.cmp T.key_of k.now self.now)
             (IsAscending T.Key.cmp T.key_of self.now) result self.now }
@@ -101,7 +102,9 @@ impl<P: PtrCore, T: SimpleOrdItem + Drop, S: OrdSlots<P, T>> SimpleOrdArena<P, T
         similar_at(&self.chains, place)
     }
 
-    /// What `find_similar_key_counted` finds, with no count.
+    /// The pointer to an entry with an equal key, or else to one beside which the key belongs, and
+    /// what the key compares as with the entry's; `None` if there is no entry. If the keys do not
+    /// ascend, it is some entry.
     pub fn find_similar_key(&self, k: &T::Key) -> Option<(P, Ordering)>
         ensures { IsSimilar P.index P.generation (asked_at T.Key.cmp T.key_of k.now self.now)
             (IsAscending T.Key.cmp T.key_of self.now) result self.now }

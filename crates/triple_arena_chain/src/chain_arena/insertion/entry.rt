@@ -97,8 +97,10 @@ impl<P: PtrCore, T: Drop, S: ChainSlots<P, T>> ChainArena<P, T, S> {
         }
     }
 
-    /// Room for one link more. If there is none, the arena grows, and returns the errors, as
-    /// `insert_reallocating` does. An error leaves the links as they were.
+    /// Room for one link more. If there is none, the arena grows, in the steps of
+    /// `insert_reallocating`. It returns `FailedLinkRequirement` if the links are not as the kind
+    /// requires, and else `BeyondMaxCapacity` if as many links are live as the greatest capacity,
+    /// and `AllocError` if the memory was refused. An error leaves the links as they were.
     pub fn entry_insert_reallocating(
         &mut self,
         kind: LinkInsertKind<P>,
@@ -121,9 +123,10 @@ impl<P: PtrCore, T: Drop, S: ChainSlots<P, T>> ChainArena<P, T, S> {
         })
     }
 
-    /// Room for one link more. The links must be as the kind requires. If there is none, the arena
-    /// grows; the growth and the errors are those of `entry_insert_reallocating`. An error
-    /// leaves the links as they were.
+    /// Room for one link more. The links must be as the kind requires. If there is no room, the
+    /// arena grows. It returns `BeyondMaxCapacity` if as many links are live as the greatest
+    /// capacity, and `AllocError` if the memory was refused. An error leaves the links as they
+    /// were.
     pub fn entry_insert(
         &mut self,
         kind: LinkInsertKind<P>,

@@ -155,9 +155,10 @@ impl<P: PtrCore, T: SimpleOrdItem + Drop, S: OrdSlots<P, T>> SimpleOrdArena<P, T
     }
 
     /// Room for one item more, where the kind says. If a new entry is needed and there is no room,
-    /// the arena grows, in the steps of `insert_reallocating`. `FailedOrdRequirement` comes as from
-    /// `entry_insert_within_capacity`; it, `BeyondMaxCapacity` and `AllocError` leave the entries
-    /// and the room as they were.
+    /// the arena grows, in the steps of `insert_reallocating`. It returns `FailedOrdRequirement`
+    /// for `Empty` if there is an entry, and for `Manual` at an index that is not live; and else
+    /// `BeyondMaxCapacity` if as many entries are live as the greatest capacity, and `AllocError`
+    /// if the memory was refused. An error leaves the entries and the room as they were.
     pub fn entry_insert_reallocating(
         &mut self,
         kind: OrdInsertKind<P, &T::Key>,
@@ -187,7 +188,10 @@ impl<P: PtrCore, T: SimpleOrdItem + Drop, S: OrdSlots<P, T>> SimpleOrdArena<P, T
         })
     }
 
-    /// Room for one item more, where the kind says: another name of `entry_insert_reallocating`.
+    /// Room for one item more, where the kind says: another name of `entry_insert_reallocating`. If
+    /// a new entry is needed and there is no room, the arena grows. `FailedOrdRequirement`, for
+    /// `Empty` if there is an entry and for `Manual` at an index that is not live,
+    /// `BeyondMaxCapacity` and `AllocError` leave the entries and the room as they were.
     pub fn entry_insert(
         &mut self,
         kind: OrdInsertKind<P, &T::Key>,

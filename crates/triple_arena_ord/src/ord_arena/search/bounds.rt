@@ -124,7 +124,9 @@ impl<P: PtrCore, T: SimpleOrdItem + Drop, S: OrdSlots<P, T>> SimpleOrdArena<P, T
         self.find_bound(k, false, probes)
     }
 
-    /// What `lower_bound_counted` finds, with no count.
+    /// The pointer to the first entry of the list whose key is not less than `k`, if the keys
+    /// ascend; `None` if there is no such entry. If the keys do not ascend, it is some entry or
+    /// `None`.
     pub fn lower_bound(&self, k: &T::Key) -> Option<P>
         ensures bound { IsAscending T.Key.cmp T.key_of self.now
             → IsBound P.index P.generation
@@ -154,7 +156,9 @@ impl<P: PtrCore, T: SimpleOrdItem + Drop, S: OrdSlots<P, T>> SimpleOrdArena<P, T
         self.find_bound(k, true, probes)
     }
 
-    /// What `upper_bound_counted` finds, with no count.
+    /// The pointer to the first entry of the list whose key is greater than `k`, if the keys
+    /// ascend; `None` if there is no such entry. If the keys do not ascend, it is some entry or
+    /// `None`.
     pub fn upper_bound(&self, k: &T::Key) -> Option<P>
         ensures bound { IsAscending T.Key.cmp T.key_of self.now
             → IsBound P.index P.generation

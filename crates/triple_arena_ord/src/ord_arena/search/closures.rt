@@ -45,8 +45,9 @@ impl<P: PtrCore, T: Drop, S: OrdSlots<P, T>> SimpleOrdArena<P, T, S> {
         self.find_similar_by_counted(&mut f, probes)
     }
 
-    /// Asks a closure that is lent, in the way of `find_similar_with_counted`. The closure is left
-    /// in the state that its last answer left, so that what it noted of the questions is known.
+    /// Asks a closure that is borrowed, in the way of `find_similar_with_counted`. The closure is
+    /// left in the state that its last answer left, so that what it noted of the questions is
+    /// known.
     pub fn find_similar_by_counted<F>(
         &self,
         f: &mut F,
@@ -69,7 +70,8 @@ impl<P: PtrCore, T: Drop, S: OrdSlots<P, T>> SimpleOrdArena<P, T, S> {
         ask_down(&self.chains, self.root, f, probes)
     }
 
-    /// What `find_similar_with_counted` finds, with no count.
+    /// Asks `f` at entries, in the way of `find_similar_with_counted` but with no count, and
+    /// returns the last entry that was asked, with the answer; `None` if there is no entry.
     pub fn find_similar_with<F>(&self, f: F) -> Option<(P, Ordering)>
     where
         F: FnMut(P, &T) -> Ordering,
@@ -85,8 +87,9 @@ impl<P: PtrCore, T: Drop, S: OrdSlots<P, T>> SimpleOrdArena<P, T, S> {
         self.find_similar_with_counted(f, &mut Probes::new())
     }
 
-    /// Asks `f` in the same way, and returns the entry at which it answered `Equal`. If the answers
-    /// are as said there, it returns `None` exactly if `f` answers `Equal` at no entry.
+    /// Asks `f` at entries, in the way of `find_similar_with_counted`, and returns the entry at
+    /// which it answered `Equal`, or `None`. If its answers are as said there, `None` means that
+    /// `f` answers `Equal` at no entry.
     pub fn find_with_counted<F>(&self, f: F, probes: &mut Probes) -> Option<P>
     where
         F: FnMut(P, &T) -> Ordering,
@@ -110,7 +113,9 @@ impl<P: PtrCore, T: Drop, S: OrdSlots<P, T>> SimpleOrdArena<P, T, S> {
         }
     }
 
-    /// What `find_with_counted` finds, with no count.
+    /// Asks `f` at entries, in the way of `find_similar_with_counted` but with no count, and
+    /// returns the entry at which it answered `Equal`, or `None`. If its answers are as said there,
+    /// `None` means that `f` answers `Equal` at no entry.
     pub fn find_with<F>(&self, f: F) -> Option<P>
     where
         F: FnMut(P, &T) -> Ordering,

@@ -123,7 +123,9 @@ impl<P: PtrCore, T: SimpleOrdItem + Drop, S: OrdSlots<P, T>> SimpleOrdArena<P, T
         }
     }
 
-    /// What `find_key_linear_counted` finds, with no count.
+    /// The pointer to an entry with an equal key; if the keys ascend, `None` means that there is
+    /// none. It searches in the way of `find_key_linear_counted`, with no count: along the list
+    /// from the entry of `p_init` first, for at most `num` comparisons.
     pub fn find_key_linear(&self, p_init: P, num: usize, k: &T::Key) -> Option<P>
         ensures found { IsFound P.index P.generation (asked_at T.Key.cmp T.key_of k.now self.now)
             (IsAscending T.Key.cmp T.key_of self.now) result self.now }
@@ -178,7 +180,10 @@ impl<P: PtrCore, T: SimpleOrdItem + Drop, S: OrdSlots<P, T>> SimpleOrdArena<P, T
         similar_at(&self.chains, place)
     }
 
-    /// What `find_similar_key_linear_counted` finds, with no count.
+    /// The pointer to an entry with an equal key, or else to one beside which the key belongs, and
+    /// what the key compares as with the entry's; `None` if there is no entry. It searches in the
+    /// way of `find_similar_key_linear_counted`, with no count: along the list from the entry at
+    /// `p_init` first, for at most `num` comparisons.
     pub fn find_similar_key_linear(
         &self,
         p_init: P::Inx,
