@@ -10,7 +10,7 @@ use Rattle.triple_arena_chain.specs.LinkShape.{IndexLink}
 use Rattle.triple_arena_chain.specs.Chains.{Ends, next_in, prev_in, next_at, prev_at, first_or, Off}
 use Rattle.triple_arena_chain.specs.Chains.{IsLinear, IsRing, renext, reprev, with_next, with_prev}
 use Rattle.triple_arena_chain.specs.Chains.{linked, unlinked, exchanged}
-use Rattle.triple_arena_chain.specs.ChainLaws.{Stands-back}
+use Rattle.triple_arena_chain.specs.ChainLaws.{segment-back}
 use Rattle.triple_arena_chain.specs.InsertionListLaws.{linear-reversed, ring-reversed}
 use Rattle.triple_arena_chain.specs.InsertionListLaws.{linear-reversed_end}
 use Rattle.triple_arena_chain.specs.Kinds.{at_bridge}
@@ -199,7 +199,7 @@ module _ {I T : Type 0} (number : I → ℕ) (c m : Content (IndexLink T)) (o p 
       → IsLinear n (front ++ (o ∷ x ∷ p ∷ rest))
   linear_of n turns front rest x s =
       let both : Some q ≡ Some x = sym next_p
-      ∙ ap next_in (Stands-back (ends_in c) None None front (o ∷ p ∷ x ∷ rest) s).1.0 in
+      ∙ ap next_in (segment-back (ends_in c) None None front (o ∷ p ∷ x ∷ rest) s).1.0 in
       let same : q ≡ x = cc in
       subst (λ y. IsLinear (ends_in c) (front ++ (o ∷ p ∷ y ∷ rest))
       → IsLinear n (front ++ (o ∷ y ∷ p ∷ rest))) same (turns front rest) s

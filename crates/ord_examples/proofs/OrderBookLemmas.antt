@@ -8,7 +8,7 @@ use Rattle.std.specs.Ordering.{nat_cmp}
 use Rattle.std.specs.declared.cmp.Ordering.{Ordering}
 use Rattle.std.specs.declared.cmp.Ordering.TheVariants.{Less, Equal, Greater}
 use Rattle.triple_arena.specs.Content.{entry_at}
-use Rattle.triple_arena_chain.specs.Chains.{Ends, Stands, Off, Apart, first_or, last_or}
+use Rattle.triple_arena_chain.specs.Chains.{Ends, IsSegment, Off, Apart, first_or, last_or}
 use Rattle.triple_arena_chain.specs.ChainLaws.{Off-not_on}
 use Rattle.triple_arena_chain.specs.Links.{ends_in, entry_ends, valued}
 use Rattle.triple_arena_chain.specs.LinkShape.{IndexLink}
@@ -22,33 +22,32 @@ use Rattle.triple_arena_ord.specs.Ordered.{Ordered, IsOrdered, order_in, entry_i
 use Rattle.triple_arena_ord.specs.Ordered.{asked_of, asked_at}
 use Rattle.triple_arena_ord.specs.OrderedWalks.{OrderedWalk, OrderedSteps, left_over}
 use Rattle.triple_arena_ord.specs.Removal.{IsEntryRemoved}
-use Rattle.rank_tree.specs.Search.{AllIn}
 use Rattle.ord_examples.specs.OrderBooks.{orders_in, price_in, AllPrices, IsBehind, IsBestAsk}
 use Rattle.ord_examples.specs.OrderBooks.{IsBestBid, IsNext, IsLast}
 
 -- what holds of each of a list holds of one that is on it
-at_of : (Q : ℕ → Type 0) (front : List ℕ) (i : ℕ) (back : List ℕ) → AllIn Q (front ++ i ∷ back)
+at_of : (Q : ℕ → Type 0) (front : List ℕ) (i : ℕ) (back : List ℕ) → AllByRecursion Q (front ++ i ∷ back)
     → Q i
 at_of Q [] i back all = all.0
 at_of Q (x ∷ xs) i back all = at_of Q xs i back all.1
 
-weaker : (Q R : ℕ → Type 0) → ((i : ℕ) → Q i → R i) → (xs : List ℕ) → AllIn Q xs → AllIn R xs
+weaker : (Q R : ℕ → Type 0) → ((i : ℕ) → Q i → R i) → (xs : List ℕ) → AllByRecursion Q xs → AllByRecursion R xs
 weaker Q R so [] all = tt
 weaker Q R so (x ∷ xs) all = (so x all.0, weaker Q R so xs all.1)
 
 some_is : {B : Type 0} (a b : B) → Some a ≡ Some b → a ≡ b
 some_is a b is = cc
 
-joined : (Q : ℕ → Type 0) (xs ys : List ℕ) → AllIn Q xs → AllIn Q ys → AllIn Q (xs ++ ys)
+joined : (Q : ℕ → Type 0) (xs ys : List ℕ) → AllByRecursion Q xs → AllByRecursion Q ys → AllByRecursion Q (xs ++ ys)
 joined Q [] ys first second = second
 joined Q (x ∷ xs) ys first second = (first.0, joined Q xs ys first.1 second)
 
-later : (Q : ℕ → Type 0) (xs ys : List ℕ) → AllIn Q (xs ++ ys) → AllIn Q ys
+later : (Q : ℕ → Type 0) (xs ys : List ℕ) → AllByRecursion Q (xs ++ ys) → AllByRecursion Q ys
 later Q [] ys all = all
 later Q (x ∷ xs) ys all = later Q xs ys all.1
 
-both_in : (Q R S : ℕ → Type 0) → ((i : ℕ) → Q i → R i → S i) → (xs : List ℕ) → AllIn Q xs
-    → AllIn R xs → AllIn S xs
+both_in : (Q R S : ℕ → Type 0) → ((i : ℕ) → Q i → R i → S i) → (xs : List ℕ) → AllByRecursion Q xs
+    → AllByRecursion R xs → AllByRecursion S xs
 both_in Q R S so [] first second = tt
 both_in Q R S so (x ∷ xs) first second =
     (so x first.0 second.0, both_in Q R S so xs first.1 second.1)
@@ -124,14 +123,14 @@ module _ {T P : Type 0} (index generation : P → ℕ) (B : T → Type 0)
   Known e = entry_in o e.0 ≡ Some e.1
 
   abbrev Lives : List ℕ → Type 0
-  Lives = AllIn (λ j. IsSome (entry_in o j))
+  Lives = AllByRecursion (λ j. IsSome (entry_in o j))
 
   pub record IsParted (r : Option P) : Type 0 where
     pub low : List ℕ
     pub high : List ℕ
     pub is : order_in o ≡ low ++ high
-    pub below : AllIn (λ j. (e : ℕ × T) → entry_in o j ≡ Some e → B e.1) low
-    pub above : AllIn (λ j. (e : ℕ × T) → entry_in o j ≡ Some e → B e.1 → ⊥) high
+    pub below : AllByRecursion (λ j. (e : ℕ × T) → entry_in o j ≡ Some e → B e.1) low
+    pub above : AllByRecursion (λ j. (e : ℕ × T) → entry_in o j ≡ Some e → B e.1 → ⊥) high
     pub first : first_or high None ≡ option_map index r
 
   -- the indexes of the list are those of its entries
@@ -173,14 +172,14 @@ module _ {T P : Type 0} (index generation : P → ℕ) (B : T → Type 0)
   -- what holds of the entries holds at the indexes
   at_indexes : (Q : T → Type 0) (w : List ℕ)
       → AllByRecursion (λ (e : ℕ × (ℕ × T)). Q e.1.1) (listed w)
-      → AllIn (λ j. (e : ℕ × T) → entry_in o j ≡ Some e → Q e.1) w
+      → AllByRecursion (λ j. (e : ℕ × T) → entry_in o j ≡ Some e → Q e.1) w
   at_indexes Q [] all = tt
   at_indexes Q (i ∷ w) all = by (λ left. at_indexes Q w left) (entry_in o i) refl
     where
       by : (AllByRecursion (λ (e : ℕ × (ℕ × T)). Q e.1.1) (listed w)
-          → AllIn (λ j. (e : ℕ × T) → entry_in o j ≡ Some e → Q e.1) w)
+          → AllByRecursion (λ j. (e : ℕ × T) → entry_in o j ≡ Some e → Q e.1) w)
           → (a : Option (ℕ × T)) → entry_in o i ≡ a
-          → AllIn (λ j. (e : ℕ × T) → entry_in o j ≡ Some e → Q e.1) (i ∷ w)
+          → AllByRecursion (λ j. (e : ℕ × T) → entry_in o j ≡ Some e → Q e.1) (i ∷ w)
       by next None at = (
         λ e is. absurd (let never : None ≡ Some e = sym at ∙ is in cc),
         next (subst (AllByRecursion (λ (e : ℕ × (ℕ × T)). Q e.1.1))
@@ -232,8 +231,8 @@ module _ {T P : Type 0} (index generation : P → ℕ) (B : T → Type 0)
 
 -- each index of the list is live
 module _ {T : Type 0} (o : Ordered T) where
-  lives_in : (b : Option ℕ) (w : List ℕ) → Stands (ends_in o.chains) b w None
-      → AllIn (λ j. IsSome (entry_in o j)) w
+  lives_in : (b : Option ℕ) (w : List ℕ) → IsSegment (ends_in o.chains) b w None
+      → AllByRecursion (λ j. IsSome (entry_in o j)) w
   lives_in b [] s = tt
   lives_in b (i ∷ w) s = (by (entry_at o.chains i) s.0, lives_in (Some i) w s.1)
     where
@@ -243,7 +242,7 @@ module _ {T : Type 0} (o : Ordered T) where
       by None is = absurd (cc)
       by (Some e) is = refl
 
-  pub all_live : IsOrdered o → AllIn (λ j. IsSome (entry_in o j)) (order_in o)
+  pub all_live : IsOrdered o → AllByRecursion (λ j. IsSome (entry_in o j)) (order_in o)
   all_live is = lives_in None (order_in o) is.linear
 
   pub once : IsOrdered o → Apart (order_in o)
@@ -283,7 +282,7 @@ module _ {V : Type 0} where
   -- what is said of entries, said of prices
   prices_in : (Q : OrdPair ℕ V → Type 0) (R : ℕ → Type 0) → ((t : OrdPair ℕ V) → Q t → R t.k)
       → (o : Ordered (OrdPair ℕ V)) (w : List ℕ)
-      → AllIn (λ j. (e : ℕ × OrdPair ℕ V) → entry_in o j ≡ Some e → Q e.1) w → AllPrices R o w
+      → AllByRecursion (λ j. (e : ℕ × OrdPair ℕ V) → entry_in o j ≡ Some e → Q e.1) w → AllPrices R o w
   prices_in Q R so o = weaker (λ j. (e : ℕ × OrdPair ℕ V) → entry_in o j ≡ Some e → Q e.1)
       (λ j. (price : ℕ) → price_in o j ≡ Some price → R price)
       (λ j all price is. let e = price_is o j price is in
@@ -293,7 +292,7 @@ module _ {V : Type 0} where
   asked_prices : (d : Ordering) (own : ℕ) (R : ℕ → Type 0)
       → ((other : ℕ) → nat_cmp own other ≢ d → R other)
       → (o : Ordered (OrdPair ℕ V)) (w : List ℕ)
-      → AllIn (λ j. asked_at nat_cmp price_of own o j ≢ d) w → AllPrices R o w
+      → AllByRecursion (λ j. asked_at nat_cmp price_of own o j ≢ d) w → AllPrices R o w
   asked_prices d own R so o = weaker (λ j. asked_at nat_cmp price_of own o j ≢ d)
       (λ j. (price : ℕ) → price_in o j ≡ Some price → R price)
       (λ j never price is. let e = price_is o j price is in
@@ -303,7 +302,7 @@ module _ {V : Type 0} where
   prices_asked : (d : Ordering) (own : ℕ) (R : ℕ → Type 0)
       → (d ≢ Equal) → ((other : ℕ) → R other → nat_cmp own other ≢ d)
       → (o : Ordered (OrdPair ℕ V)) (w : List ℕ) → AllPrices R o w
-      → AllIn (λ j. asked_at nat_cmp price_of own o j ≢ d) w
+      → AllByRecursion (λ j. asked_at nat_cmp price_of own o j ≢ d) w
   prices_asked d own R turns so o = weaker (λ j. (price : ℕ) → price_in o j ≡ Some price → R price)
       (λ j. asked_at nat_cmp price_of own o j ≢ d)
       (λ j all. by (entry_in o j) all)
@@ -406,13 +405,13 @@ module _ {V P : Type 0} (index generation : P → ℕ)
 
     -- what that says of the keys
     pub not_less_before : (w : List ℕ) → AllPrices (λ other. other ≤ price) o w
-        → AllIn (λ j. asked_at nat_cmp price_of price o j ≢ Less) w
+        → AllByRecursion (λ j. asked_at nat_cmp price_of price o j ≢ Less) w
     not_less_before = prices_asked Less price (λ other. other ≤ price) (λ same. cc)
         (λ other most same. let less : price < other = ranked price other Less (sym same) in
         omega (arith, most, less)) o
 
     pub not_greater_behind : (w : List ℕ) → AllPrices (λ other. price < other) o w
-        → AllIn (λ j. asked_at nat_cmp price_of price o j ≢ Greater) w
+        → AllByRecursion (λ j. asked_at nat_cmp price_of price o j ≢ Greater) w
     not_greater_behind = prices_asked Greater price (λ other. price < other) (λ same. cc)
         (λ other least same. let less : other < price = ranked price other Greater (sym same) in
         omega (arith, least, less)) o
@@ -422,13 +421,13 @@ module _ {V P : Type 0} (index generation : P → ℕ)
       → option_map index r ≡ first_or (order_in o) None
       → ((back : List ℕ) (i : ℕ) (entry : ℕ × OrdPair ℕ V) → order_in o ≡ i ∷ back
       → entry_in o i ≡ Some entry
-      → AllIn (λ k. asked_at nat_cmp price_of entry.1.k o k ≢ Greater) back)
+      → AllByRecursion (λ k. asked_at nat_cmp price_of entry.1.k o k ≢ Greater) back)
       → IfSome r (λ p. IsBestAsk o (index p))
   best_ask_of ordered None at after = tt
   best_ask_of ordered (Some p) at after =
       let first = starts (order_in o) (index p) (sym at) in
       let e = live_entry o (index p)
-      (subst (AllIn (λ j. IsSome (entry_in o j))) first.1 (all_live o ordered)).0 in
+      (subst (AllByRecursion (λ j. IsSome (entry_in o j))) first.1 (all_live o ordered)).0 in
       record {
         own = e.0.1.k;
         later = first.0;
@@ -458,7 +457,7 @@ module _ {V P : Type 0} (index generation : P → ℕ)
       (at : last_or None (order_in o) ≡ Some last) (price : price_in o last ≡ Some own)
       (before : (front back : List ℕ) (i : ℕ) (entry : ℕ × OrdPair ℕ V)
       → order_in o ≡ front ++ i ∷ back → entry_in o i ≡ Some entry
-      → AllIn (λ k. asked_at nat_cmp price_of entry.1.k o k ≢ Less) front) where
+      → AllByRecursion (λ k. asked_at nat_cmp price_of entry.1.k o k ≢ Less) front) where
     abbrev Lower : OrdPair ℕ V → Type 0
     Lower t = nat_cmp own t.k ≡ Greater
 
@@ -493,9 +492,9 @@ module _ {V P : Type 0} (index generation : P → ℕ)
             (later (λ j. (other : ℕ) → price_in o j ≡ Some other → other ≤ own) p.low p.high
             (subst (AllPrices (λ other. other ≤ own) o) p.is most))
 
-        lives : AllIn (λ j. IsSome (entry_in o j)) p.high
+        lives : AllByRecursion (λ j. IsSome (entry_in o j)) p.high
         lives = later (λ j. IsSome (entry_in o j)) p.low p.high
-            (subst (AllIn (λ j. IsSome (entry_in o j))) p.is (all_live o ordered))
+            (subst (AllByRecursion (λ j. IsSome (entry_in o j))) p.is (all_live o ordered))
 
         by : (q : Option P) (w : List ℕ) → p.high ≡ w → first_or p.high None ≡ option_map index q
             → BestBid q
@@ -515,7 +514,7 @@ module _ {V P : Type 0} (index generation : P → ℕ)
             let split : p.high ≡ index q ∷ w = some ∙ ap (λ z. z ∷ w) at in
             let all = subst (AllPrices (λ other. other ≡ own) o) split same in
             let e = live_entry o (index q)
-            (subst (AllIn (λ j. IsSome (entry_in o j))) split lives).0 in
+            (subst (AllByRecursion (λ j. IsSome (entry_in o j))) split lives).0 in
             let price : price_in o (index q) ≡ Some e.0.1.k =
             ap (option_map (λ (e : ℕ × OrdPair ℕ V). e.1.k)) e.1 in
             record {

@@ -1,9 +1,9 @@
 -- Order books: the orders of one side of a market by price, and those of one price by arrival.
 use Rattle.std.specs.Prelude.{◌≡◌, ℕ, ◌<◌, ◌≤◌, List, [], ◌∷◌, ◌++◌}
+use Rattle.std.specs.List.{AllByRecursion}
 use Rattle.std.specs.Prelude.{Option, Some}
 use Rattle.std.specs.Option.{option_map}
 use Rattle.std.specs.Ordering.{nat_cmp}
-use Rattle.rank_tree.specs.Search.{AllIn}
 use Rattle.triple_arena_ord.specs.declared.pair.OrdPair.{OrdPair}
 use Rattle.triple_arena_ord.specs.Ordered.{Ordered, IsAscending, order_in, entry_in}
 
@@ -23,7 +23,7 @@ module _ {V : Type 0} where
 
   -- the price at each of these indexes
   abbrev pub AllPrices : (ℕ → Type 0) → Ordered (OrdPair ℕ V) → List ℕ → Type 0
-  AllPrices Q o = AllIn (λ j. (price : ℕ) → price_in o j ≡ Some price → Q price)
+  AllPrices Q o = AllByRecursion (λ j. (price : ℕ) → price_in o j ≡ Some price → Q price)
 
   -- an order comes into the list behind all whose price is not greater, and before the others
   pub record IsBehind (o : Ordered (OrdPair ℕ V)) (price i : ℕ) (old new : List ℕ)

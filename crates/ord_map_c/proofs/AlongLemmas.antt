@@ -1,4 +1,5 @@
 -- The entries along a list of indexes of an arena.
+use Rattle.std.specs.List.{AllByRecursion}
 use Rattle.std.proofs.Common.{◌≡◌, ◌≢◌, ◌∙◌, sym, ap, subst, refl, ℕ, zero, suc}
 use Rattle.std.proofs.Common.{◌+◌, List, [], ◌∷◌, ◌++◌, Option, Some, None, IsSome}
 use Rattle.std.proofs.Common.{IfNone, IfSome, option_map}
@@ -9,7 +10,6 @@ use Rattle.std.specs.Int.NonZero.{non_zero_u32_get}
 use Rattle.std.specs.Ordering.{nat_cmp, is_lt}
 use Rattle.std.specs.declared.cmp.Ordering.{Ordering}
 use Rattle.std.specs.declared.cmp.Ordering.TheVariants.{Less, Greater}
-use Rattle.rank_tree.specs.Search.{AllIn}
 use Rattle.triple_arena_chain.specs.Chains.{On, Off, Apart}
 use Rattle.triple_arena_chain.specs.ListLaws.{Apart-split}
 use Rattle.triple_arena_chain.specs.Links.{ends_in}
@@ -90,7 +90,7 @@ module _ (at : ℕ → Option (ℕ × Pair)) where
     abbrev pub asked : ℕ → Ordering
     asked i = asked_of nat_cmp key_in key (at i)
 
-    pub below_along : (w : List ℕ) → AllIn (λ i. asked i ≡ Greater) w → Below key (along w)
+    pub below_along : (w : List ℕ) → AllByRecursion (λ i. asked i ≡ Greater) w → Below key (along w)
     below_along [] all = tt
     below_along (i ∷ w) all = by (at i) refl all.0 (below_along w all.1)
       where
@@ -102,7 +102,7 @@ module _ (at : ℕ → Option (ℕ × Pair)) where
             subst (Below key) (sym (along_some i w e is))
             (ranked key e.1.k Greater (sym way), rest)
 
-    pub above_along : (w : List ℕ) → AllIn (λ i. asked i ≡ Less) w → Above key (along w)
+    pub above_along : (w : List ℕ) → AllByRecursion (λ i. asked i ≡ Less) w → Above key (along w)
     above_along [] all = tt
     above_along (i ∷ w) all = by (at i) refl all.0 (above_along w all.1)
       where

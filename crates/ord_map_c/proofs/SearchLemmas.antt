@@ -22,7 +22,7 @@ use Rattle.triple_arena_ord.specs.Found.{IsFound, IsSimilar, Answers}
 use Rattle.triple_arena_ord.specs.Ordered.{IsAscending, asked_at, entry_in, order_in}
 use Rattle.triple_arena_ord.specs.OrderedWalks.{IsEnd, IsFrom, OrderedSteps, OrderedWalk, left_over}
 use Rattle.triple_arena_ord.specs.OrderedWalks.{entries_left, from_index, walk_at}
-use Rattle.rank_tree.specs.Search.{Places}
+use Rattle.rank_tree.specs.Search.{EndsAt}
 use Rattle.ord_map_c.specs.Entries.{Entry, Pair, KeysRise, key_of, pointer_of, with_key, from_key}
 use Rattle.ord_map_c.specs.Entries.{past_key, below_key, first_of, last_of, entry, pair}
 use Rattle.ord_map_c.specs.State.{Arena, IsMap, StandsUnder, listed, nearest_in, beside_in}
@@ -212,7 +212,7 @@ module _ {P : Type 0} (index generation : P → ℕ) (o : Arena) (key : ℕ) (ma
 
   module _ (p : P) (t : Pair) (is : entry_in o (index p) ≡ Some (generation p, t))
       (places : (d : Ordering) → asked_at nat_cmp key_in key o (index p) ≡ d
-      → Places (asked_at nat_cmp key_in key o) (order_in o) (index p) d) where
+      → EndsAt (asked_at nat_cmp key_in key o) (order_in o) (index p) d) where
     abbrev own : Entry
     own = (index p, (generation p, t))
 
@@ -295,13 +295,13 @@ module _ {P : Type 0} (index generation : P → ℕ) (o : Arena) (key : ℕ) (ma
   nearest_is result similar p d is =
       let found = similar.some p d is in
       let at = live_at o (index p) (generation p) found.live in
-      by d found (λ e way. subst (Places (asked_at nat_cmp key_in key o)
+      by d found (λ e way. subst (EndsAt (asked_at nat_cmp key_in key o)
       (order_in o) (index p)) (sym found.way ∙ way)
       (similar.places (ascends o map.rise) p d is))
     where
       by : (d : Ordering) → Answers index generation (asked_at nat_cmp key_in key o) o p d
           → ((e : Ordering) → asked_at nat_cmp key_in key o (index p) ≡ e
-          → Places (asked_at nat_cmp key_in key o) (order_in o) (index p) e)
+          → EndsAt (asked_at nat_cmp key_in key o) (order_in o) (index p) e)
           → IsNearest p d
       by Less found places =
           let at = live_at o (index p) (generation p) found.live in

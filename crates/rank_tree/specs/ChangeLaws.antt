@@ -5,7 +5,7 @@ use Rattle.rank_tree.specs.Knot.{Knot}
 use Rattle.rank_tree.specs.declared.side.Side.TheVariants.{Left}
 use Rattle.rank_tree.specs.Store.{Store, Written, Reparented, Relinked}
 use Rattle.rank_tree.specs.Tree.{node, walk}
-use Rattle.rank_tree.specs.Shape.{knot, root_of, plug, holder, Stands, one, count, count_round}
+use Rattle.rank_tree.specs.Shape.{knot, root_of, plug, holder, RepresentsTree, one, count, count_round}
 use Rattle.rank_tree.specs.Repair.{Replacement, KeptOff}
 use Rattle.rank_tree.specs.FrameLaws.{Represents-keep, Hangs-keep, plug-count, plug-opens}
 use Rattle.rank_tree.specs.FrameLaws.{plug-closes, Represents-reparent, reparent-elsewhere}
@@ -17,7 +17,7 @@ pub replaced : (n n1 n2 n3 n4 : Store) (root new_root : Option ℕ) (old new : �
     → Written n n1 new (knot Left (holder h.context) (root_of h.left) h.rank (root_of h.right))
     → Reparented n1 n2 (root_of h.left) (Some new) → Reparented n2 n3 (root_of h.right) (Some new)
     → Relinked n3 n4 root new_root (holder h.context) old (Some new)
-    → Stands n4 new_root (plug h.context (node h.left new h.rank h.right))
+    → RepresentsTree n4 new_root (plug h.context (node h.left new h.rank h.right))
 replaced n n1 n2 n3 n4 root new_root old new h w1 w2 w3 w4 =
     let c = h.context in
     let l = h.left in
@@ -108,7 +108,7 @@ pub replacement_works : (n n1 n2 n3 n4 : Store) (root new_root : Option ℕ) (ol
     → Reparented n2 n3 value.right (Some new)
     → Relinked n3 n4 root new_root value.parent old (Some new)
     → (h : Replacement n root old new)
-    → Stands n4 new_root (plug h.context (node h.left new h.rank h.right))
+    → RepresentsTree n4 new_root (plug h.context (node h.left new h.rank h.right))
     × KeptOff (walk (plug h.context (node h.left new h.rank h.right))) n n4
 replacement_works n n1 n2 n3 n4 root new_root old new value e w1 w2 w3 w4 h =
     let is = replacement_knot n root old new h value e in

@@ -9,7 +9,7 @@ use Rattle.rank_tree.specs.Store.{Store, other_side, child_of, Written, with_ran
 use Rattle.rank_tree.specs.Store.{rank_or_zero}
 use Rattle.rank_tree.specs.Tree.{Tree, leaf, node, walk, size, rank_of, IsRanked, Fits}
 use Rattle.rank_tree.specs.Shape.{make, near_of, knot, root_of, Context, top, under, plug}
-use Rattle.rank_tree.specs.Shape.{holder, Hangs, Stands, one, count, count_round, IsDistinct}
+use Rattle.rank_tree.specs.Shape.{holder, Hangs, RepresentsTree, one, count, count_round, IsDistinct}
 use Rattle.rank_tree.specs.Repair.{Spot, IsRankedRound, Restored, Grown, Leaning, KeptOff}
 use Rattle.rank_tree.specs.BoundLaws.{small_rank}
 use Rattle.rank_tree.specs.FrameLaws.{one-same, Represents-keep, Hangs-keep, make-count, make-root}
@@ -25,7 +25,7 @@ pub ranked-write : (n m : Store) (root : Option ℕ) (c : Context) (s : Side) (t
     (far : Tree)
     → Written n m y (knot s (holder c) (root_of t) j (root_of far))
     → IsDistinct (plug c (make s t y k far))
-    → Stands n root (plug c (make s t y k far)) → Stands m root (plug c (make s t y j far))
+    → RepresentsTree n root (plug c (make s t y k far)) → RepresentsTree m root (plug c (make s t y j far))
 ranked-write n m root c s t y k j far w distinct h =
     let once : (i : ℕ) → count_round i c + (count i t + one i y + count i far) ≤ 1 = λ i.
     let o = distinct.once i in let p = plug-count c i (make s t y k far) in let q =
@@ -114,7 +114,7 @@ pub record Climbing (n : Store) (root : Option ℕ) (low : ℕ) (w : List ℕ) (
   pub leaning : 2 ≤ rank → rank_of outer + rank_of inner + 3 ≡ rank + rank
   pub distinct : IsDistinct
       (plug context (make side (make side outer low rank inner) high high_rank far))
-  pub stands : Stands n root
+  pub stands : RepresentsTree n root
       (plug context (make side (make side outer low rank inner) high high_rank far))
   pub fits : Fits (rank_of outer) rank (rank_of inner)
   pub outer_ranked : IsRanked outer
@@ -163,7 +163,7 @@ grown_under n root low high below w eb eh h =
       one_more = h.one_more;
       leaning = λ z. sum_is _ _ _ sum (h.leaning z);
       distinct = subst IsDistinct whole_is h.distinct;
-      stands = subst (Stands n root) whole_is h.stands;
+      stands = subst (RepresentsTree n root) whole_is h.stands;
       fits = parts.fits;
       outer_ranked = parts.near;
       inner_ranked = parts.far;
@@ -202,7 +202,7 @@ grown_ends n root low below w eb eh h =
     let is : h.context ≡ top = open_top h.context (ap (λ v. v.parent) (sym below_is) ∙ eh) in
     record {
       tree = node h.left low h.rank h.right;
-      stands = subst (λ c. Stands n root (plug c (node h.left low h.rank h.right))) is h.stands;
+      stands = subst (λ c. RepresentsTree n root (plug c (node h.left low h.rank h.right))) is h.stands;
       ranked = h.ranked;
       is_walk = ap (λ c. walk (plug c (node h.left low h.rank h.right))) (sym is) ∙ h.is_walk;
     }
@@ -248,7 +248,7 @@ climb_leans n root low high w h same less =
       distinct = subst (λ k. IsDistinct
           (plug h.context (make h.side (make h.side h.outer low h.rank h.inner) high k h.far)))
           is h.distinct;
-      stands = subst (λ k. Stands n root
+      stands = subst (λ k. RepresentsTree n root
           (plug h.context (make h.side (make h.side h.outer low h.rank h.inner) high k h.far)))
           is h.stands;
       fits = h.fits;
@@ -298,7 +298,7 @@ climb_up n m root low high w h same less written =
       leaning = λ z. omega arith;
       distinct = subst (λ z. IsDistinct (plug h.context z)) new_is
           (IsDistinct-walk _ _ new_walk h.distinct);
-      stands = subst (λ z. Stands m root (plug h.context z)) new_is
+      stands = subst (λ z. RepresentsTree m root (plug h.context z)) new_is
           (ranked-write n m root h.context s t high h.high_rank (h.high_rank + 1) h.far
           (subst (λ z. Written n m high
           (knot s (holder h.context) z (h.high_rank + 1) (root_of h.far))) link written)

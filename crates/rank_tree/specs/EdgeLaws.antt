@@ -10,7 +10,7 @@ use Rattle.rank_tree.specs.Store.{Store, with_child, Written, Reparented, Relink
 use Rattle.rank_tree.specs.Tree.{Tree, leaf, node, walk, rank_of, IsRanked}
 use Rattle.rank_tree.specs.Shape.{make, knot, root_of, Context, top, under, plug, holder, Hangs}
 use Rattle.rank_tree.specs.Shape.{one, count, count_round}
-use Rattle.rank_tree.specs.Repair.{IsRankedRound, Grown, Pending, Gap, new_below, filled}
+use Rattle.rank_tree.specs.Repair.{IsRankedRound, Grown, Pending, FreeSide, new_below, filled}
 use Rattle.rank_tree.specs.Repair.{Loose, KeptOff}
 use Rattle.rank_tree.specs.FrameLaws.{one-same, one-other, Represents-keep, Hangs-keep, make-count}
 use Rattle.rank_tree.specs.FrameLaws.{make-root, make-rank, make-opens, make-closes, plug-count}
@@ -66,7 +66,7 @@ make-length s a i k b = let p = size-walk (make s a i k b) in let q = size-make 
     size-walk a in let r = size-walk b in omega arith
 
 pub attached : (n m : Store) (root : Option ℕ) (at_holder : ℕ) (side : Side) (new : ℕ)
-    (g : Gap n root at_holder side new)
+    (g : FreeSide n root at_holder side new)
     → n new ≡ Some (new_below at_holder)
     → Written n m at_holder (knot side (holder g.context) (Some new) g.rank (root_of g.far))
     → Grown m root new (walk (filled g))
@@ -134,7 +134,7 @@ attached n m root at_holder side new g slot w =
     }
 
 pub attached_kept : (n m : Store) (root : Option ℕ) (at_holder : ℕ) (side : Side) (new : ℕ)
-    (v : Knot) (g : Gap n root at_holder side new)
+    (v : Knot) (g : FreeSide n root at_holder side new)
     → Written n m at_holder v → KeptOff (walk (filled g)) n m
 attached_kept n m root at_holder side new v g w = λ j off.
     let t = node leaf new 1 leaf in
@@ -193,14 +193,14 @@ detached_kept n n1 n2 root new_root gone h w1 w2 = λ j off.
 
 -- what the code reads
 gap_knot : (n : Store) (root : Option ℕ) (at_holder : ℕ) (side : Side) (new : ℕ)
-    (g : Gap n root at_holder side new)
+    (g : FreeSide n root at_holder side new)
     → n at_holder ≡ Some (knot side (holder g.context) None g.rank (root_of g.far))
 gap_knot n root at_holder side new g =
     let e0 = plug-opens n root g.context (make side leaf at_holder g.rank g.far) g.stands in
     (make-opens side n (holder g.context) leaf at_holder g.rank g.far e0.1).0
 
 pub gap_lives : (n : Store) (root : Option ℕ) (at_holder : ℕ) (side : Side) (new : ℕ)
-    → Gap n root at_holder side new → IsSome (n at_holder)
+    → FreeSide n root at_holder side new → IsSome (n at_holder)
 gap_lives n root at_holder side new g =
     some_at (n at_holder) _ (gap_knot n root at_holder side new g)
 
@@ -213,7 +213,7 @@ knot_filled Right p k b link = refl
 module _ (n m : Store) (root : Option ℕ) (at_holder : ℕ) (side : Side) (new : ℕ)
     (does : (v : Knot) → n at_holder ≡ Some v
     → Written n m at_holder (with_child side (Some new) v))
-    (g : Gap n root at_holder side new) where
+    (g : FreeSide n root at_holder side new) where
   child_written : Written n m at_holder
       (knot side (holder g.context) (Some new) g.rank (root_of g.far))
   child_written =

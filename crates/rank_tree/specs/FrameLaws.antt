@@ -8,7 +8,7 @@ use Rattle.rank_tree.specs.declared.side.Side.TheVariants.{Left, Right}
 use Rattle.rank_tree.specs.Store.{Store, Written, Reparented, Relinked}
 use Rattle.rank_tree.specs.Tree.{Tree, leaf, node, walk, rank_of}
 use Rattle.rank_tree.specs.Shape.{make, knot, root_of, Context, top, under, plug, holder}
-use Rattle.rank_tree.specs.Shape.{Represents, Hangs, Stands, one, count, count_in, count_round}
+use Rattle.rank_tree.specs.Shape.{Represents, Hangs, RepresentsTree, one, count, count_in, count_round}
 use Rattle.rank_tree.specs.Shape.{IsDistinct}
 use Rattle.rank_tree.specs.Repair.{KeptOff}
 
@@ -80,7 +80,7 @@ plug-count top j t = omega arith
 plug-count (under c s i k far) j t = let e = plug-count c j (make s t i k far) in let f =
     make-count s j t i k far in omega arith
 
-pub plug-opens : (n : Store) (root : Option ℕ) (c : Context) (t : Tree) → Stands n root (plug c t)
+pub plug-opens : (n : Store) (root : Option ℕ) (c : Context) (t : Tree) → RepresentsTree n root (plug c t)
     → Hangs n root c (root_of t) × Represents n (holder c) t
 plug-opens n root top t h = h
 plug-opens n root (under c s i k far) t h =
@@ -89,7 +89,7 @@ plug-opens n root (under c s i k far) t h =
     ((e.0, e.2, rw make-root at g.0), e.1)
 
 pub plug-closes : (n : Store) (root : Option ℕ) (c : Context) (t : Tree)
-    → Hangs n root c (root_of t) → Represents n (holder c) t → Stands n root (plug c t)
+    → Hangs n root c (root_of t) → Represents n (holder c) t → RepresentsTree n root (plug c t)
 plug-closes n root top t h r = (h, r)
 plug-closes n root (under c s i k far) t h r =
     plug-closes n root c (make s t i k far) (rw make-root h.2)

@@ -11,7 +11,7 @@ use Rattle.rank_tree.specs.Store.{Store, other_side, child_of, Written, with_ran
 use Rattle.rank_tree.specs.Store.{rank_or_zero, ahead}
 use Rattle.rank_tree.specs.Tree.{Tree, leaf, node, walk, rank_of, IsRanked, Fits}
 use Rattle.rank_tree.specs.Shape.{make, near_of, knot, root_of, Context, top, under, plug}
-use Rattle.rank_tree.specs.Shape.{holder, Represents, Hangs, Stands, IsDistinct, one, count}
+use Rattle.rank_tree.specs.Shape.{holder, Represents, Hangs, RepresentsTree, IsDistinct, one, count}
 use Rattle.rank_tree.specs.Repair.{Spot, IsRankedRound, Restored, Broken, Nearly, Pending, Short}
 use Rattle.rank_tree.specs.Repair.{KeptOff, IsFitAbove}
 use Rattle.rank_tree.specs.FrameLaws.{one-same, make-count, plug-count, make-rank, make-root}
@@ -52,7 +52,7 @@ near_second Right a b = refl
 -- a subtree has lost one rank, and is the child that may be too low
 pub pending_up : (m : Store) (root : Option ℕ) (c : Context) (t : Tree) (k : ℕ) (w : List ℕ)
     → IsDistinct (plug c t)
-    → Stands m root (plug c t) → IsRanked t → rank_of t + 1 ≡ k → IsRankedRound c k
+    → RepresentsTree m root (plug c t) → IsRanked t → rank_of t + 1 ≡ k → IsRankedRound c k
     → walk (plug c t) ≡ w → length w < 2 ^ 64
     → Pending m root (holder c) (root_of t) w
 pending_up m root top t k w d h r e round q small
@@ -67,7 +67,7 @@ pending_up m root (under c s i j far) t k w d h r e round q small =
       rank = j;
       right = near_of (other_side s) t far;
       distinct = subst (λ z. IsDistinct (plug c z)) is d;
-      stands = subst (λ z. Stands m root (plug c z)) is h;
+      stands = subst (λ z. RepresentsTree m root (plug c z)) is h;
       left_ranked = near_holds IsRanked s t far r round.1;
       right_ranked = near_holds IsRanked (other_side s) t far r round.1;
       nearly = near_nearly s t far j o;
@@ -383,7 +383,7 @@ broken_sibling n root high low z link near w h up e =
         high_rank = h.rank;
         far = far;
         distinct = subst (λ t. IsDistinct (plug h.context t)) is h.distinct;
-        stands = subst (λ t. Stands n root (plug h.context t)) is h.stands;
+        stands = subst (λ t. RepresentsTree n root (plug h.context t)) is h.stands;
       };
       high_is = refl;
       fits = parts.fits;

@@ -10,7 +10,7 @@ use Rattle.rank_tree.specs.Store.{Store, other_side, child_of, rank_or_link, ran
 use Rattle.rank_tree.specs.Store.{Reparented, Relinked, with_parent, with_child, with_rank}
 use Rattle.rank_tree.specs.Tree.{Tree, leaf, node, walk, rank_of}
 use Rattle.rank_tree.specs.Shape.{make, knot, root_of, Context, top, under, holder, Represents}
-use Rattle.rank_tree.specs.Shape.{Hangs, Stands}
+use Rattle.rank_tree.specs.Shape.{Hangs, RepresentsTree}
 use Rattle.rank_tree.specs.Repair.{Spot, turned, KeptOff}
 use Rattle.rank_tree.specs.FrameLaws.{one-same, make-count, make-root, make-opens, plug-count}
 use Rattle.rank_tree.specs.FrameLaws.{plug-opens, root-counted}
@@ -171,7 +171,7 @@ pub turn_works : (n n1 n2 n3 n4 : Store) (root new_root : Option ℕ) (low jx jy
     → Reparented n1 n2 middle (Some high)
     → Written n2 n3 low (record raised { parent = above.parent; rank = jx })
     → Relinked n3 n4 root new_root above.parent high (Some low)
-    → (spot : Spot n root low) → Stands n4 new_root (turned spot jx jy)
+    → (spot : Spot n root low) → RepresentsTree n4 new_root (turned spot jx jy)
     × KeptOff (walk (turned spot jx jy)) n n4
 turn_works n n1 n2 n3 n4 root new_root low jx jy below above high t middle lowered raised eb eh ea
     side em el er w1 w2 w3 w4 spot =

@@ -6,7 +6,7 @@ use Rattle.rank_tree.specs.declared.side.Side.TheVariants.{Left, Right}
 use Rattle.rank_tree.specs.Knot.{Knot}
 use Rattle.rank_tree.specs.Store.{Store, Written, Reparented, Relinked}
 use Rattle.rank_tree.specs.Tree.{Tree, walk}
-use Rattle.rank_tree.specs.Shape.{make, knot, root_of, Context, plug, holder, Hangs, Stands, one}
+use Rattle.rank_tree.specs.Shape.{make, knot, root_of, Context, plug, holder, Hangs, RepresentsTree, one}
 use Rattle.rank_tree.specs.Shape.{count, count_round, IsDistinct}
 use Rattle.rank_tree.specs.Repair.{KeptOff}
 use Rattle.rank_tree.specs.FrameLaws.{one-same, Represents-keep, Hangs-keep, make-count, make-root}
@@ -22,8 +22,8 @@ pub turned_stands : (n n1 n2 n3 n4 : Store) (root new_root : Option ℕ) (c : Co
     → Written n2 n3 x (knot s (holder c) (root_of a) jx (Some y))
     → Relinked n3 n4 root new_root (holder c) y (Some x)
     → IsDistinct (plug c (make s (make s a x kx b) y ky d))
-    → Stands n root (plug c (make s (make s a x kx b) y ky d))
-    → Stands n4 new_root (plug c (make s a x jx (make s b y jy d)))
+    → RepresentsTree n root (plug c (make s (make s a x kx b) y ky d))
+    → RepresentsTree n4 new_root (plug c (make s a x jx (make s b y jy d)))
 turned_stands n n1 n2 n3 n4 root new_root c s a x kx b y ky d jx jy w1 w2 w3 w4 distinct h =
     let e0 = plug-opens n root c (make s (make s a x kx b) y ky d) h in
     let e1 = make-opens s n (holder c) (make s a x kx b) y ky d e0.1 in

@@ -3,8 +3,8 @@
 ghost use Rattle.std.specs.Prelude.{◌≡◌, ℕ, Some, None, IsSome};
 ghost use Rattle.std.specs.Option.{option_map};
 ghost use Rattle.rank_tree.specs.Tree.{node, walk};
-ghost use Rattle.rank_tree.specs.Shape.{plug, Stands};
-ghost use Rattle.rank_tree.specs.Repair.{Replacement, Gap, filled, new_below, Grown, Loose};
+ghost use Rattle.rank_tree.specs.Shape.{plug, RepresentsTree};
+ghost use Rattle.rank_tree.specs.Repair.{Replacement, FreeSide, filled, new_below, Grown, Loose};
 ghost use Rattle.rank_tree.specs.Repair.{Pending, KeptOff};
 
 use crate::knots::{relink, reparent};
@@ -19,15 +19,15 @@ pub(crate) fn attach<N, P: PtrCore, K: Knots<N, P>>(
     side: Side,
     new: P::Inx,
 )
-    requires gap { Gap (K.knots knots.old) (option_map P.Inx.number root) (P.Inx.number holder) side
+    requires gap { FreeSide (K.knots knots.old) (option_map P.Inx.number root) (P.Inx.number holder) side
         (P.Inx.number new) }
     requires slot { K.knots knots.old (P.Inx.number new)
         ≡ Some (new_below (P.Inx.number holder)) }
-    ensures does { (gap : Gap (K.knots knots.old) (option_map P.Inx.number root)
+    ensures does { (gap : FreeSide (K.knots knots.old) (option_map P.Inx.number root)
         (P.Inx.number holder) side (P.Inx.number new))
         → Grown (K.knots knots.new) (option_map P.Inx.number root) (P.Inx.number new)
         (walk (filled gap)) }
-    ensures elsewhere { (gap : Gap (K.knots knots.old) (option_map P.Inx.number root)
+    ensures elsewhere { (gap : FreeSide (K.knots knots.old) (option_map P.Inx.number root)
         (P.Inx.number holder) side (P.Inx.number new))
         → KeptOff (walk (filled gap)) (K.knots knots.old) (K.knots knots.new) }
     ensures slot { K.knots knots.new (P.Inx.number new)
@@ -74,7 +74,7 @@ pub fn replace<N, P: PtrCore, K: Knots<N, P>>(
     requires slot { IsSome (K.knots knots.old (P.Inx.number new)) }
     ensures does { (place : Replacement (K.knots knots.old) (option_map P.Inx.number root.old)
         (P.Inx.number old) (P.Inx.number new))
-        → Stands (K.knots knots.new) (option_map P.Inx.number root.new)
+        → RepresentsTree (K.knots knots.new) (option_map P.Inx.number root.new)
         (plug place.context (node place.left (P.Inx.number new) place.rank place.right)) }
     ensures elsewhere { (place : Replacement (K.knots knots.old) (option_map P.Inx.number root.old)
         (P.Inx.number old) (P.Inx.number new))

@@ -3,7 +3,7 @@ ghost use Rattle.std.specs.Prelude.{◌≡◌, ℕ, ◌+◌, ◌<◌, List, Some
 ghost use Rattle.std.specs.Option.{option_map};
 ghost use Rattle.rank_tree.specs.Tree.{walk, rank_of};
 ghost use Rattle.rank_tree.specs.Named.{named};
-ghost use Rattle.rank_tree.specs.Repair.{Leaning, Grown, Restored, Gap, filled, new_below, KeptOff};
+ghost use Rattle.rank_tree.specs.Repair.{Leaning, Grown, Restored, FreeSide, filled, new_below, KeptOff};
 ghost use Rattle.rank_tree.specs.ClimbLaws.{Climbing, IsLevel};
 
 use crate::edges::attach;
@@ -112,14 +112,14 @@ pub fn bring_in<N, P: PtrCore, K: Knots<N, P>>(
     side: Side,
     new: P::Inx,
 )
-    requires gap { Gap (K.knots knots.old) (option_map P.Inx.number root.old)
+    requires gap { FreeSide (K.knots knots.old) (option_map P.Inx.number root.old)
         (P.Inx.number holder) side (P.Inx.number new) }
     requires slot { K.knots knots.old (P.Inx.number new)
         ≡ Some (new_below (P.Inx.number holder)) }
-    ensures does { (gap : Gap (K.knots knots.old) (option_map P.Inx.number root.old)
+    ensures does { (gap : FreeSide (K.knots knots.old) (option_map P.Inx.number root.old)
         (P.Inx.number holder) side (P.Inx.number new))
         → Restored (K.knots knots.new) (option_map P.Inx.number root.new) (walk (filled gap)) }
-    ensures elsewhere { (gap : Gap (K.knots knots.old) (option_map P.Inx.number root.old)
+    ensures elsewhere { (gap : FreeSide (K.knots knots.old) (option_map P.Inx.number root.old)
         (P.Inx.number holder) side (P.Inx.number new))
         → KeptOff (walk (filled gap)) (K.knots knots.old) (K.knots knots.new) }
     ensures keeps { K.rest knots.new ≡ K.rest knots.old }

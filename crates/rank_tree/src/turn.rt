@@ -2,7 +2,7 @@
 ghost use Rattle.std.specs.Prelude.{◌≡◌, ℕ, Option, ⊤};
 ghost use Rattle.std.specs.Option.{option_map};
 ghost use Rattle.rank_tree.specs.Tree.{walk};
-ghost use Rattle.rank_tree.specs.Shape.{Stands};
+ghost use Rattle.rank_tree.specs.Shape.{RepresentsTree};
 ghost use Rattle.rank_tree.specs.Repair.{Spot, turned, KeptOff};
 
 use crate::knots::{relink, reparent};
@@ -22,7 +22,7 @@ pub(crate) fn turn<N, P: PtrCore, K: Knots<N, P>>(
     requires no_more { ⊤ }
     ensures does { (spot : Spot (K.knots knots.old) (option_map P.Inx.number root.old)
         (P.Inx.number low))
-        → Stands (K.knots knots.new) (option_map P.Inx.number root.new)
+        → RepresentsTree (K.knots knots.new) (option_map P.Inx.number root.new)
         (turned spot low_rank high_rank) }
     ensures elsewhere { (spot : Spot (K.knots knots.old) (option_map P.Inx.number root.old)
         (P.Inx.number low))
@@ -65,7 +65,7 @@ fn turn_on<N, P: PtrCore, K: Knots<N, P>>(
     requires side { (spot : Spot (K.knots knots.old) (option_map P.Inx.number root.old)
         (P.Inx.number low)) → side ≡ spot.side }
     ensures does { (spot : Spot (K.knots knots.old) (option_map P.Inx.number root.old)
-        (P.Inx.number low)) → Stands (K.knots knots.new) (option_map P.Inx.number root.new)
+        (P.Inx.number low)) → RepresentsTree (K.knots knots.new) (option_map P.Inx.number root.new)
         (turned spot low_rank high_rank) }
     ensures elsewhere { (spot : Spot (K.knots knots.old) (option_map P.Inx.number root.old)
         (P.Inx.number low)) → KeptOff (walk (turned spot low_rank high_rank)) (K.knots knots.old)

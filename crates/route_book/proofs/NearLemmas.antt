@@ -8,7 +8,6 @@ use Rattle.std.specs.declared.cmp.Ordering.{Ordering}
 use Rattle.std.specs.declared.cmp.Ordering.TheVariants.{Less, Greater}
 use Rattle.std.proofs.lemmas.Bool.{and_parts, ltb-true, lt-ltb, le-ltb, ne_eqb}
 use Rattle.std.proofs.lemmas.Bool.Decides.{eqb_tells, leb_tells}
-use Rattle.rank_tree.specs.Search.{AllIn}
 use Rattle.triple_arena.specs.Content.{Content}
 use Rattle.triple_arena.specs.Entries.{value_if}
 use Rattle.triple_arena_chain.specs.Chains.{first_or, last_or}
@@ -58,7 +57,7 @@ near_if b i j none is = subst (λ c. (c || is_near i j) ≡ true) none is
 
 module _ (at : ℕ → Option (ℕ × Place)) where
   abbrev Live : List ℕ → Type 0
-  Live w = AllIn (λ j. IsSome (at j)) w
+  Live w = AllByRecursion (λ j. IsSome (at j)) w
 
   live_at : (j : ℕ) → IsSome (at j) → (e : ℕ × Place) × (at j ≡ Some e)
   live_at j some = by (at j) refl some
@@ -144,7 +143,7 @@ module _ (at : ℕ → Option (ℕ × Place)) where
       pub low : List ℕ
       pub high : List ℕ
       pub is : w ≡ low ++ high
-      pub greater : AllIn (λ j. ask j ≡ Greater) low
+      pub greater : AllByRecursion (λ j. ask j ≡ Greater) low
       pub up_to : places_before (λ p. nat_lt key p.key) (along at w) ≡ length low
       pub behind : (high ≡ []) ⊎ IsFrom high
 
@@ -183,7 +182,7 @@ module _ (at : ℕ → Option (ℕ × Place)) where
         ]
 
     less_above : (w : List ℕ) → Live w → AllByRecursion (λ (p : Place). key < p.key) (along at w)
-        → AllIn (λ j. ask j ≡ Less) w
+        → AllByRecursion (λ j. ask j ≡ Less) w
     less_above [] all above = tt
     less_above (j ∷ w) all above =
         let e = live_at j all.0 in
@@ -262,7 +261,7 @@ module _ (at : ℕ → Option (ℕ × Place)) where
           length_with [] j rest = omega arith
           length_with (x ∷ low) j rest = let more = length_with low j rest in omega (arith, more)
 
-      gap : AllIn (λ j. ask j ≡ Less) part.high
+      gap : AllByRecursion (λ j. ask j ≡ Less) part.high
           → ((j : ℕ) → first_or part.high None ≡ Some j → IsNear 7 w i j) → IsAtHand 7 ask w i
       gap less first = inr (record {
         low = part.low;
@@ -276,7 +275,7 @@ module _ (at : ℕ → Option (ℕ × Place)) where
 
       none_above : part.high ≡ [] → IsAtHand 7 ask w i
       none_above none =
-          gap (subst (AllIn (λ j. ask j ≡ Less)) (sym none) tt)
+          gap (subst (AllByRecursion (λ j. ask j ≡ Less)) (sym none) tt)
           (λ j is. absurd (let no : ◌≡◌ {A = Option ℕ} None (Some j) =
           sym (ap (λ l. first_or l None) none) ∙ is in cc))
 

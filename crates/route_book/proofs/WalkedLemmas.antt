@@ -52,18 +52,18 @@ module _ (rooms : Rooms) (last : ℕ) (s : State)
       one (Some e) some rest = rw some (ap (λ l. stop_seen (entry_in places) e.1.t ∷ l) rest)
 
   -- a stop at an index is one of the arena's
-  record Stands (i : ℕ) (x : Stop) : Type 0 where
+  record IsStopAt (i : ℕ) (x : Stop) : Type 0 where
     generation : ℕ
     view : StopView
     here : values_in stops i ≡ Some (generation, view)
     is : state_stop (found_in places stops marks) view ≡ x
 
-  stands : (i : ℕ) (x : Stop) → at_index i ≡ Some x → Stands i x
+  stands : (i : ℕ) (x : Stop) → at_index i ≡ Some x → IsStopAt i x
   stands i x is = by (values_in stops i) refl is
     where
       by : (o : Option (ℕ × StopView)) → values_in stops i ≡ o
           → option_map (λ (e : ℕ × StopView). state_stop (found_in places stops marks) e.1) o
-          ≡ Some x → Stands i x
+          ≡ Some x → IsStopAt i x
       by None none e = absurd (let never : ◌≡◌ {A = Option Stop} None (Some x) = e in cc)
       by (Some y) some e = record { generation = y.0; view = y.1; here = some; is = some_same e }
 

@@ -4,7 +4,7 @@ ghost use Rattle.std.specs.Prelude.{OnErr, map};
 ghost use Rattle.std.specs.Io.KnownBytes.{Consumes, IsAtEnd};
 ghost use Rattle.route_lines.specs.Run.{Carries, OnRead, OnWrite, OnTooLong, StopsWithin};
 ghost use Rattle.route_lines.specs.Text.{lines, unended_line, whole, whole_lines};
-ghost use Rattle.route_lines.specs.Unfinished.{HasNoLineEnd, StandsFor, StopsAtEnd, Stops, Takes};
+ghost use Rattle.route_lines.specs.Unfinished.{HasNoLineEnd, StandsFor, StopsAtEnd, BreaksOffIn, Takes};
 ghost use Rattle.route_lines.specs.Watched.{inner_of, failed_of, calls_of};
 
 use crate::backing::BookBacking;
@@ -118,7 +118,7 @@ fn take<P: PtrCore, B: BookBacking<P>, W: Write>(
         (W.contents (inner_of writer.new)) counts.old counts.new) }
     ensures ok_failed { OnOk result (failed_of writer.new ≡ failed_of writer.old) }
     ensures err { OnErr result ((line : List ℕ) → HasNoLineEnd line → StandsFor unfinished.old line
-        → Stops (line ++ piece.now) book.old.state book.new.state (W.contents (inner_of writer.old))
+        → BreaksOffIn (line ++ piece.now) book.old.state book.new.state (W.contents (inner_of writer.old))
         (W.contents (inner_of writer.new)) counts.old counts.new) }
     ensures err_failed { OnErr result (failed_of writer.new ≡ failed_of writer.old + 1) }
 {

@@ -8,11 +8,10 @@ use Rattle.std.specs.Cmp.{ranked, nat_cmp_is}
 use Rattle.std.specs.Ordering.{nat_cmp, is_lt}
 use Rattle.std.specs.declared.cmp.Ordering.TheVariants.{Equal, Greater}
 use Rattle.std.proofs.lemmas.Bool.{eq-eqb, ne_eqb}
-use Rattle.rank_tree.specs.Search.{AllIn}
 use Rattle.rank_tree.specs.declared.side.Side.TheVariants.{Right}
 use Rattle.triple_arena.specs.Content.{entry_at}
 use Rattle.triple_arena.specs.Entries.{with_entry}
-use Rattle.triple_arena_chain.specs.Chains.{Ends, Stands, On, first_or, last_or, next_in}
+use Rattle.triple_arena_chain.specs.Chains.{Ends, IsSegment, On, first_or, last_or, next_in}
 use Rattle.triple_arena_chain.specs.Links.{ends_in}
 use Rattle.triple_arena_chain.specs.LinkShape.{IndexLink}
 use Rattle.triple_arena_ord.specs.NodeShape.{IndexNode}
@@ -109,7 +108,7 @@ none_along at t other (i ∷ w) = by (at i) refl (other i) (none_along at t othe
 
 -- an entry more leaves those along a list of live indexes
 along_with : (at at' : ℕ → Option (ℕ × Entry)) (i : ℕ) (x : ℕ × Entry) → at i ≡ None
-    → ((k : ℕ) → at' k ≡ with_entry at i x k) → (w : List ℕ) → AllIn (λ j. IsSome (at j)) w
+    → ((k : ℕ) → at' k ≡ with_entry at i x k) → (w : List ℕ) → AllByRecursion (λ j. IsSome (at j)) w
     → along at' w ≡ along at w
 along_with at at' i x vacant entries [] all = refl
 along_with at at' i x vacant entries (j ∷ w) all =
@@ -128,12 +127,12 @@ along_with at at' i x vacant entries (j ∷ w) all =
 
 module _ (ends : ℕ → Option Ends) where
   stands_at : (b : Option ℕ) (xs : List ℕ) (h : ℕ) (after : List ℕ)
-      → Stands ends b (xs ++ h ∷ after) None
+      → IsSegment ends b (xs ++ h ∷ after) None
       → (prev : Option ℕ) × (ends h ≡ Some (prev, first_or after None))
   stands_at b [] h after stands = (b, stands.0)
   stands_at b (x ∷ xs) h after stands = stands_at (Some x) xs h after stands.1
 
-  last_stands : (b : Option ℕ) (x : ℕ) (xs : List ℕ) (h : ℕ) → Stands ends b (x ∷ xs) None
+  last_stands : (b : Option ℕ) (x : ℕ) (xs : List ℕ) (h : ℕ) → IsSegment ends b (x ∷ xs) None
       → last_or (Some x) xs ≡ Some h → (prev : Option ℕ) × (ends h ≡ Some (prev, None))
   last_stands b x [] h stands is =
       (b, subst (λ k. ends k ≡ Some (b, None)) (some_same x h is) stands.0)
@@ -144,14 +143,14 @@ module _ (ends : ℕ → Option Ends) where
   no_first (a ∷ after) none = absurd (let no : Some a ≡ None = none in cc)
 
   -- nothing follows the last of a list
-  none_behind : (xs : List ℕ) (h : ℕ) (after : List ℕ) → Stands ends None (xs ++ h ∷ after) None
+  none_behind : (xs : List ℕ) (h : ℕ) (after : List ℕ) → IsSegment ends None (xs ++ h ∷ after) None
       → last_or None (xs ++ h ∷ after) ≡ Some h → after ≡ []
   none_behind xs h after stands last =
       let one = stands_at None xs h after stands in
       let other = ended xs stands last in
       no_first after (ap next_in (sym one.1 ∙ other.1))
     where
-      ended : (xs : List ℕ) → Stands ends None (xs ++ h ∷ after) None
+      ended : (xs : List ℕ) → IsSegment ends None (xs ++ h ∷ after) None
           → last_or None (xs ++ h ∷ after) ≡ Some h
           → (prev : Option ℕ) × (ends h ≡ Some (prev, None))
       ended [] stands last = last_stands None h after h stands last
@@ -164,7 +163,7 @@ AllStand = (o : Ordered Entry) (i : ℕ) → IsOrdered o
 
 -- each index of the list is live
 live_along : (o : Ordered Entry) (b : Option ℕ) (w : List ℕ)
-    → Stands (ends_in o.chains) b w None → AllIn (λ j. IsSome (entry_in o j)) w
+    → IsSegment (ends_in o.chains) b w None → AllByRecursion (λ j. IsSome (entry_in o j)) w
 live_along o b [] stands = tt
 live_along o b (j ∷ w) stands =
     (live (entry_at o.chains j) refl stands.0, live_along o (Some j) w stands.1)
@@ -253,7 +252,7 @@ module _ (old new : Ordered Entry) (i g : ℕ) (e : Entry) (ordered : IsOrdered 
       behind beside =
           let none : beside.after ≡ [] =
           none_behind (ends_in old.chains) beside.before h beside.after
-          (subst (λ w. Stands (ends_in old.chains) None w None) beside.was ordered.linear)
+          (subst (λ w. IsSegment (ends_in old.chains) None w None) beside.was ordered.linear)
           (ap (last_or None) (sym beside.was) ∙ last) in
           beside.is ∙ ap (λ after. beside.before ++ h ∷ i ∷ after) none
           ∙ sym (append_assoc beside.before (h ∷ []) (i ∷ []))

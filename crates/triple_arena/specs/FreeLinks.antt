@@ -12,10 +12,10 @@ first_or [] after = after
 first_or (x ∷ xs) after = Some x
 
 -- these indexes stand one after another, the first behind `before` and the last in front of `after`
-abbrev pub Stands : (ℕ → Option Ends) → Option ℕ → List ℕ → Option ℕ → Type 0
-Stands ends before [] after = Unit {0}
-Stands ends before (x ∷ xs) after = (ends x ≡ Some (before, first_or xs after))
-    × Stands ends (Some x) xs after
+abbrev pub IsSegment : (ℕ → Option Ends) → Option ℕ → List ℕ → Option ℕ → Type 0
+IsSegment ends before [] after = Unit {0}
+IsSegment ends before (x ∷ xs) after = (ends x ≡ Some (before, first_or xs after))
+    × IsSegment ends (Some x) xs after
 
 -- the neighbors of an index on a list, if it is there; the first of the list stands behind `before`
 abbrev pub neighbors_behind : Option ℕ → List ℕ → ℕ → Option Ends

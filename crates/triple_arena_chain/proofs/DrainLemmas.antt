@@ -12,8 +12,8 @@ use Rattle.triple_arena.specs.Content.{Content, entry_at, get, removed}
 use Rattle.triple_arena.specs.RemovalLaws.{free-removed, slots-removed}
 use Rattle.triple_arena_chain.specs.LinkShape.{IndexLink}
 use Rattle.triple_arena_chain.specs.Chains.{Ends, taken_out, first_or, last_or, On}
-use Rattle.triple_arena_chain.specs.ChainLaws.{Stands-back}
-use Rattle.triple_arena_chain.specs.ListLaws.{Stands-where, chain_where, live_in, off_or_not}
+use Rattle.triple_arena_chain.specs.ChainLaws.{segment-back}
+use Rattle.triple_arena_chain.specs.ListLaws.{segment-where, chain_where, live_in, off_or_not}
 use Rattle.triple_arena_chain.specs.Lists.{members}
 use Rattle.triple_arena_chain.specs.Links.{values_in, link_ends, entry_ends, ends_in, IsChained}
 use Rattle.triple_arena_chain.specs.Links.{IsTakenOut}
@@ -36,11 +36,11 @@ module _ (e f : ℕ → Option Ends) (same : (k : ℕ) → f k ≡ e k) where
   IsWalk-same : (at : Option ℕ) (walk : List ℕ) → IsWalk e at walk → IsWalk f at walk
   IsWalk-same None walk is = is
   IsWalk-same (Some i) walk (along before after s is) =
-      along before after (Stands-where e f None None (before ++ i ∷ after) (λ k on. same k) s) is
+      along before after (segment-where e f None None (before ++ i ∷ after) (λ k on. same k) s) is
   IsWalk-same (Some i) walk (around after r is) =
       around after (record {
         stands =
-            Stands-where e f (last_or None (i ∷ after)) (first_or (i ∷ after) None) (i ∷ after)
+            segment-where e f (last_or None (i ∷ after)) (first_or (i ∷ after) None) (i ∷ after)
             (λ k on. same k) r.stands;
         apart = r.apart;
       }) is
@@ -243,7 +243,7 @@ module _ {T : Type 0} (last : Option ℕ) where
 
       by : IsWalkFrom (ends_in c) i walk → IsSome (ends_in c i)
       by (along before after s is) =
-          ap is_some (Stands-back (ends_in c) None None before (i ∷ after) s).0
+          ap is_some (segment-back (ends_in c) None None before (i ∷ after) s).0
       by (around after r is) = ap is_some r.stands.0
 
   -- an index that is not live begins none

@@ -9,7 +9,7 @@ use Rattle.std.proofs.lemmas.Bool.{eq-eqb, ne_eqb}
 use Rattle.std.proofs.lemmas.Bool.Decides.{eqb_tells}
 use Rattle.std.specs.Cmp.{IsTotalOrder}
 use Rattle.std.specs.Ordering.{is_lt, ordering_reverse}
-use Rattle.std.specs.List.{cons_option}
+use Rattle.std.specs.List.{cons_option, AllByRecursion}
 use Rattle.std.specs.List.Sorted.{IsSorted}
 use Rattle.std.specs.declared.cmp.Ordering.{Ordering}
 use Rattle.std.specs.declared.cmp.Ordering.TheVariants.{Less, Equal, Greater}
@@ -21,7 +21,6 @@ use Rattle.triple_arena_chain.specs.Chains.{Off, Apart}
 use Rattle.triple_arena_chain.specs.ChainLaws.{Apart-taken, Off-front, Off-back}
 use Rattle.triple_arena_chain.specs.Links.{ends_in}
 use Rattle.triple_arena_chain.specs.UniquenessLaws.{linear_apart}
-use Rattle.rank_tree.specs.Search.{AllIn}
 use Rattle.triple_arena_ord.specs.Ordered.{Ordered, IsOrdered, IsAscending, order_in, entry_in}
 use Rattle.triple_arena_ord.specs.Ordered.{asked_of}
 use Rattle.triple_arena_ord.specs.Inserted.{StandsAt, IsReplaced, IsAdded, IsInsertedAt}
@@ -133,8 +132,8 @@ pub record IsBetween {K T : Type 0} (R : K → K → Ordering) (key : T → K) (
   pub after : List ℕ
   pub was : old ≡ before ++ after
   pub is : new ≡ before ++ i ∷ after
-  pub low : AllIn (λ j. asked_of R key k (entry j) ≢ Less) before
-  pub high : AllIn (λ j. asked_of R key k (entry j) ≢ Greater) after
+  pub low : AllByRecursion (λ j. asked_of R key k (entry j) ≢ Less) before
+  pub high : AllByRecursion (λ j. asked_of R key k (entry j) ≢ Greater) after
 
 module _ {K T : Type 0} (R : K → K → Ordering) (key : T → K) (total : IsTotalOrder R) where
   abbrev below : ℕ × (ℕ × T) → ℕ × (ℕ × T) → Ordering
@@ -165,7 +164,7 @@ module _ {K T : Type 0} (R : K → K → Ordering) (key : T → K) (total : IsTo
   -- what is asked of each index holds of each that is listed
   listed-all : (entry : ℕ → Option (ℕ × T)) (k : K) (A : Ordering → Type 0)
       (Q : ℕ × (ℕ × T) → Type 0) → ((z : ℕ × (ℕ × T)) → A (R k (key z.1.1)) → Q z)
-      → (xs : List ℕ) → AllIn (λ j. A (asked_of R key k (entry j))) xs
+      → (xs : List ℕ) → AllByRecursion (λ j. A (asked_of R key k (entry j))) xs
       → AllOf below Q (listed_of entry xs)
   listed-all entry k A Q f [] all = tt
   listed-all entry k A Q f (x ∷ xs) all = by (entry x) refl (listed-all entry k A Q f xs all.1)
@@ -197,8 +196,8 @@ module _ {K T : Type 0} (R : K → K → Ordering) (key : T → K) (total : IsTo
   added : (entry new : ℕ → Option (ℕ × T)) (n g : ℕ) (t : T) (xs ys : List ℕ)
       → ((k : ℕ) → new k ≡ with_entry entry n (g, t) k) → Apart (xs ++ n ∷ ys)
       → IsSorted below (listed_of entry (xs ++ ys))
-      → AllIn (λ j. asked_of R key (key t) (entry j) ≢ Less) xs
-      → AllIn (λ j. asked_of R key (key t) (entry j) ≢ Greater) ys
+      → AllByRecursion (λ j. asked_of R key (key t) (entry j) ≢ Less) xs
+      → AllByRecursion (λ j. asked_of R key (key t) (entry j) ≢ Greater) ys
       → IsSorted below (listed_of new (xs ++ n ∷ ys))
   added entry new n g t xs ys is apart s low high =
       let off = (Apart-taken xs ys n apart).1 in

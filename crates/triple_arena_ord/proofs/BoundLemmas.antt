@@ -12,8 +12,8 @@ use Rattle.triple_arena_chain.specs.ListLaws.{On-back, On-first}
 use Rattle.triple_arena_chain.specs.Links.{ends_in}
 use Rattle.rank_tree.specs.Tree.{Tree, leaf, node, walk}
 use Rattle.rank_tree.specs.Shape.{root_of}
-use Rattle.rank_tree.specs.Search.{AllIn, Before, IsParted, IsAnswer}
-use Rattle.rank_tree.specs.DescentLaws.{AllIn-append, AllIn-map, parted-after, parted-before}
+use Rattle.rank_tree.specs.Search.{Before, IsParted, IsAnswer}
+use Rattle.rank_tree.specs.DescentLaws.{all-append, all-map, parted-after, parted-before}
 use Rattle.triple_arena_ord.specs.Bounds.{IsBound, compares_past, first_entry, way_past}
 use Rattle.triple_arena_ord.specs.Ordered.{Ordered, IsOrdered, IsAscending, asked_at, entries_at}
 use Rattle.triple_arena_ord.specs.Ordered.{entry_in, order_in, tree_in}
@@ -44,14 +44,14 @@ never_equal true Equal u = cc
 never_equal false Equal u = cc
 never_equal past Greater u = cc
 
-both_in : (L B C : ℕ → Type 0) → ((y : ℕ) → L y → B y → C y) → (w : List ℕ) → AllIn L w
-    → AllIn B w → AllIn C w
+both_in : (L B C : ℕ → Type 0) → ((y : ℕ) → L y → B y → C y) → (w : List ℕ) → AllByRecursion L w
+    → AllByRecursion B w → AllByRecursion C w
 both_in L B C f [] l b = tt
 both_in L B C f (y ∷ w) l b = (f y l.0 b.0, both_in L B C f w l.1 b.1)
 
 parted_map : (f g : ℕ → Ordering) (L : ℕ → Type 0)
     → ((x y : ℕ) → L x → L y → Before (f x) (f y) → Before (g x) (g y))
-    → (w : List ℕ) → AllIn L w → IsParted f w → IsParted g w
+    → (w : List ℕ) → AllByRecursion L w → IsParted f w → IsParted g w
 parted_map f g L turn [] l p = tt
 parted_map f g L turn (x ∷ w) l p = (
   both_in L (λ y. Before (f x) (f y)) (λ y. Before (g x) (g y)) (λ y ly b. turn x y l.0 ly b) w l.1
@@ -112,7 +112,7 @@ module _ {K T : Type 0} (cmp : K → K → Ordering) (key : T → K) (k : K)
       (λ j h. counted_entry o is j h))
       (parts_at cmp key k total o is ascending)
 
-  to_low : (w : List ℕ) → AllIn (λ y. way y ≡ Greater) w
+  to_low : (w : List ℕ) → AllByRecursion (λ y. way y ≡ Greater) w
       → AllByRecursion (λ e. ComesBefore e.1.1) (entries_at o w)
   to_low [] all = tt
   to_low (x ∷ w) all = by (entry_in o x) refl (to_low w all.1)
@@ -125,7 +125,7 @@ module _ {K T : Type 0} (cmp : K → K → Ordering) (key : T → K) (k : K)
           let here : ComesBefore e.1 = sym (rw at refl) ∙ all.0 in
           rw at (here, rest)
 
-  to_high : (w : List ℕ) → AllIn (λ y. way y ≡ Less) w
+  to_high : (w : List ℕ) → AllByRecursion (λ y. way y ≡ Less) w
       → AllByRecursion (λ e. ComesBefore e.1.1 → ⊥) (entries_at o w)
   to_high [] all = tt
   to_high (x ∷ w) all = by (entry_in o x) refl (to_high w all.1)
@@ -167,7 +167,7 @@ module _ {K T : Type 0} (cmp : K → K → Ordering) (key : T → K) (k : K)
             ∙ sym (rw at refl)
 
     bound_cut : (result : Option P) (low high : List ℕ) → order_in o ≡ low ++ high
-        → AllIn (λ y. way y ≡ Greater) low → AllIn (λ y. way y ≡ Less) high
+        → AllByRecursion (λ y. way y ≡ Greater) low → AllByRecursion (λ y. way y ≡ Less) high
         → pointed result ≡ first_entry (entries_at o high) → Bound result
     bound_cut result low high cut below above first = record {
       low = entries_at o low;
@@ -193,7 +193,7 @@ module _ {K T : Type 0} (cmp : K → K → Ordering) (key : T → K) (k : K)
         let here : way i ≡ Less = answer.asked i Less refl in
         bound_cut (Some p) places.before (i ∷ places.after) places.is (places.less refl) (
           here,
-          AllIn-map (λ y. Before (way i) (way y)) (λ y. way y ≡ Less) (λ y b. b.less here)
+          all-map (λ y. Before (way i) (way y)) (λ y. way y ≡ Less) (λ y b. b.less here)
               places.after (parted-after way places.before i places.after
               (subst (IsParted way) places.is parts)),
         )
@@ -213,8 +213,8 @@ module _ {K T : Type 0} (cmp : K → K → Ordering) (key : T → K) (k : K)
         (subst (IsLinear (ends_in o.chains)) places.is is.linear) in
         bound_cut result (places.before ++ i ∷ []) places.after
         (places.is ∙ sym (append_assoc places.before (i ∷ []) places.after))
-        (AllIn-append (λ y. way y ≡ Greater) places.before (i ∷ [])
-        (AllIn-map (λ y. Before (way y) (way i)) (λ y. way y ≡ Greater) (λ y b. b.greater here)
+        (all-append (λ y. way y ≡ Greater) places.before (i ∷ [])
+        (all-map (λ y. Before (way y) (way i)) (λ y. way y ≡ Greater) (λ y b. b.greater here)
         places.before (parted-before way places.before i places.after
         (subst (IsParted way) places.is parts)))
         (here, tt))

@@ -10,7 +10,7 @@ use Rattle.triple_arena_chain.specs.Chains.{IsLinear}
 use Rattle.triple_arena_chain.specs.Links.{ends_in, values_in, valued, IsLinkInserted}
 use Rattle.rank_tree.specs.declared.side.Side.TheVariants.{Left}
 use Rattle.rank_tree.specs.Tree.{Tree, leaf, node, walk, IsRanked}
-use Rattle.rank_tree.specs.Shape.{knot, Stands, IsDistinct, one, count}
+use Rattle.rank_tree.specs.Shape.{knot, RepresentsTree, IsDistinct, one, count}
 use Rattle.rank_tree.specs.Whole.{tree_of}
 use Rattle.rank_tree.specs.FrameLaws.{one-same, one-other, IsDistinct-walk}
 use Rattle.rank_tree.specs.UniqueLaws.{tree_is}
@@ -51,7 +51,7 @@ module _ {T : Type 0} (o : Ordered T)
   gone : tree_in o ≡ leaf
   gone = ap (tree_of (knots_in o.chains)) bare
 
-  stands : Stands (knots_in c1) (Some n) grown
+  stands : RepresentsTree (knots_in c1) (Some n) grown
   stands = (ap Some same, (here, tt, tt))
 
   ranked : IsRanked grown
@@ -99,7 +99,7 @@ module _ {T : Type 0} (o : Ordered T)
       let live = put.live in
       record {
         whole = record {
-          stands = subst (Stands (knots_in c1) (Some n)) (sym tree) stands;
+          stands = subst (RepresentsTree (knots_in c1) (Some n)) (sym tree) stands;
           distinct = IsDistinct-walk grown (tree_in made) (sym (ap walk tree))
               (record { once = once });
           ranked = subst IsRanked (sym tree) ranked;

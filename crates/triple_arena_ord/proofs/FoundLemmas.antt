@@ -9,7 +9,7 @@ use Rattle.std.specs.declared.cmp.Ordering.TheVariants.{Less, Equal, Greater}
 use Rattle.triple_arena.specs.Entries.{generation_at}
 use Rattle.rank_tree.specs.Tree.{Tree, leaf, node, walk, size}
 use Rattle.rank_tree.specs.Shape.{root_of, count}
-use Rattle.rank_tree.specs.Search.{IsParted, Places, IsAnswer}
+use Rattle.rank_tree.specs.Search.{IsParted, EndsAt, IsAnswer}
 use Rattle.triple_arena_ord.specs.Near.{IsStop}
 use Rattle.triple_arena_ord.specs.Asked.{Question, IsAsked, AnswersBy, answer_of, answer_at}
 use Rattle.triple_arena_ord.specs.Asked.{found_by}
@@ -29,7 +29,7 @@ stop_answers f t i d s = record {
   lives = λ j e u. let z = pair u in subst (λ x. 0 < count x t) z.0 (walk-counted t i s.on);
   asked = λ j e u. let z = pair u in sym (ap f z.0) ∙ s.way ∙ z.1;
   parted = λ j e u p. let z = pair u in
-      subst (λ x. Places f (walk t) x e) z.0 (subst (λ x. Places f (walk t) i x) z.1 (s.places p));
+      subst (λ x. EndsAt f (walk t) x e) z.0 (subst (λ x. EndsAt f (walk t) i x) z.1 (s.places p));
 }
   where
     pair : {j : ℕ} {e : Ordering} → ◌≡◌ {A = Option (ℕ × Ordering)} (Some (i, d)) (Some (j, e))

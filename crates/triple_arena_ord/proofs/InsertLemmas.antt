@@ -1,4 +1,5 @@
 -- An item is replaced, and one is put in where its key belongs.
+use Rattle.std.specs.List.{AllByRecursion}
 use Rattle.std.proofs.Common.{◌≡◌, ℕ, List, [], ◌∷◌, ◌++◌, append_assoc, Option}
 use Rattle.std.proofs.Common.{Some, None, Result, refl, sym, ap, ◌∙◌, subst}
 use Rattle.std.proofs.Common.{inl, inr}
@@ -19,13 +20,13 @@ use Rattle.triple_arena_chain.specs.UniquenessLaws.{linear_apart}
 use Rattle.triple_arena_ord.specs.NodeShape.{IndexNode}
 use Rattle.rank_tree.specs.Knot.{Knot}
 use Rattle.triple_arena_ord.specs.Node.{knots_in, knot_of, itemed}
-use Rattle.rank_tree.specs.Search.{AllIn, Before, IsParted, IsAnswer}
+use Rattle.rank_tree.specs.Search.{Before, IsParted, IsAnswer}
 use Rattle.triple_arena_ord.specs.Ordered.{Ordered, IsOrdered, tree_in, order_in, asked_of}
 use Rattle.triple_arena_ord.specs.Ordered.{asked_at}
 use Rattle.triple_arena_ord.specs.Placing.{IsPlaceByKey}
 use Rattle.triple_arena_ord.specs.Inserted.{Replaces, StandsAt, IsRenewed, IsReplaced, IsInsertedAt}
 use Rattle.triple_arena_ord.specs.Inserted.{IsPlacedByKey, IsKeyInserted}
-use Rattle.rank_tree.specs.DescentLaws.{AllIn-append, AllIn-map, parted-after, parted-before}
+use Rattle.rank_tree.specs.DescentLaws.{all-append, all-map, parted-after, parted-before}
 use Rattle.triple_arena_ord.proofs.PlacingLemmas.{placed_by_key}
 use Rattle.triple_arena_ord.proofs.SeekLemmas.{parts_at, absent}
 use Rattle.triple_arena_ord.proofs.SameListLemmas.{Reordered, same_list}
@@ -141,12 +142,12 @@ module _ {T : Type 0} where
                   let places = found.places ascending h Less at in
                   let split = split_same s.before h s.after places.before places.after
                   (subst Apart s.was apart) (sym s.was ∙ places.is) in
-                  subst (AllIn (λ j. f j ≡ Greater)) (sym split.0) (places.less refl);
+                  subst (AllByRecursion (λ j. f j ≡ Greater)) (sym split.0) (places.less refl);
               less = λ ascending.
                   let parted = subst (IsParted f) s.was
                   (parts_at cmp key k total o is ascending) in (
                     here,
-                    AllIn-map (λ y. Before (f h) (f y)) (λ y. f y ≡ Less) (λ y z. z.less here)
+                    all-map (λ y. Before (f h) (f y)) (λ y. f y ≡ Less) (λ y z. z.less here)
                         s.after (parted-after f s.before h s.after parted),
                   );
             }
@@ -163,15 +164,15 @@ module _ {T : Type 0} where
               greater = λ ascending.
                   let parted = subst (IsParted f) s.was
                   (parts_at cmp key k total o is ascending) in
-                  AllIn-append (λ y. f y ≡ Greater) s.before (h ∷ [])
-                  (AllIn-map (λ y. Before (f y) (f h)) (λ y. f y ≡ Greater) (λ y z. z.greater here)
+                  all-append (λ y. f y ≡ Greater) s.before (h ∷ [])
+                  (all-map (λ y. Before (f y) (f h)) (λ y. f y ≡ Greater) (λ y z. z.greater here)
                   s.before
                   (parted-before f s.before h s.after parted)) (here, tt);
               less = λ ascending.
                   let places = found.places ascending h Greater at in
                   let split = split_same s.before h s.after places.before places.after
                   (subst Apart s.was apart) (sym s.was ∙ places.is) in
-                  subst (AllIn (λ j. f j ≡ Less)) (sym split.1) (places.greater refl);
+                  subst (AllByRecursion (λ j. f j ≡ Less)) (sym split.1) (places.greater refl);
             }
 
     module _ {P : Type 0} (index generation : P → ℕ) (allows : Option OrdInsertionError → Type 0)

@@ -1,14 +1,15 @@
 -- What laws say of the list.
+use Rattle.std.specs.List.{AllByRecursion}
 use Rattle.std.proofs.Common.{◌≡◌, ◌≢◌, ℕ, List, ◌∷◌, ◌++◌, Some, IsSome, sym, ap, ◌∙◌, subst}
 use Rattle.std.specs.Cmp.{IsTotalOrder}
 use Rattle.std.specs.Ordering.{ordering_reverse}
 use Rattle.std.specs.declared.cmp.Ordering.{Ordering}
 use Rattle.std.specs.declared.cmp.Ordering.TheVariants.{Less, Equal, Greater}
 use Rattle.triple_arena_chain.specs.Chains.{On}
-use Rattle.rank_tree.specs.Search.{AllIn, Before, IsParted}
+use Rattle.rank_tree.specs.Search.{Before, IsParted}
 use Rattle.triple_arena_ord.specs.Ordered.{Ordered, IsOrdered, IsAscending, tree_in, order_in}
 use Rattle.triple_arena_ord.specs.Ordered.{entry_in, asked_of, asked_at}
-use Rattle.rank_tree.specs.DescentLaws.{before, after, AllIn-map, parted-after, parted-before}
+use Rattle.rank_tree.specs.DescentLaws.{before, after, all-map, parted-after, parted-before}
 use Rattle.rank_tree.specs.DescentLaws.{plug-walk_is}
 use Rattle.triple_arena_ord.proofs.LeafLemmas.{Located, located}
 use Rattle.triple_arena_ord.proofs.LiveLemmas.{entry_counted}
@@ -60,11 +61,11 @@ module _ {T : Type 0} where
     pub not_greater_before : (o : Ordered T) → IsOrdered o → IsAscending cmp key o
         → (front back : List ℕ) (i : ℕ) (entry : ℕ × T)
         → order_in o ≡ front ++ i ∷ back → entry_in o i ≡ Some entry
-        → AllIn (λ j. asked_at cmp key (key entry.1) o j ≢ Less) front
+        → AllByRecursion (λ j. asked_at cmp key (key entry.1) o j ≢ Less) front
     not_greater_before o ordered ascending front back i entry is at =
         let f = asked_at cmp key (key entry.1) o in
         let here : f i ≡ Equal = asked_here o i entry at in
-        AllIn-map (λ j. Before (f j) (f i)) (λ j. f j ≢ Less)
+        all-map (λ j. Before (f j) (f i)) (λ j. f j ≢ Less)
         (λ j b less. let e : f i ≡ Less = b.less less in let no : Equal ≡ Less = sym here
         ∙ e in absurd (cc))
         front (parted-before f front i back (parted o ordered ascending front back i entry is))
@@ -72,11 +73,11 @@ module _ {T : Type 0} where
     pub not_less_after : (o : Ordered T) → IsOrdered o → IsAscending cmp key o
         → (front back : List ℕ) (i : ℕ) (entry : ℕ × T)
         → order_in o ≡ front ++ i ∷ back → entry_in o i ≡ Some entry
-        → AllIn (λ j. asked_at cmp key (key entry.1) o j ≢ Greater) back
+        → AllByRecursion (λ j. asked_at cmp key (key entry.1) o j ≢ Greater) back
     not_less_after o ordered ascending front back i entry is at =
         let f = asked_at cmp key (key entry.1) o in
         let here : f i ≡ Equal = asked_here o i entry at in
-        AllIn-map (λ j. Before (f i) (f j)) (λ j. f j ≢ Greater)
+        all-map (λ j. Before (f i) (f j)) (λ j. f j ≢ Greater)
         (λ j b greater. let e : f i ≡ Greater = b.greater greater in let no : Equal ≡ Greater =
         sym here ∙ e in absurd (cc))
         back (parted-after f front i back (parted o ordered ascending front back i entry is))

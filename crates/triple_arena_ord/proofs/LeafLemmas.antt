@@ -18,9 +18,9 @@ use Rattle.rank_tree.specs.Knot.{Knot}
 use Rattle.rank_tree.specs.Store.{child_of}
 use Rattle.triple_arena_ord.specs.Node.{knots_in, knot_of, itemed, rest, prev_for, next_for}
 use Rattle.rank_tree.specs.Tree.{Tree, leaf, node, walk, IsRanked}
-use Rattle.rank_tree.specs.Shape.{make, knot, root_of, Context, top, under, plug, holder, Stands}
+use Rattle.rank_tree.specs.Shape.{make, knot, root_of, Context, top, under, plug, holder, RepresentsTree}
 use Rattle.rank_tree.specs.Shape.{IsDistinct, one, count}
-use Rattle.rank_tree.specs.Repair.{Gap, new_below, filled, Restored}
+use Rattle.rank_tree.specs.Repair.{FreeSide, new_below, filled, Restored}
 use Rattle.triple_arena_ord.specs.Inserted.{IsAdded}
 use Rattle.triple_arena_ord.specs.Ordered.{Ordered, IsOrdered, StandsBeside, tree_in, order_in}
 use Rattle.rank_tree.specs.FrameLaws.{one-same, one-other, Represents-keep, make-count, plug-count}
@@ -94,7 +94,7 @@ module _ {T : Type 0} where
       at_h =
           (plug-opens (knots_in o.chains) o.root found.context
           (node found.left h found.rank found.right)
-          (subst (Stands (knots_in o.chains) o.root) found.is is.whole.stands)).1.0
+          (subst (RepresentsTree (knots_in o.chains) o.root) found.is is.whole.stands)).1.0
 
       -- the link names its neighbors in the list
       neighbors : (xs ys : List ℕ) → order_in o ≡ xs ++ h ∷ ys
@@ -255,10 +255,10 @@ module _ {T : Type 0} where
       | inr h ↦ omega arith
     ]
 
-    pub leaf_gap : Gap (knots_in c1) o.root h side n
+    pub leaf_gap : FreeSide (knots_in c1) o.root h side n
     leaf_gap =
         let cut = new.cut in
-        let stands : Stands (knots_in c1) o.root (tree_in o) = (
+        let stands : RepresentsTree (knots_in c1) o.root (tree_in o) = (
           new.is.whole.stands.0,
           Represents-keep (knots_in o.chains) (knots_in c1) None (tree_in o)
               (λ j c. other j (lives_not j c))
@@ -270,7 +270,7 @@ module _ {T : Type 0} where
           rank = cut.rank;
           far = cut.far;
           distinct = subst IsDistinct cut.tree new.is.whole.distinct;
-          stands = subst (Stands (knots_in c1) o.root) cut.tree stands;
+          stands = subst (RepresentsTree (knots_in c1) o.root) cut.tree stands;
           ranked = subst IsRanked cut.tree new.is.whole.ranked;
           fresh = subst (λ t. count n t ≡ 0) cut.tree fresh;
           small = subst (λ t. length (walk t) + 1 < 2 ^ 64) cut.tree (rw new.is.counted small);
@@ -342,7 +342,7 @@ module _ {T : Type 0} where
         record {
           ordered = record {
             whole = record {
-              stands = subst (Stands (knots_in c2) root2) (sym tree) restored.stands;
+              stands = subst (RepresentsTree (knots_in c2) root2) (sym tree) restored.stands;
               distinct = IsDistinct-walk grown (tree_in p) (sym walks) distinct;
               ranked = subst IsRanked (sym tree) restored.ranked;
             };

@@ -22,7 +22,7 @@ use Rattle.triple_arena_ord.specs.Ordered.{Ordered, IsOrdered, IsAscending, tree
 use Rattle.triple_arena_ord.specs.Ordered.{entry_in, size_in, asked_at}
 use Rattle.triple_arena_ord.proofs.LiveLemmas.{counted_entry, entry_counted}
 use Rattle.triple_arena_ord.proofs.SeekLemmas.{few, unequal}
-use Rattle.triple_arena_ord.proofs.NearLemmas.{AllIn-at, place_ended, place_passed, key_ended}
+use Rattle.triple_arena_ord.proofs.NearLemmas.{all-at, place_ended, place_passed, key_ended}
 use Rattle.triple_arena_ord.proofs.NearLemmas.{key_passed, key_other}
 use Rattle.triple_arena_ord.proofs.WayLemmas.{counted-walk, walk-counted}
 use Rattle.triple_arena_ord.proofs.FoundLemmas.{stop_answers}
@@ -198,7 +198,7 @@ module _ {I T : Type 0} (number : I → ℕ) where
               let answer = linear_answer stops (number x.0) x.1 at in
               let not = unequal (asked_at cmp key k o) (tree_in o) (Some (number x.0, x.1))
               answer (λ i d u v. missed i (at ∙ u ∙ ap (λ d. Some (i, d)) v)) parted in
-              AllIn-at (λ y. asked_at cmp key k o y ≢ Equal) (order_in o) not end.near.to
+              all-at (λ y. asked_at cmp key k o y ≢ Equal) (order_in o) not end.near.to
               end.at end.near.ends end.equal
 
       -- how often the walk compared, by what the list is

@@ -6,7 +6,7 @@ use Rattle.std.proofs.lemmas.Bool.Decides.{eqb_tells, leb_tells}
 use Rattle.triple_arena.specs.Content.{Content, entry_at}
 use Rattle.triple_arena.specs.Walk.{Walk, IsAhead, IsFirstLive}
 use Rattle.triple_arena_chain.specs.LinkShape.{IndexLink}
-use Rattle.triple_arena_chain.specs.Chains.{Ends, first_or, last_or, On, Stands, IsLinear}
+use Rattle.triple_arena_chain.specs.Chains.{Ends, first_or, last_or, On, IsSegment, IsLinear}
 use Rattle.triple_arena_chain.specs.ListLaws.{On-either, on_differs}
 use Rattle.triple_arena_chain.specs.Links.{ends_in, entry_ends, values_in, valued}
 use Rattle.triple_arena_ord.specs.Compressed.{end_noted}
@@ -90,7 +90,7 @@ module _ (e : ℕ → Option Ends) where
   same_ends i u v one other = let is : Some u ≡ Some v = sym one ∙ other in cc is
 
   -- each index behind another one has a previous one
-  behind : (y i : ℕ) (xs : List ℕ) (v : Ends) → Stands e (Some y) xs None → On xs i → e i ≡ Some v
+  behind : (y i : ℕ) (xs : List ℕ) (v : Ends) → IsSegment e (Some y) xs None → On xs i → e i ≡ Some v
       → v.0 ≡ None → ⊥
   behind y i [] v s on at alone = on_differs [] i i on tt refl
   behind y i (x ∷ xs) v s on at alone =
@@ -107,7 +107,7 @@ module _ (e : ℕ → Option Ends) where
       ]
 
   -- the only one without a next is the last one
-  at_last : (b : Option ℕ) (i x : ℕ) (xs : List ℕ) (v : Ends) → Stands e b (x ∷ xs) None
+  at_last : (b : Option ℕ) (i x : ℕ) (xs : List ℕ) (v : Ends) → IsSegment e b (x ∷ xs) None
       → On (x ∷ xs) i → e i ≡ Some v → v.1 ≡ None
       → last_or None (x ∷ xs) ≡ Some i
   at_last b i x [] v s on at alone =
@@ -128,7 +128,7 @@ module _ (e : ℕ → Option Ends) where
             ]
       ]
 
-  no_next : (b : Option ℕ) (x : ℕ) (xs : List ℕ) → Stands e b (x ∷ xs) None
+  no_next : (b : Option ℕ) (x : ℕ) (xs : List ℕ) → IsSegment e b (x ∷ xs) None
       → (l : ℕ) × (v : Ends) × (e l ≡ Some v) × (v.1 ≡ None)
   no_next b x [] s = (x, (b, None), s.0, refl)
   no_next b x (y ∷ ys) s = no_next (Some x) y ys s.1

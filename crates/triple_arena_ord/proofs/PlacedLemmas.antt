@@ -13,7 +13,7 @@ use Rattle.triple_arena_ord.specs.Ordered.{Ordered, IsOrdered, IsAscending, Stan
 use Rattle.triple_arena_ord.specs.Ordered.{entry_in, asked_of, asked_at}
 use Rattle.triple_arena_ord.specs.Inserted.{StandsAt, IsInsertedAt, IsPlacedByKey}
 use Rattle.triple_arena_ord.specs.Placing.{IsPlaceByKey, IsPlaceBeforeEqual, before_equal}
-use Rattle.rank_tree.specs.DescentLaws.{AllIn-map, parted-after, parted-before}
+use Rattle.rank_tree.specs.DescentLaws.{all-map, parted-after, parted-before}
 use Rattle.triple_arena_ord.proofs.SeekLemmas.{parts_at}
 use Rattle.triple_arena_ord.proofs.AscendingLemmas.{IsBetween, inserted_ascending}
 use Rattle.triple_arena_ord.proofs.InsertLemmas.{by_key}
@@ -35,10 +35,10 @@ module _ {T K : Type 0} (cmp : K → K → Ordering) (key : T → K)
         after = s.after;
         was = s.was;
         is = s.is;
-        low = AllIn-map (λ y. f y ≡ Greater) (λ y. f y ≢ Less)
+        low = all-map (λ y. f y ≡ Greater) (λ y. f y ≢ Less)
             (λ y e d. let z : Greater ≡ Less = sym e ∙ d in absurd (cc)) s.before
             (s.greater ascending);
-        high = AllIn-map (λ y. f y ≡ Less) (λ y. f y ≢ Greater)
+        high = all-map (λ y. f y ≡ Less) (λ y. f y ≢ Greater)
             (λ y e d. let z : Less ≡ Greater = sym e ∙ d in absurd (cc)) s.after (s.less ascending);
       }
 
@@ -51,12 +51,12 @@ module _ {T K : Type 0} (cmp : K → K → Ordering) (key : T → K)
             after = h ∷ s.after;
             was = s.was;
             is = s.is;
-            low = AllIn-map (λ y. Before (f y) (f h)) (λ y. f y ≢ Less)
+            low = all-map (λ y. Before (f y) (f h)) (λ y. f y ≢ Less)
                 (λ y z d. let e : Equal ≡ Less = sym here ∙ z.less d in absurd (cc)) s.before
                 (parted-before f s.before h s.after parted);
             high = (
               λ d. let e : Equal ≡ Greater = sym here ∙ d in absurd (cc),
-              AllIn-map (λ y. Before (f h) (f y)) (λ y. f y ≢ Greater)
+              all-map (λ y. Before (f h) (f y)) (λ y. f y ≢ Greater)
                   (λ y z d. let e : Equal ≡ Greater = sym here ∙ z.greater d in absurd (cc)) s.after
                   (parted-after f s.before h s.after parted),
             );

@@ -8,11 +8,11 @@ use Rattle.std.proofs.Math.Nat.{pow-succ'}
 use Rattle.std.proofs.lemmas.Bool.Decides.{eqb_tells, leb_tells}
 use Rattle.triple_arena.specs.Content.{Content, entry_at}
 use Rattle.triple_arena_chain.specs.LinkShape.{IndexLink}
-use Rattle.triple_arena_chain.specs.Chains.{Ends, next_in, next_at, first_or, Stands, Off, Apart}
+use Rattle.triple_arena_chain.specs.Chains.{Ends, next_in, next_at, first_or, IsSegment, Off, Apart}
 use Rattle.triple_arena_chain.specs.Chains.{IsLinear}
-use Rattle.triple_arena_chain.specs.ChainLaws.{first_or-append, Stands-front, Stands-back}
+use Rattle.triple_arena_chain.specs.ChainLaws.{first_or-append, segment-front, segment-back}
 use Rattle.triple_arena_chain.specs.ChainLaws.{off_or_on, Off-front, Off-back, Apart-both}
-use Rattle.triple_arena_chain.specs.ListLaws.{Apart-front, Apart-back, Apart-split, Stands-where}
+use Rattle.triple_arena_chain.specs.ListLaws.{Apart-front, Apart-back, Apart-split, segment-where}
 use Rattle.triple_arena_chain.specs.UniquenessLaws.{linear_apart}
 use Rattle.triple_arena_chain.specs.Links.{ends_in, entry_ends, valued}
 use Rattle.rank_tree.specs.Store.{Store, Written, Reparented}
@@ -69,9 +69,9 @@ pub parts : (e : ℕ → Option Ends) (cursor : Option ℕ) (count : ℕ) (w : L
 parts e cursor count w a some =
     let long = a.long in
     let c = cut w (count / 2) (omega (arith, long, some)) in
-    let s = subst (λ l. Stands e a.before l a.after) c.whole a.stands in
+    let s = subst (λ l. IsSegment e a.before l a.after) c.whole a.stands in
     let apart = subst Apart c.whole a.apart in
-    let back = Stands-back e a.before a.after c.v (c.i ∷ c.u) s in
+    let back = segment-back e a.before a.after c.v (c.i ∷ c.u) s in
     let sum = length-append c.v (c.i ∷ c.u) in
     let all = ap length c.whole in
     let half = c.long in
@@ -83,7 +83,7 @@ parts e cursor count w a some =
       left = record {
         before = a.before;
         after = Some c.i;
-        stands = Stands-front e a.before a.after c.v (c.i ∷ c.u) s;
+        stands = segment-front e a.before a.after c.v (c.i ∷ c.u) s;
         first = a.first ∙ ap (λ l. first_or l a.after) c.whole
             ∙ first_or-append c.v (c.i ∷ c.u) a.after;
         apart = Apart-front c.v (c.i ∷ c.u) apart;
@@ -243,7 +243,7 @@ module _ {T : Type 0} where
         record {
           before = p.right.before;
           after = p.right.after;
-          stands = Stands-where (ends_in old) (ends_in mid) p.right.before
+          stands = segment-where (ends_in old) (ends_in mid) p.right.before
               p.right.after p.u (λ k on. r.ends k) p.right.stands;
           first = sym from ∙ p.right.first;
           apart = p.right.apart;

@@ -11,7 +11,7 @@ use Rattle.rank_tree.specs.Knot.{Knot}
 use Rattle.rank_tree.specs.Store.{Store, rank_or_link}
 use Rattle.rank_tree.specs.Tree.{Tree, leaf, node, walk, IsRanked}
 use Rattle.rank_tree.specs.Whole.{read_tree, tree_of}
-use Rattle.rank_tree.specs.Shape.{Stands, IsDistinct, count}
+use Rattle.rank_tree.specs.Shape.{RepresentsTree, IsDistinct, count}
 use Rattle.triple_arena_ord.specs.Ordered.{Ordered, IsOrdered, tree_in, order_in}
 use Rattle.rank_tree.specs.FrameLaws.{Represents-keep}
 use Rattle.rank_tree.specs.UniqueLaws.{tree_is}
@@ -55,7 +55,7 @@ module _ {T : Type 0} where
   same_list o p root knots ends live is =
       let n = knots_in p.chains in
       let tree = tree_in o in
-      let stands : Stands n p.root tree = (
+      let stands : RepresentsTree n p.root tree = (
         root ∙ is.whole.stands.0,
         Represents-keep (knots_in o.chains) n None tree (λ j c. knots j) is.whole.stands.1,
       ) in
@@ -66,7 +66,7 @@ module _ {T : Type 0} where
       record {
         ordered = record {
           whole = record {
-            stands = subst (Stands n p.root) (sym same) stands;
+            stands = subst (RepresentsTree n p.root) (sym same) stands;
             distinct = subst IsDistinct (sym same) is.whole.distinct;
             ranked = subst IsRanked (sym same) is.whole.ranked;
           };

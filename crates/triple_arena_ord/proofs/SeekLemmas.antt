@@ -1,4 +1,5 @@
 -- A search by key over the nodes of an arena.
+use Rattle.std.specs.List.{AllByRecursion}
 use Rattle.std.proofs.Common.{◌≡◌, ◌≢◌, ℕ, ◌+◌, ◌*◌, ◌^◌, ◌<◌, ◌≤◌, ◌∷◌, Option, Some, None, IsSome}
 use Rattle.std.proofs.Common.{IfSome, true, false, refl, sym, ap, ◌∙◌, subst, arith, inl, inr}
 use Rattle.std.specs.Option.{option_map, is_none}
@@ -15,26 +16,26 @@ use Rattle.rank_tree.specs.ComparisonLaws.{most_comparisons-greatest}
 use Rattle.rank_tree.specs.Tree.{Tree, leaf, node, walk, rank_of, size}
 use Rattle.rank_tree.specs.Shape.{count}
 use Rattle.rank_tree.specs.Store.{Store}
-use Rattle.rank_tree.specs.Search.{AllIn, Before, IsParted, IsAnswer, IsFreeAt, asked_down}
+use Rattle.rank_tree.specs.Search.{Before, IsParted, IsAnswer, IsFreeAt, asked_down}
 use Rattle.triple_arena_ord.specs.Ordered.{Ordered, IsOrdered, IsAscending, tree_in, order_in}
 use Rattle.triple_arena_ord.specs.Ordered.{entry_in, size_in, asked_of, asked_at}
 use Rattle.rank_tree.specs.BoundLaws.{size_bound}
 use Rattle.rank_tree.specs.ClimbLaws.{size-walk}
 use Rattle.rank_tree.specs.DescentLaws.{Descent, Here, descent_begins, descent_ends, descent_asked}
-use Rattle.rank_tree.specs.DescentLaws.{descent_free, step_down, AllIn-front, AllIn-back}
-use Rattle.rank_tree.specs.DescentLaws.{AllIn-append, AllIn-map, parted-after, parted-before}
+use Rattle.rank_tree.specs.DescentLaws.{descent_free, step_down, all-front, all-back}
+use Rattle.rank_tree.specs.DescentLaws.{all-append, all-map, parted-after, parted-before}
 use Rattle.rank_tree.specs.FrameLaws.{one-other, one-same}
 use Rattle.triple_arena_ord.proofs.NameLemmas.{if_answered}
 use Rattle.triple_arena_ord.proofs.LiveLemmas.{counted_entry, entry_counted}
 use Rattle.triple_arena_ord.proofs.SortedLemmas.{parted_from}
 
 -- what holds of each index of the walk holds of each that is counted
-pub all-counted : (P : ℕ → Type 0) (t : Tree) → AllIn P (walk t) → (j : ℕ) → 0 < count j t → P j
+pub all-counted : (P : ℕ → Type 0) (t : Tree) → AllByRecursion P (walk t) → (j : ℕ) → 0 < count j t → P j
 all-counted P leaf all j h = absurd (omega arith)
 all-counted P (node l i k r) all j h =
-    let rest = AllIn-back P (walk l) (i ∷ walk r) all in
+    let rest = all-back P (walk l) (i ∷ walk r) all in
     elim (cases_lt 0 (count j l)) [
-      | inl in_left ↦ all-counted P l (AllIn-front P (walk l) (i ∷ walk r) all) j in_left
+      | inl in_left ↦ all-counted P l (all-front P (walk l) (i ∷ walk r) all) j in_left
       | inr out_left ↦ elim (cases_eq j i) [
         | inl e ↦ subst P (sym e) rest.0
         | inr d ↦ let z = one-other j i d in all-counted P r rest.1 j (omega arith)
@@ -42,17 +43,17 @@ all-counted P (node l i k r) all j h =
     ]
 
 -- each index of the walk is counted
-pub counted-all : (P : ℕ → Type 0) (t : Tree) → ((j : ℕ) → 0 < count j t → P j) → AllIn P (walk t)
+pub counted-all : (P : ℕ → Type 0) (t : Tree) → ((j : ℕ) → 0 < count j t → P j) → AllByRecursion P (walk t)
 counted-all P leaf h = tt
 counted-all P (node l i k r) h =
     let here = let z = one-same i in h i (omega arith) in
-    AllIn-append P (walk l) (i ∷ walk r) (counted-all P l (λ j z. h j (omega arith)))
+    all-append P (walk l) (i ∷ walk r) (counted-all P l (λ j z. h j (omega arith)))
     (here, counted-all P r (λ j z. h j (omega arith)))
 
 -- no entry of the walk is equal where the search ended at none
 pub unequal : (f : ℕ → Ordering) (t : Tree) (a : Option (ℕ × Ordering)) → IsAnswer f t a
     → ((i : ℕ) (d : Ordering) → a ≡ Some (i, d) → d ≢ Equal)
-    → IsParted f (walk t) → AllIn (λ y. f y ≢ Equal) (walk t)
+    → IsParted f (walk t) → AllByRecursion (λ y. f y ≢ Equal) (walk t)
 unequal f leaf a is not parted = tt
 unequal f (node l x r_k r) None is not parted = let z = is.empty refl in absurd (cc)
 unequal f (node l x r_k r) (Some p) is not parted = by p.1 refl
@@ -60,7 +61,7 @@ unequal f (node l x r_k r) (Some p) is not parted = by p.1 refl
     t : Tree
     t = node l x r_k r
 
-    by : (d : Ordering) → p.1 ≡ d → AllIn (λ y. f y ≢ Equal) (walk t)
+    by : (d : Ordering) → p.1 ≡ d → AllByRecursion (λ y. f y ≢ Equal) (walk t)
     by Less e =
         let at : ◌≡◌ {A = Option (ℕ × Ordering)} (Some p) (Some (p.0, Less)) =
         ap (λ d. Some (p.0, d)) e in
@@ -68,12 +69,12 @@ unequal f (node l x r_k r) (Some p) is not parted = by p.1 refl
         let here : f p.0 ≡ Less = is.asked p.0 Less at in
         let up = parted-after f places.before p.0 places.after (subst (IsParted f) places.is parted)
         in
-        subst (AllIn (λ y. f y ≢ Equal)) (sym places.is)
-        (AllIn-append (λ y. f y ≢ Equal) places.before (p.0 ∷ places.after)
-        (AllIn-map (λ y. f y ≡ Greater) (λ y. f y ≢ Equal) (λ y z u. absurd (cc)) places.before
+        subst (AllByRecursion (λ y. f y ≢ Equal)) (sym places.is)
+        (all-append (λ y. f y ≢ Equal) places.before (p.0 ∷ places.after)
+        (all-map (λ y. f y ≡ Greater) (λ y. f y ≢ Equal) (λ y z u. absurd (cc)) places.before
         (places.less refl)) (
           (λ u. absurd (cc)),
-          AllIn-map (λ y. Before (f p.0) (f y)) (λ y. f y ≢ Equal)
+          all-map (λ y. Before (f p.0) (f y)) (λ y. f y ≢ Equal)
               (λ y z u. let w = z.less here in absurd (cc)) places.after up,
         ))
     by Equal e = absurd (not p.0 Equal (ap (λ d. Some (p.0, d)) e) refl)
@@ -84,12 +85,12 @@ unequal f (node l x r_k r) (Some p) is not parted = by p.1 refl
         let here : f p.0 ≡ Greater = is.asked p.0 Greater at in
         let down = parted-before f places.before p.0 places.after
         (subst (IsParted f) places.is parted) in
-        subst (AllIn (λ y. f y ≢ Equal)) (sym places.is)
-        (AllIn-append (λ y. f y ≢ Equal) places.before (p.0 ∷ places.after)
-        (AllIn-map (λ y. Before (f y) (f p.0)) (λ y. f y ≢ Equal)
+        subst (AllByRecursion (λ y. f y ≢ Equal)) (sym places.is)
+        (all-append (λ y. f y ≢ Equal) places.before (p.0 ∷ places.after)
+        (all-map (λ y. Before (f y) (f p.0)) (λ y. f y ≢ Equal)
         (λ y z u. let w = z.greater here in absurd (cc)) places.before down) (
           (λ u. absurd (cc)),
-          AllIn-map (λ y. f y ≡ Less) (λ y. f y ≢ Equal) (λ y z u. absurd (cc))
+          all-map (λ y. f y ≡ Less) (λ y. f y ≢ Equal) (λ y z u. absurd (cc))
               places.after (places.greater refl),
         ))
 

@@ -17,7 +17,7 @@ use Rattle.triple_arena_ord.specs.NodeShape.{IndexNode}
 use Rattle.rank_tree.specs.Knot.{Knot}
 use Rattle.triple_arena_ord.specs.Node.{knots_in, prev_for, next_for}
 use Rattle.rank_tree.specs.Tree.{Tree, leaf, node, walk}
-use Rattle.rank_tree.specs.Shape.{knot, root_of, Context, top, under, plug, holder, Stands}
+use Rattle.rank_tree.specs.Shape.{knot, root_of, Context, top, under, plug, holder, RepresentsTree}
 use Rattle.rank_tree.specs.Search.{IsFreeAt}
 use Rattle.triple_arena_ord.specs.Ordered.{Ordered, IsOrdered, StandsBeside, tree_in, order_in}
 use Rattle.triple_arena_ord.specs.Ordered.{size_in}
@@ -231,7 +231,7 @@ module _ {I T : Type 0} (number : I → ℕ) where
 
     at_h : Some v ≡ Some (knot Left (holder c) (root_of a) k (root_of r))
     at_h = sym at ∙ (plug-opens (knots_in o.chains) o.root c (node a h k r)
-        (subst (Stands (knots_in o.chains) o.root) found.is is.whole.stands)).1.0
+        (subst (RepresentsTree (knots_in o.chains) o.root) found.is is.whole.stands)).1.0
 
     below : v ≡ knot Left (holder c) (root_of a) k (root_of r)
     below = let e = at_h in cc e
@@ -263,7 +263,7 @@ module _ {I T : Type 0} (number : I → ℕ) where
         (subst (IsLinear (ends_in o.chains)) order is.linear) in
         let node_at = (plug-opens (knots_in o.chains) o.root inner
         (node f.left i f.rank leaf)
-        (subst (Stands (knots_in o.chains) o.root) tree is.whole.stands)).1.0 in
+        (subst (RepresentsTree (knots_in o.chains) o.root) tree is.whole.stands)).1.0 in
         record {
           index = i;
           is = ap prev_in ends ∙ last_snoc front i;
@@ -299,7 +299,7 @@ module _ {I T : Type 0} (number : I → ℕ) where
         (subst (IsLinear (ends_in o.chains)) order is.linear) in
         let node_at = (plug-opens (knots_in o.chains) o.root inner
         (node leaf i f.rank f.right)
-        (subst (Stands (knots_in o.chains) o.root) tree is.whole.stands)).1.0 in
+        (subst (RepresentsTree (knots_in o.chains) o.root) tree is.whole.stands)).1.0 in
         record {
           index = i;
           is = ap next_in ends;

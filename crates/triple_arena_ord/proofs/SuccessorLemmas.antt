@@ -13,7 +13,7 @@ use Rattle.triple_arena_ord.specs.NodeShape.{IndexNode}
 use Rattle.rank_tree.specs.Knot.{Knot}
 use Rattle.triple_arena_ord.specs.Node.{knots_in, rest}
 use Rattle.rank_tree.specs.Tree.{Tree, leaf, node, walk, IsRanked}
-use Rattle.rank_tree.specs.Shape.{knot, root_of, Context, top, under, plug, holder, Stands}
+use Rattle.rank_tree.specs.Shape.{knot, root_of, Context, top, under, plug, holder, RepresentsTree}
 use Rattle.rank_tree.specs.Shape.{IsDistinct, one, count}
 use Rattle.rank_tree.specs.Repair.{Loose, Restored, Replacement}
 use Rattle.triple_arena_ord.specs.Ordered.{Ordered, IsOrdered, tree_in, order_in}
@@ -72,7 +72,7 @@ module _ {T : Type 0} where
       let at_h : knots_in o.chains h
       ≡ Some (knot Left (holder c) (root_of a) k (root_of r)) =
       (plug-opens (knots_in o.chains) o.root c (node a h k r)
-      (subst (Stands (knots_in o.chains) o.root) found.is is.whole.stands)).1.0 in
+      (subst (RepresentsTree (knots_in o.chains) o.root) found.is is.whole.stands)).1.0 in
       let same : Some v ≡ Some (knot Left (holder c) (root_of a) k (root_of r)) = sym at ∙ at_h in
       let below : v ≡ knot Left (holder c) (root_of a) k (root_of r) = cc in
       let f : First r = first_at r x (sym (ap (λ z. z.right) below) ∙ right) in
@@ -97,7 +97,7 @@ module _ {T : Type 0} where
             sub = f.right;
             rank = f.rank;
             distinct = subst IsDistinct tree is.whole.distinct;
-            stands = subst (Stands (knots_in o.chains) o.root) tree is.whole.stands;
+            stands = subst (RepresentsTree (knots_in o.chains) o.root) tree is.whole.stands;
             ranked = subst IsRanked tree is.whole.ranked;
             small = subst (λ t. length (walk t) < 2 ^ 64) tree short;
           };
@@ -163,7 +163,7 @@ module _ {T : Type 0} where
             once = λ j. let z = counts j in let b = is.whole.distinct.once j in
                 omega arith;
           });
-      stands = subst (Stands (knots_in c1) root1) place.is restored.stands;
+      stands = subst (RepresentsTree (knots_in c1) root1) place.is restored.stands;
       fresh = subst (λ t. count n t ≡ 0) place.is
           (let z = counts n in let b = is.whole.distinct.once n in let y = one-same n in
           omega arith);
@@ -171,7 +171,7 @@ module _ {T : Type 0} where
 
     -- and takes the place of the other
     pub replaced : (c2 : Content (IndexLink (IndexNode T))) (root2 : Option ℕ)
-        → Stands (knots_in c2) root2
+        → RepresentsTree (knots_in c2) root2
         (plug replacement_place.context
         (node replacement_place.left n replacement_place.rank replacement_place.right))
         → IsUprooted o (record { chains = c2; root = root2 }) h

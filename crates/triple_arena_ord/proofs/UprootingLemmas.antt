@@ -19,7 +19,7 @@ use Rattle.triple_arena_ord.specs.NodeShape.{IndexNode}
 use Rattle.rank_tree.specs.Knot.{Knot}
 use Rattle.triple_arena_ord.specs.Node.{knots_in, items_in, knot_of, itemed, rest}
 use Rattle.rank_tree.specs.Tree.{leaf, node, walk, IsRanked}
-use Rattle.rank_tree.specs.Shape.{knot, root_of, top, plug, holder, Stands, IsDistinct, one, count}
+use Rattle.rank_tree.specs.Shape.{knot, root_of, top, plug, holder, RepresentsTree, IsDistinct, one, count}
 use Rattle.rank_tree.specs.Repair.{Loose, Restored}
 use Rattle.triple_arena_ord.specs.Ordered.{Ordered, IsOrdered, tree_in, order_in, entry_in}
 use Rattle.triple_arena_ord.specs.Removal.{Loses, IsUprooted, IsEntryRemoved}
@@ -58,7 +58,7 @@ module _ {T : Type 0} where
       let at_h : knots_in o.chains h
       ≡ Some (knot Left (holder c) (root_of a) k (root_of found.right)) =
       (plug-opens (knots_in o.chains) o.root c (node a h k found.right)
-      (subst (Stands (knots_in o.chains) o.root) found.is is.whole.stands)).1.0 in
+      (subst (RepresentsTree (knots_in o.chains) o.root) found.is is.whole.stands)).1.0 in
       let same : Some v ≡ Some (knot Left (holder c) (root_of a) k (root_of found.right)) = sym at
       ∙ at_h in
       let below : v ≡ knot Left (holder c) (root_of a) k (root_of found.right) = cc in
@@ -73,7 +73,7 @@ module _ {T : Type 0} where
           sub = a;
           rank = k;
           distinct = subst IsDistinct tree is.whole.distinct;
-          stands = subst (Stands (knots_in o.chains) o.root) tree is.whole.stands;
+          stands = subst (RepresentsTree (knots_in o.chains) o.root) tree is.whole.stands;
           ranked = subst IsRanked tree is.whole.ranked;
           small = subst (λ t. length (walk t) < 2 ^ 64) tree short;
         };
@@ -152,7 +152,7 @@ module _ {T : Type 0} where
     taken =
         let p : Ordered T = record { chains = c2; root = root1 } in
         let r = up.restored in
-        let stands2 : Stands (knots_in c2) root1 r.tree = (
+        let stands2 : RepresentsTree (knots_in c2) root1 r.tree = (
           r.stands.0,
           Represents-keep (knots_in c1) (knots_in c2) None r.tree
               (λ j c. other j (in_new j c)) r.stands.1,
@@ -176,7 +176,7 @@ module _ {T : Type 0} where
         record {
           ordered = record {
             whole = record {
-              stands = subst (Stands (knots_in c2) root1) (sym tree) stands2;
+              stands = subst (RepresentsTree (knots_in c2) root1) (sym tree) stands2;
               distinct = subst IsDistinct (sym tree)
                   (record {
                     once = λ j. let z = counts j in let b = is.whole.distinct.once j in

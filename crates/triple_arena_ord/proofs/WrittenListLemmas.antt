@@ -12,7 +12,7 @@ use Rattle.triple_arena_chain.specs.UniquenessLaws.{linear_apart}
 use Rattle.triple_arena_chain.specs.Lists.{Linear}
 use Rattle.triple_arena_chain.specs.Links.{ends_in, entry_ends, valued}
 use Rattle.rank_tree.specs.Tree.{Tree, leaf, node, walk, IsRanked}
-use Rattle.rank_tree.specs.Shape.{Stands, one, count, IsDistinct}
+use Rattle.rank_tree.specs.Shape.{RepresentsTree, one, count, IsDistinct}
 use Rattle.rank_tree.specs.FrameLaws.{one-same}
 use Rattle.rank_tree.specs.UniqueLaws.{tree_is}
 use Rattle.rank_tree.specs.HalvingLaws.{halving_ranked}
@@ -93,7 +93,7 @@ module _ {T : Type 0} where
           record {
             ordered = record {
               whole = record {
-                stands = subst (Stands (knots_in new.chains) new.root) (sym same) b.hangs;
+                stands = subst (RepresentsTree (knots_in new.chains) new.root) (sym same) b.hangs;
                 distinct = subst IsDistinct (sym same) distinct;
                 ranked = subst IsRanked (sym same) ranked;
               };

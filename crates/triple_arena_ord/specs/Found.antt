@@ -3,7 +3,7 @@ use Rattle.std.specs.Prelude.{◌≡◌, ◌≢◌, ◌↔◌, ℕ, Option, Some
 use Rattle.std.specs.declared.cmp.Ordering.{Ordering}
 use Rattle.std.specs.declared.cmp.Ordering.TheVariants.{Equal}
 use Rattle.triple_arena.specs.Entries.{generation_at}
-use Rattle.rank_tree.specs.Search.{Places}
+use Rattle.rank_tree.specs.Search.{EndsAt}
 use Rattle.triple_arena_ord.specs.Ordered.{Ordered, order_in, entry_in, size_in}
 
 module _ {T P : Type 0} (index generation : P → ℕ) where
@@ -25,4 +25,4 @@ module _ {T P : Type 0} (index generation : P → ℕ) where
     pub none : (result ≡ None) ↔ (size_in o ≡ 0)
     pub some : (p : P) (d : Ordering) → result ≡ Some (p, d) → Answers f o p d
     pub places : parted → (p : P) (d : Ordering) → result ≡ Some (p, d)
-        → Places f (order_in o) (index p) d
+        → EndsAt f (order_in o) (index p) d

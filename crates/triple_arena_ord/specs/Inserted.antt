@@ -1,5 +1,6 @@
 -- What an insertion does.
 use Rattle.std.specs.Prelude.{◌≡◌, ◌≢◌, ℕ, ◌+◌, ◌<◌, ◌≤◌, max, Bool, IsTrue, List, [], ◌∷◌, ◌++◌}
+use Rattle.std.specs.List.{AllByRecursion}
 use Rattle.std.specs.Prelude.{length, drop, Option, Some, None, Result, Ok, Err}
 use Rattle.std.specs.Option.{option_map}
 use Rattle.std.specs.declared.cmp.Ordering.{Ordering}
@@ -17,7 +18,6 @@ use Rattle.triple_arena_chain.specs.LinkShape.{IndexLink}
 use Rattle.rank_tree.specs.declared.side.Side.TheVariants.{Left, Right}
 use Rattle.triple_arena_ord.specs.NodeShape.{IndexNode}
 use Rattle.triple_arena_ord.specs.Node.{knots_in, items_in}
-use Rattle.rank_tree.specs.Search.{AllIn}
 use Rattle.triple_arena_ord.specs.Ordered.{Ordered, IsOrdered, IsAscending, StandsBeside}
 use Rattle.triple_arena_ord.specs.Ordered.{order_in, entry_in, size_in, asked_at}
 use Rattle.triple_arena_ord.specs.Found.{Answers}
@@ -168,8 +168,8 @@ module _ {T : Type 0} where
       pub was : order_in old ≡ before ++ after
       pub is : order_in new ≡ before ++ i ∷ after
       pub greater : IsAscending cmp key old
-          → AllIn (λ j. asked_at cmp key k old j ≡ Greater) before
-      pub less : IsAscending cmp key old → AllIn (λ j. asked_at cmp key k old j ≡ Less) after
+          → AllByRecursion (λ j. asked_at cmp key k old j ≡ Greater) before
+      pub less : IsAscending cmp key old → AllByRecursion (λ j. asked_at cmp key k old j ≡ Less) after
 
     module _ {P : Type 0} (index generation : P → ℕ) (allows : Option OrdInsertionError
         → Type 0) where

@@ -8,7 +8,7 @@ use Rattle.triple_arena_ord.specs.declared.kind.InsertKind.{InsertKind}
 use Rattle.triple_arena_ord.specs.declared.kind.InsertKind.TheVariants.{Empty, Normal}
 use Rattle.triple_arena_ord.specs.declared.kind.InsertKind.TheVariants.{Nonhereditary, Linear}
 use Rattle.triple_arena_ord.specs.declared.kind.InsertKind.TheVariants.{NonhereditaryLinear, Manual}
-use Rattle.rank_tree.specs.Search.{Places}
+use Rattle.rank_tree.specs.Search.{EndsAt}
 use Rattle.triple_arena_ord.specs.Near.{EndsWithin}
 use Rattle.triple_arena_ord.specs.Ordered.{Ordered, IsAscending, order_in, entry_in, size_in}
 use Rattle.triple_arena_ord.specs.Ordered.{asked_at}
@@ -42,7 +42,7 @@ module _ {T : Type 0} where
       pub live : (i : ℕ) (d : Ordering) → place ≡ Some (i, d) → IsSome (entry_in o i)
       pub way : (i : ℕ) (d : Ordering) → place ≡ Some (i, d) → asked_at cmp key k o i ≡ d
       pub places : IsAscending cmp key o → (i : ℕ) (d : Ordering) → place ≡ Some (i, d)
-          → Places (asked_at cmp key k o) (order_in o) i d
+          → EndsAt (asked_at cmp key k o) (order_in o) i d
 
     -- the same, but directly before an entry with an equal key
     pub record IsPlaceBeforeEqual (k : K) (o : Ordered T) (place : Option (ℕ × Ordering))

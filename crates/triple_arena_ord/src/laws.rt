@@ -20,7 +20,6 @@ ghost use Rattle.triple_arena_ord.specs.Ordered.{order_in, ordered_entries, entr
 ghost use Rattle.triple_arena_ord.specs.Ordered.{counter_in, room_in, asked_at};
 ghost use Rattle.triple_arena_ord.specs.Placing.{IsPlaceByKey, IsPlaceBeforeEqual};
 ghost use Rattle.triple_arena_ord.specs.Removal.{IsEntryRemoved};
-ghost use Rattle.rank_tree.specs.Search.{AllIn};
 ghost use Rattle.triple_arena_ord.specs.States.{invalidated_in, with_item};
 ghost use Rattle.rank_tree.specs.Tree.{height, rank_of};
 
@@ -52,13 +51,13 @@ pub fn keys_ascend_along_the_list<P: PtrCore, T: SimpleOrdItem>()
         → IsAscending T.Key.cmp T.key_of o
         → order_in o ≡ front ++ i ∷ back
         → entry_in o i ≡ Some entry
-        → AllIn (λ j. asked_at T.Key.cmp T.key_of (T.key_of entry.1) o j ≢ Way.Less) front }
+        → AllByRecursion (λ j. asked_at T.Key.cmp T.key_of (T.key_of entry.1) o j ≢ Way.Less) front }
     ensures after { (o : Ordered T) (front back : List ℕ) (i : ℕ) (entry : ℕ × T)
         → IsOrdered o
         → IsAscending T.Key.cmp T.key_of o
         → order_in o ≡ front ++ i ∷ back
         → entry_in o i ≡ Some entry
-        → AllIn (λ j. asked_at T.Key.cmp T.key_of (T.key_of entry.1) o j ≢ Way.Greater) back }
+        → AllByRecursion (λ j. asked_at T.Key.cmp T.key_of (T.key_of entry.1) o j ≢ Way.Greater) back }
 {}
 
 /// A list whose keys ascend still does if the list and the keys stay, and if an item is replaced by
@@ -139,8 +138,8 @@ pub fn insertions_keep_keys_ascending<P: PtrCore, T: SimpleOrdItem>()
         → IsOrdered new → IsAdded i g t old new
         → order_in old ≡ before ++ after
         → order_in new ≡ before ++ i ∷ after
-        → AllIn (λ j. asked_at T.Key.cmp T.key_of (T.key_of t) old j ≢ Way.Less) before
-        → AllIn (λ j. asked_at T.Key.cmp T.key_of (T.key_of t) old j ≢ Way.Greater) after
+        → AllByRecursion (λ j. asked_at T.Key.cmp T.key_of (T.key_of t) old j ≢ Way.Less) before
+        → AllByRecursion (λ j. asked_at T.Key.cmp T.key_of (T.key_of t) old j ≢ Way.Greater) after
         → IsAscending T.Key.cmp T.key_of old
         → IsAscending T.Key.cmp T.key_of new }
 {}

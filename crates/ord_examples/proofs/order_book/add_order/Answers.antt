@@ -1,7 +1,7 @@
+use Rattle.std.specs.List.{AllByRecursion}
 use Rattle.std.proofs.Common.{◌≢◌, sym, subst}
 use Rattle.std.specs.Ordering.{nat_cmp}
 use Rattle.std.specs.declared.cmp.Ordering.TheVariants.{Less, Greater}
-use Rattle.rank_tree.specs.Search.{AllIn}
 use Rattle.triple_arena_ord.specs.Ordered.{asked_at, order_in}
 use Rattle.ord_examples.proofs.OrderBookLemmas.{not_less_before, not_greater_behind, price_of}
 use Rattle.ord_examples.proofs.order_book.add_order.Goals as goal
@@ -17,9 +17,9 @@ returns-clause-book g c =
     in
     c.insertions_keep_keys_ascending.ensures.between b.before b.after i (generation put.result)
     c.new.result old put.new.self put.ensures.ordered put.ensures.added b.was b.is
-    (subst (λ z. AllIn (λ j. asked_at nat_cmp price_of z old j ≢ Less) b.before)
+    (subst (λ z. AllByRecursion (λ j. asked_at nat_cmp price_of z old j ≢ Less) b.before)
     (sym c.new.ensures.key)
     (not_less_before index generation old c.args.price b.before b.not_greater))
-    (subst (λ z. AllIn (λ j. asked_at nat_cmp price_of z old j ≢ Greater) b.after)
+    (subst (λ z. AllByRecursion (λ j. asked_at nat_cmp price_of z old j ≢ Greater) b.after)
     (sym c.new.ensures.key)
     (not_greater_behind index generation old c.args.price b.after b.greater)) c.requires

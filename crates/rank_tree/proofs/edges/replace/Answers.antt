@@ -1,6 +1,6 @@
 use Rattle.std.specs.Option.{option_map}
 use Rattle.rank_tree.specs.Tree.{node, walk}
-use Rattle.rank_tree.specs.Shape.{plug, Stands}
+use Rattle.rank_tree.specs.Shape.{plug, RepresentsTree}
 use Rattle.rank_tree.specs.SpotLaws.{write-lives, reparent-lives}
 use Rattle.rank_tree.proofs.NameLemmas.{if_live}
 use Rattle.rank_tree.specs.ChangeLaws.{replacement_lives, replacement_links, replacement_works}
@@ -14,7 +14,7 @@ works : (g : _) (c : After-relink g)
     (option_map g.P.Inx.PtrInxCore.number c.args.root.now)
     (g.P.Inx.PtrInxCore.number c.args.old)
     (g.P.Inx.PtrInxCore.number c.args.new))
-    → Stands (g.K.Knots.knots c.relink.new.knots)
+    → RepresentsTree (g.K.Knots.knots c.relink.new.knots)
     (option_map g.P.Inx.PtrInxCore.number c.relink.new.root)
     (plug h.context (node h.left (g.P.Inx.PtrInxCore.number c.args.new) h.rank h.right))
     × KeptOff (walk (plug h.context

@@ -1,7 +1,7 @@
 use Rattle.std.proofs.Common.{refl, arith}
 use Rattle.std.specs.Option.{option_map}
 use Rattle.rank_tree.specs.Tree.{walk}
-use Rattle.rank_tree.specs.Repair.{Grown, Gap, filled}
+use Rattle.rank_tree.specs.Repair.{Grown, FreeSide, filled}
 use Rattle.rank_tree.specs.FrameLaws.{both_kept}
 use Rattle.rank_tree.specs.ClimbLaws.{Climbing, grown_under, parent_lives, climb_ranks, climb_write}
 use Rattle.rank_tree.specs.ClimbLaws.{climb_ends, climb_up, climb_kept}
@@ -10,7 +10,7 @@ use Rattle.rank_tree.proofs.insertion_repair.bring_in.Goals as goal
 
 -- the new leaf below its holder
 climbing : (g : _) (c : After-attach g)
-    (gap : Gap (g.K.Knots.knots c.args.knots.now) (option_map g.P.Inx.PtrInxCore.number
+    (gap : FreeSide (g.K.Knots.knots c.args.knots.now) (option_map g.P.Inx.PtrInxCore.number
     c.args.root.now)
     (g.P.Inx.PtrInxCore.number c.args.holder) c.args.side (g.P.Inx.PtrInxCore.number c.args.new))
     → Climbing (g.K.Knots.knots c.attach.new.knots)
@@ -21,7 +21,7 @@ climbing g c gap = grown_under _ _ _ _ _ _ c.attach.ensures.slot refl (c.attach.
 
 -- the holder was a leaf, and rises
 risen : (g : _) (c : After-set_rank g)
-    (gap : Gap (g.K.Knots.knots c.args.knots.now) (option_map g.P.Inx.PtrInxCore.number
+    (gap : FreeSide (g.K.Knots.knots c.args.knots.now) (option_map g.P.Inx.PtrInxCore.number
     c.args.root.now)
     (g.P.Inx.PtrInxCore.number c.args.holder) c.args.side (g.P.Inx.PtrInxCore.number c.args.new))
     → Grown (g.K.Knots.knots c.set_rank.new.self) (option_map g.P.Inx.PtrInxCore.number

@@ -5,7 +5,7 @@ use Rattle.rank_tree.proofs.NameLemmas.{not_some, if_live}
 use Rattle.rank_tree.specs.SpotLaws.{spot_low, spot_parent, spot_high, spot_child, spot_holder}
 use Rattle.rank_tree.specs.SpotLaws.{write-lives, reparent-lives, turn_works}
 use Rattle.rank_tree.specs.Tree.{walk}
-use Rattle.rank_tree.specs.Shape.{Stands}
+use Rattle.rank_tree.specs.Shape.{RepresentsTree}
 use Rattle.rank_tree.specs.Repair.{Spot, turned, KeptOff}
 use Rattle.rank_tree.proofs.turn.turn_on.Goals.{After-relink}
 use Rattle.rank_tree.proofs.turn.turn_on.Goals as goal
@@ -15,7 +15,7 @@ works : (g : _) (c : After-relink g)
     (spot : Spot (g.K.Knots.knots c.args.knots.now)
     (option_map g.P.Inx.PtrInxCore.number c.args.root.now)
     (g.P.Inx.PtrInxCore.number c.args.low))
-    → Stands (g.K.Knots.knots c.relink.new.knots)
+    → RepresentsTree (g.K.Knots.knots c.relink.new.knots)
     (option_map g.P.Inx.PtrInxCore.number c.relink.new.root)
     (turned spot c.args.low_rank c.args.high_rank)
     × KeptOff (walk (turned spot c.args.low_rank c.args.high_rank))
