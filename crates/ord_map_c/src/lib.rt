@@ -41,6 +41,7 @@ pub use holder::Holder;
 pub use ord_map::OrdMap;
 pub use refusal::Refusal;
 use std::alloc::Global;
+use proof_marks::recall;
 
 /// Makes a map without an entry, and leaves it in the holder. It answers 0; or 1 if the memory was
 /// refused, or 6 if the holder keeps a map already, and then nothing changes.
@@ -727,7 +728,7 @@ pub extern "C" fn ord_map_entries(
         return 5;
     };
     // The keys rise.
-    let _ = own.len();
+    recall!(own.len());
     let status = match own.read(*from, handles, keys, values) {
         Ok((count, next)) => {
             *written = count;

@@ -6,7 +6,7 @@ ghost use Rattle.rank_tree.specs.Repair.{Spot, IsAround};
 use crate::knots::rank_at;
 use crate::{Knots, side_of};
 use triple_arena_ptr::PtrCore;
-use unreached::unreached;
+use proof_marks::unreached;
 
 // A node `low` with its parent `high`: `outer` and `inner` are the children of `low`, `far` is its
 // sibling.

@@ -11,7 +11,7 @@ use crate::knots::rank_at;
 use crate::turn::turn;
 use crate::{Knots, Side, TreeLinks, side_of};
 use triple_arena_ptr::PtrCore;
-use unreached::unreached;
+use proof_marks::unreached;
 
 /// `low` turns up over its parent of the same rank, or its inner child does, twice.
 fn lean<N, P: PtrCore, K: Knots<N, P>>(knots: &mut K, root: &mut Option<P::Inx>, low: P::Inx)

@@ -14,7 +14,7 @@ use crate::knots::rank_at;
 use crate::turn::turn;
 use crate::{Knots, Side, TreeLinks};
 use triple_arena_ptr::{PtrCore, PtrInxCore};
-use unreached::unreached;
+use proof_marks::unreached;
 
 /// The higher child `low` turns up, or its inner child does, twice.
 fn shorten<N, P: PtrCore, K: Knots<N, P>>(knots: &mut K, root: &mut Option<P::Inx>, low: P::Inx)

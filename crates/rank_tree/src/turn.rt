@@ -8,7 +8,7 @@ ghost use Rattle.rank_tree.specs.Repair.{Spot, turned, KeptOff};
 use crate::knots::{relink, reparent};
 use crate::{Knots, Side, TreeLinks, side_of};
 use triple_arena_ptr::PtrCore;
-use unreached::unreached;
+use proof_marks::unreached;
 
 /// `low` takes the place of its parent, which becomes its child; both get new ranks.
 pub(crate) fn turn<N, P: PtrCore, K: Knots<N, P>>(

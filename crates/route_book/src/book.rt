@@ -30,6 +30,7 @@ mod walking;
 use crate::backing::BookBacking;
 use crate::items::{Mark, Place, Stop};
 use crate::parts::Mirrors;
+use proof_marks::recall;
 use route_lines::laws::{routes_lead_along, stops_follow_their_previous_ones};
 use route_lines::{Held, Refusal};
 use std::marker::Model;
@@ -171,7 +172,7 @@ impl<P: PtrCore, B: BookBacking<P>> RouteBook<P, B> {
         routes_lead_along();
         stops_follow_their_previous_ones();
         // The links are as they must be.
-        let _ = self.stops.len();
+        recall!(self.stops.len());
         &self.stops
     }
 

@@ -19,7 +19,7 @@ use triple_arena::{
 use triple_arena_chain::{ChainArena, ChainSlots};
 use triple_arena_ord::{OrdSlots, SimpleOrdArena};
 use triple_arena_ptr::{Probes, PtrCore};
-use unreached::unreached;
+use proof_marks::unreached;
 
 /// What holds its ticket.
 pub(crate) trait Ticketed {

@@ -23,7 +23,7 @@ use triple_arena::ArenaTrait;
 use triple_arena_ord::laws::{entries_stand_in_the_list, writes_keep_the_list};
 use triple_arena_ord::{OrdSlots, SimpleOrdArena};
 use triple_arena_ptr::{Probes, PtrCore};
-use unreached::unreached;
+use proof_marks::{recall, unreached};
 
 // A place more, whose ticket is above all others, beside the one that a search for its key found.
 // No key is compared.
@@ -45,7 +45,7 @@ pub(crate) fn put_place<P: PtrCore, S: OrdSlots<P, Place>>(
     ensures same_room { arena.new.chains.room ≡ arena.old.chains.room }
 {
     // The list is as it must be.
-    let _ = arena.len();
+    recall!(arena.len());
     match found {
         Some(end) => { arena.insert_inx_manual_within_capacity(Some((end.0.inx(), end.1)), place) }
         None => arena.insert_inx_manual_within_capacity(None, place),
@@ -68,7 +68,7 @@ pub(crate) fn reword<P: PtrCore, S: OrdSlots<P, Place>>(
 {
     writes_keep_the_list::<P, Place>();
     // The list is as it must be.
-    let _ = arena.len();
+    recall!(arena.len());
     match arena.get_mut(at) {
         Some(place) => place.replace_word(word),
         None => unreached!(),

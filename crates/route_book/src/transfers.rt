@@ -20,7 +20,7 @@ use triple_arena_chain::{ChainArena, ChainSlots};
 use triple_arena_ord::laws::{canonical_transfers_list_by_index, entries_stand_in_the_list};
 use triple_arena_ord::{OrdSlots, SimpleOrdArena};
 use triple_arena_ptr::{PtrCore, PtrGenCore, at_index_of};
-use unreached::unreached;
+use proof_marks::{recall, unreached};
 
 // The reference over other pointers: with the same index, or with the greatest one if their type
 // has no such index.
@@ -79,8 +79,8 @@ pub(crate) fn transfer_places<P: PtrCore, S: OrdSlots<P, Place>, Q: PtrCore, R: 
     entries_stand_in_the_list::<P, Place>();
     let mut source = from;
     // The list is as it must be, and each live index will be one of the pointers'.
-    let _ = source.len();
-    let _ = to.capacity();
+    recall!(source.len());
+    recall!(to.capacity());
     let moved = to.transfer_canonical_reallocating(
         Q::Gen::two(),
         &mut source,
@@ -123,8 +123,8 @@ pub(crate) fn transfer_stops<
 {
     let mut source = from;
     // The links are as they must be, and each live index will be one of the pointers'.
-    let _ = source.len();
-    let _ = to.capacity();
+    recall!(source.len());
+    recall!(to.capacity());
     let over = PhantomData::<Stop<Q>>;
     let moved = to.transfer_canonical_reallocating(Q::Gen::two(), &mut source, |_, stop, _| {
         stop.allow().over(over)
@@ -160,7 +160,7 @@ pub(crate) fn transfer_marks<
 {
     let mut source = from;
     // Each live index will be one of the pointers'.
-    let _ = to.capacity();
+    recall!(to.capacity());
     let over = PhantomData::<Mark<Q>>;
     let moved = to.transfer_reallocating(Q::Gen::two(), &mut source, |_, mark, _| {
         mark.allow().over(over)

@@ -6,6 +6,7 @@ ghost use Rattle.route_lines.specs.declared.command.Command.{Command as Asked};
 ghost use Rattle.route_book.specs.Book.{KeepsRooms};
 ghost use Rattle.route_book.specs.Removals.{IsPacked};
 
+use proof_marks::recall;
 use route_book::{BookBacking, Command, PtrCore, Refusal, RouteBook, Shown, Word};
 use route_lines::ReplyText;
 
@@ -27,7 +28,7 @@ fn reference_is_short(reference: Option<u64>)
 fn word_is_short(word: &Word)
     ensures { length word.now ≤ 16 }
 {
-    let _ = word.as_bytes();
+    recall!(word.as_bytes());
 }
 
 fn put_ticket(text: &mut ReplyText, ticket: Result<u64, Refusal>)

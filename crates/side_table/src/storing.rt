@@ -11,6 +11,7 @@ ghost use Rattle.triple_arena.specs.DirectContent.{IsPlace, IsWellFormed};
 ghost use Rattle.triple_arena.specs.Entries.{with_entry};
 ghost use Rattle.side_table.specs.SideTable.{IsTaken};
 
+use proof_marks::recall;
 use triple_arena::{
     ArenaDirectInsertEntryTrait, ArenaDirectInsertTrait, ArenaTrait, DirectArena, DirectSlots,
     PtrCore, PtrInxCore, ReallocationError,
@@ -107,7 +108,7 @@ pub fn put_beside<P: PtrCore, T: Drop, S: DirectSlots<P, T>>(
 {
     let Some(index) = p.inx().try_into_usize() else {
         // The capacity is a `usize`.
-        let _ = table.capacity();
+        recall!(table.capacity());
         return Err(ReallocationError::BeyondMaxCapacity);
     };
     table.reallocate_min_capacity(room.max(index.get()))?;

@@ -25,7 +25,7 @@ use triple_arena_chain::LinkNoGen;
 use triple_arena_ord::laws::{entries_stand_in_the_list, the_list_has_as_many_entries_as_are_live};
 use triple_arena_ord::{OrdSlots, SimpleOrdArena, SimpleOrdArenaNode};
 use triple_arena_ptr::{Probes, PtrCore, PtrInxCore, ReallocationError};
-use unreached::unreached;
+use proof_marks::{recall, unreached};
 
 /// A slot of a ticket book.
 pub type TicketSlot<P> = ArenaSlot<P, LinkNoGen<P, SimpleOrdArenaNode<P, Entry<P>>>>;
@@ -102,7 +102,7 @@ fn put_last<P: PtrCore, S: OrdSlots<P, Entry<P>>>(
     ensures ordered { IsOrdered arena.new }
 {
     // The list is as it must be.
-    let _ = arena.len();
+    recall!(arena.len());
     match arena.last() {
         Some(last) => {
             let behind = Some((last.inx(), Ordering::Greater));
@@ -165,8 +165,8 @@ impl<P: PtrCore, S: OrdSlots<P, Entry<P>>> TicketBook<P, S> {
     {
         entries_stand_in_the_list::<P, Entry<P>>();
         // The list is as it must be, and its indexes are within the capacity.
-        let _ = self.arena.len();
-        let _ = self.arena.capacity();
+        recall!(self.arena.len());
+        recall!(self.arena.capacity());
         match index_of::<P::Inx>(ticket) {
             Some(at) => match self.arena.get_inx(at) {
                 Some(found) => {
@@ -198,7 +198,7 @@ impl<P: PtrCore, S: OrdSlots<P, Entry<P>>> TicketBook<P, S> {
         entries_stand_in_the_list::<P, Entry<P>>();
         the_list_has_as_many_entries_as_are_live::<P, Entry<P>>();
         // The list is as it must be.
-        let _ = self.arena.len();
+        recall!(self.arena.len());
         match self.arena.find_key_counted(&ticket, probes) {
             Some(p) => Some(p.inx()),
             None => None,
@@ -213,7 +213,7 @@ impl<P: PtrCore, S: OrdSlots<P, Entry<P>>> TicketBook<P, S> {
     {
         entries_stand_in_the_list::<P, Entry<P>>();
         // The list is as it must be.
-        let _ = self.arena.len();
+        recall!(self.arena.len());
         match self.arena.get_inx(at) {
             Some(found) => found.1,
             None => unreached!(),
@@ -262,7 +262,7 @@ impl<P: PtrCore, S: OrdSlots<P, Entry<P>>> TicketBook<P, S> {
         entries_stand_in_the_list::<P, Entry<P>>();
         the_list_has_as_many_entries_as_are_live::<P, Entry<P>>();
         // The list is as it must be.
-        let _ = self.arena.len();
+        recall!(self.arena.len());
         let entry = Entry::new(ticket, kind, at);
         let p = put_last(&mut self.arena, entry);
         self.first_elsewhere = elsewhere_after(self.first_elsewhere, p.inx(), ticket);
@@ -282,7 +282,7 @@ impl<P: PtrCore, S: OrdSlots<P, Entry<P>>> TicketBook<P, S> {
     {
         entries_stand_in_the_list::<P, Entry<P>>();
         // The list is as it must be.
-        let _ = self.arena.len();
+        recall!(self.arena.len());
         match self.arena.remove_inx(at).allow() {
             Some(taken) => taken.1,
             None => unreached!(),
@@ -310,8 +310,8 @@ impl<P: PtrCore, S: OrdSlots<P, Entry<P>>> TicketBook<P, S> {
     {
         entries_stand_in_the_list::<P, Entry<P>>();
         // The list is as it must be, before and after.
-        let _ = self.arena.len();
+        recall!(self.arena.len());
         renew_entries(&mut self.arena, places, stops, marks);
-        let _ = self.arena.len();
+        recall!(self.arena.len());
     }
 }

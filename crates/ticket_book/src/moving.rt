@@ -13,7 +13,7 @@ use triple_arena_ord::laws::{
     canonical_transfers_list_by_index, the_list_has_as_many_entries_as_are_live,
 };
 use triple_arena_ptr::{PtrCore, PtrGenCore, at_index_of};
-use unreached::unreached;
+use proof_marks::{recall, unreached};
 
 impl<P: PtrCore> Entry<P> {
     // The entry of the same ticket over other pointers. A closure that calls this has to name its
@@ -43,7 +43,7 @@ impl<P: PtrCore, S: OrdSlots<P, Entry<P>>> TicketBook<P, S> {
         the_list_has_as_many_entries_as_are_live::<Q, Entry<Q>>();
         let mut arena = source.arena;
         // The list is as it must be.
-        let _ = arena.len();
+        recall!(arena.len());
         let to = PhantomData::<Entry<P>>;
         let taken = self.arena.transfer_canonical_reallocating(
             P::Gen::two(),

@@ -5,6 +5,7 @@ ghost use Rattle.ticket_book.specs.Mirrors.{numbers, renewed_entry, renewed_poin
 ghost use Rattle.triple_arena_ord.specs.Ordered.{entry_in, order_in};
 
 use crate::entry::{Entry, Kind};
+use proof_marks::recall;
 use triple_arena::{Advancer, ArenaTrait};
 use triple_arena_ord::laws::writes_keep_the_list;
 use triple_arena_ord::{OrdSlots, SimpleOrdArena};
@@ -62,7 +63,7 @@ pub(crate) fn renew_entries<
 {
     writes_keep_the_list::<P, Entry<P>>();
     // The list is as it must be.
-    let _ = arena.len();
+    recall!(arena.len());
     let mut walk = arena.advancer();
     while let Some(p) = walk.advance(arena) {
         if let Some(entry) = arena.get_mut(p) {

@@ -12,7 +12,7 @@ use crate::{Arena, ArenaSlots, DirectArena, DirectSlots};
 use std::marker::{Model, PhantomData};
 use std::num::NonZeroUsize;
 use triple_arena_ptr::{Advancer, AllocError, PtrCore, PtrInxCore};
-use unreached::unreached;
+use proof_marks::unreached;
 
 /// Gives the pointers to the entries of an arena, one a call, by rising or by falling index. The
 /// arena is free between the calls.

@@ -44,7 +44,7 @@ use triple_arena_ptr::{OptionalInx, PtrCore, PtrGenCore, PtrInxCore};
 use triple_arena_stack::{
     NonZeroInxArray, NonZeroInxBoxedSlice, NonZeroInxLimitedVec, NonZeroInxVec,
 };
-use unreached::unreached;
+use proof_marks::{recall, unreached};
 
 /// A generational arena, which keeps its slots in the stack `S`.
 ///
@@ -168,7 +168,7 @@ impl<P: PtrCore, T: Drop, S: ArenaSlots<P, T>> Arena<P, T, S> {
         ensures room { room_of P.Inx.greatest (S.room result.now) ≡ self.now.room }
     {
         // The slots are within the capacity, and so are their indexes.
-        let _ = self.own_capacity();
+        recall!(self.own_capacity());
         &self.slots
     }
 }

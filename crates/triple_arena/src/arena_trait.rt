@@ -28,7 +28,7 @@ use crate::drain::Drain;
 use triple_arena_ptr::{
     Advancer, InvalidationOption, InvalidationResult, PtrCore, PtrGenCore, ReallocationError,
 };
-use unreached::unreached;
+use proof_marks::{recall, unreached};
 
 /// An arena of values of type `T`, to which pointers of type `P` point.
 pub trait ArenaTrait<P: PtrCore, T: Drop> {
@@ -409,7 +409,7 @@ pub trait ArenaTrait<P: PtrCore, T: Drop> {
         ensures invalid { IfNone (answer_of result) (self.new ≡ self.old) }
     {
         // The arena is well-formed.
-        let _ = self.len();
+        recall!(self.len());
         if !self.contains(p) {
             return InvalidationResult::InvalidPtr;
         }
@@ -432,7 +432,7 @@ pub trait ArenaTrait<P: PtrCore, T: Drop> {
         ensures invalid { IfNone (answer_of result) (self.new ≡ self.old) }
     {
         // The arena is well-formed.
-        let _ = self.len();
+        recall!(self.len());
         if self.get_inx(i).is_none() {
             return InvalidationResult::InvalidPtr;
         }

@@ -15,7 +15,7 @@ use crate::slot::EntrySlot;
 use std::num::NonZeroUsize;
 use triple_arena_ptr::{AllocError, PtrCore, ReallocationError};
 use triple_arena_stack::NonZeroInxGenericStack;
-use unreached::unreached;
+use proof_marks::unreached;
 
 /// The arenas that copies are made of: an `Arena` or a `DirectArena`, with any stack.
 pub trait ArenaCloneSource<P: PtrCore, U: Drop>: ArenaTrait<P, U> {

@@ -7,7 +7,7 @@ use crate::lent_slots::{LentValue, SlotKey};
 use crate::slot::{EntrySlot, ValueMut};
 use std::marker::Model;
 use triple_arena_ptr::PtrCore;
-use unreached::unreached;
+use proof_marks::unreached;
 
 /// A slot of a `DirectArena`: free, or allocated, with a generation and a value.
 #[derive(Drop)]

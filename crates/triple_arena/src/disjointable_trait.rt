@@ -7,6 +7,7 @@ ghost use Rattle.triple_arena.specs.Changes.{IsExchanged};
 ghost use Rattle.triple_arena.specs.Entries.{value_if};
 
 use crate::ArenaTrait;
+use proof_marks::recall;
 use triple_arena_ptr::{GetDisjointMutError, PtrCore};
 
 /// The arenas of which two values can be borrowed for writing at once, and can change places.
@@ -103,7 +104,7 @@ pub trait DisjointableArenaTrait<P: PtrCore, T: Drop>: ArenaTrait<P, T> {
         ensures err { OnErr result (self.new ≡ self.old) }
     {
         // The arena is well-formed.
-        let _ = self.len();
+        recall!(self.len());
         self.check_disjoint(p, q)?;
         self.swap_inx(p.inx(), q.inx());
         Ok(())

@@ -5,7 +5,7 @@ ghost use Rattle.std.specs.Option.{option_map};
 
 use std::num::NonZeroUsize;
 use triple_arena_ptr::{OptionalInx, PtrCore, PtrInxCore};
-use unreached::unreached;
+use proof_marks::unreached;
 
 // The index of a free slot, or none, in a word as wide as the index.
 pub(crate) type FreeInx<P> = OptionalInx<

@@ -14,7 +14,7 @@ use std::iter::FusedIterator;
 use std::marker::{Model, PhantomData};
 use std::num::NonZeroUsize;
 use triple_arena_ptr::PtrCore;
-use unreached::unreached;
+use proof_marks::unreached;
 
 /// A slot whose value an iterator borrows for writing, beside its generation.
 pub trait LentEntryMut<P: PtrCore, T>: LentValue<T> + SlotKey<P::Gen> {

@@ -15,7 +15,7 @@ use std::iter::FusedIterator;
 use std::marker::{Model, PhantomData};
 use std::num::NonZeroUsize;
 use triple_arena_ptr::PtrCore;
-use unreached::unreached;
+use proof_marks::unreached;
 
 /// A slot, of which an iterator gives what it holds.
 pub trait LentEntry<P: PtrCore, T> {

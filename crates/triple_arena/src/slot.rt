@@ -18,7 +18,7 @@ use std::mem;
 use std::num::NonZeroUsize;
 use triple_arena_ptr::{FreeMark, OptionalInx, PtrCore, PtrGenCore, PtrInxCore};
 use triple_arena_stack::{NonZeroInxGenericStack, get_disjoint_mut};
-use unreached::unreached;
+use proof_marks::unreached;
 
 /// A slot of an arena: free, with links to the free ones before and after it, or allocated, with a
 /// generation and a value.

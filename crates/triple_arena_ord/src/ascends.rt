@@ -12,7 +12,7 @@ use crate::{SimpleOrdArenaNode, SimpleOrdItem};
 use std::cmp::Ordering;
 use triple_arena::{PtrCore, PtrInxCore};
 use triple_arena_chain::LinkNoGen;
-use unreached::unreached;
+use proof_marks::unreached;
 
 // The link at an index that is live.
 fn link_at<P, T, A>(arena: &A, i: P::Inx) -> &LinkNoGen<P, SimpleOrdArenaNode<P, T>>

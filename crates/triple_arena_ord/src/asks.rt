@@ -11,7 +11,7 @@ use crate::SimpleOrdArenaNode;
 use std::cmp::Ordering;
 use triple_arena::{ArenaTrait, PtrCore};
 use triple_arena_ptr::{OptionalInx, Probes};
-use unreached::unreached;
+use proof_marks::unreached;
 
 /// Asks `f` on the way down from the root, and says what it answered last, and where. It is left in
 /// the state that its last answer left.

@@ -15,7 +15,7 @@ use crate::{IndexNode, OrdSlots, SimpleOrdArenaNode};
 use rank_tree::{Side, bring_in};
 use triple_arena::{ArenaTrait, PtrCore, PtrInxCore};
 use triple_arena_chain::{ChainArena, ChainArenaTrait};
-use unreached::unreached;
+use proof_marks::unreached;
 
 // A new entry directly before or after that of `holder`, which has no child on this side.
 #[inline(always)]

@@ -14,7 +14,7 @@ use std::cmp::Ordering;
 use triple_arena::{PtrCore, PtrInxCore};
 use triple_arena_chain::IndexLink;
 use triple_arena_ptr::{OptionalInx, Probes};
-use unreached::unreached;
+use proof_marks::unreached;
 
 // Where a search along the list goes from a link that answered so, after it went `way`: nowhere, if
 // it ends.

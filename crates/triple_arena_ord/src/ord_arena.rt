@@ -45,7 +45,7 @@ use triple_arena::{
     NonZeroInxVec, PtrCore,
 };
 use triple_arena_chain::{ChainArena, LinkNoGen};
-use unreached::unreached;
+use proof_marks::unreached;
 
 /// Items in one list, each with a pointer, and a search tree over them. An insertion that searches
 /// puts an item where its key belongs.

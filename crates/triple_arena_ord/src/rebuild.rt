@@ -12,7 +12,7 @@ use crate::{OrdSlots, SimpleOrdArenaNode};
 use rank_tree::{Knots, TreeLinks, reparent};
 use triple_arena::{ArenaTrait, PtrCore};
 use triple_arena_chain::{ChainArena, ChainArenaTrait};
-use unreached::unreached;
+use proof_marks::unreached;
 
 // The rank of the root of a part of so many entries, if that of a greater one is `top`.
 pub(crate) fn rank_of_part(count: usize, top: u8) -> u8

@@ -16,7 +16,7 @@ use rank_tree::{Knots, TreeLinks};
 use std::num::NonZeroUsize;
 use triple_arena::{ArenaTrait, PtrCore, PtrInxCore};
 use triple_arena_chain::ChainArena;
-use unreached::unreached;
+use proof_marks::{recall, unreached};
 
 // The index with a number.
 fn index_of<P: PtrCore>(number: usize) -> P::Inx
@@ -95,7 +95,7 @@ pub(crate) fn rebuild_run<P: PtrCore, T: Drop, S: OrdSlots<P, T>>(
     ensures keeps { rest chains.new ≡ rest chains.old }
 {
     // So many indexes are the pointers'.
-    let _ = chains.capacity();
+    recall!(chains.capacity());
     let count = chains.len();
     if count > 0 {
         build_run(chains, None, 0, count, top_rank(count));

@@ -13,7 +13,7 @@ use crate::hexadecimal;
 use crate::ptr::{PtrInx, PtrInxCore};
 use std::fmt;
 use std::num::{NonZeroU8, NonZeroU16, NonZeroU32, NonZeroU64, NonZeroU128, NonZeroUsize};
-use unreached::unreached;
+use proof_marks::unreached;
 
 impl PtrInxCore for NonZeroU8 {
     type Word = u8;

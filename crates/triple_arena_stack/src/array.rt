@@ -8,7 +8,7 @@ use crate::{
 use arrayvec::ArrayVec;
 use std::num::NonZeroUsize;
 use triple_arena_ptr::{NotWithinCapacityError, ReallocationError};
-use unreached::unreached;
+use proof_marks::unreached;
 
 /// A stack of at most `LIMIT` items, which lie in the value itself. It takes no memory.
 #[derive(Drop)]

@@ -11,7 +11,7 @@ use crate::stack::push_in_room;
 use std::marker::PhantomData;
 use std::num::NonZeroUsize;
 use triple_arena_ptr::{NotWithinCapacityError, ReallocationError};
-use unreached::unreached;
+use proof_marks::{recall, unreached};
 
 /// The calls of a stack that return an entry, which is room for one item more. Each stack has them.
 pub trait NonZeroInxGenericStackEntries: NonZeroInxGenericStack {
@@ -105,7 +105,7 @@ impl<'a, T: Drop, S: NonZeroInxGenericStack<Item = T>> NonZeroInxGenericStackPus
 
     fn inx(&self) -> NonZeroUsize {
         // The length is below the capacity, which is a number.
-        let _ = self.stack.capacity();
+        recall!(self.stack.capacity());
         match NonZeroUsize::new(self.stack.len() + 1) {
             Some(i) => i,
             None => unreached!(),

@@ -12,7 +12,7 @@ use std::alloc::{Allocator, Global};
 use std::marker::Model;
 use std::num::NonZeroUsize;
 use triple_arena_ptr::ReallocationError;
-use unreached::unreached;
+use proof_marks::unreached;
 
 /// Items on the heap, in exactly the slots that were reserved for them.
 #[derive(Drop)]

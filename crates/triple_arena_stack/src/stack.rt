@@ -13,7 +13,7 @@ ghost use Rattle.triple_arena_stack.specs.Stack.{item_at, with_item, exchanged};
 
 use std::num::NonZeroUsize;
 use triple_arena_ptr::{GetDisjointMutError, NotWithinCapacityError, ReallocationError};
-use unreached::unreached;
+use proof_marks::unreached;
 
 /// A stack whose items have the indexes from 1 on.
 pub trait NonZeroInxGenericStack {

@@ -22,7 +22,7 @@ use triple_arena_chain::{ChainArena, ChainSlots};
 use triple_arena_ord::laws::entries_stand_in_the_list;
 use triple_arena_ord::{OrdSlots, SimpleOrdArena};
 use triple_arena_ptr::PtrCore;
-use unreached::unreached;
+use proof_marks::{recall, unreached};
 
 impl<P: PtrCore, B: BookBacking<P>> RouteBook<P, B> {
     /// What stands under a ticket.
@@ -124,7 +124,7 @@ impl<P: PtrCore, B: BookBacking<P>> RouteBook<P, B> {
     {
         entries_stand_in_the_list::<P, Place>();
         // The list is as it must be.
-        let _ = self.places.len();
+        recall!(self.places.len());
         let at = self.find_place(ticket, &mut counts.first)?;
         Ok(ticket_after(&self.places, at))
     }
@@ -151,7 +151,7 @@ impl<P: PtrCore, B: BookBacking<P>> RouteBook<P, B> {
     {
         entries_stand_in_the_list::<P, Place>();
         // The list is as it must be.
-        let _ = self.places.len();
+        recall!(self.places.len());
         let at = self.find_place(ticket, &mut counts.first)?;
         Ok(ticket_before(&self.places, at))
     }

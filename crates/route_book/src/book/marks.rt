@@ -15,7 +15,7 @@ use route_lines::{Change, Counts, Refusal};
 use ticket_book::Kind;
 use triple_arena::{ArenaInsertTrait, ArenaTrait};
 use triple_arena_ptr::PtrCore;
-use unreached::unreached;
+use proof_marks::unreached;
 
 impl<P: PtrCore, B: BookBacking<P>> RouteBook<P, B> {
     // Whether no further mark can be had.

@@ -15,6 +15,7 @@ use crate::items::{Mark, Place, Stop};
 use crate::mirrors::{mirror_marks, mirror_places, mirror_stops};
 use crate::parts::Mirrors;
 use crate::recasts::{recast_all_marks, recast_all_stops};
+use proof_marks::recall;
 use route_lines::{Counts, Held};
 use ticket_book::TicketBook;
 use triple_arena::{Arena, ArenaSlots, ArenaTrait, CompactArenaTrait};
@@ -39,11 +40,11 @@ fn compress_all<
         marks.old marks.new }
 {
     // The lists are as they must be, and each live index is within the room.
-    let _ = places.len();
-    let _ = stops.len();
-    let _ = places.capacity();
-    let _ = stops.capacity();
-    let _ = marks.capacity();
+    recall!(places.len());
+    recall!(stops.len());
+    recall!(places.capacity());
+    recall!(stops.capacity());
+    recall!(marks.capacity());
 
     // The work. That a counter is reset is no error here.
     let _ = places.compress_canonical(true);
@@ -51,9 +52,9 @@ fn compress_all<
     let _ = marks.compress(true);
 
     // Each live index still is within the room.
-    let _ = places.capacity();
-    let _ = stops.capacity();
-    let _ = marks.capacity();
+    recall!(places.capacity());
+    recall!(stops.capacity());
+    recall!(marks.capacity());
 }
 
 // Packs the parts of a store of this state, if that is needed. Each entry of the ticket book stays

@@ -22,7 +22,7 @@ use std::cmp::Ordering;
 use ticket_book::Kind;
 use triple_arena::ArenaTrait;
 use triple_arena_ptr::PtrCore;
-use unreached::unreached;
+use proof_marks::{recall, unreached};
 
 impl<P: PtrCore, B: BookBacking<P>> RouteBook<P, B> {
     /// A new place with this key and word, behind all places that have the key; its ticket.
@@ -107,7 +107,7 @@ impl<P: PtrCore, B: BookBacking<P>> RouteBook<P, B> {
             (most_near self.old.state key near) (most_for self.old.state near) 0 }
     {
         // The list is as it must be.
-        let _ = self.places.len();
+        recall!(self.places.len());
         let at = self.find_place(near, &mut counts.first)?;
         if self.is_full_of_places() {
             return Err(Refusal::Full);
@@ -166,7 +166,7 @@ impl<P: PtrCore, B: BookBacking<P>> RouteBook<P, B> {
     {
         changes_keep_states_sound();
         // The word is as it must be.
-        let _ = word.as_bytes();
+        recall!(word.as_bytes());
         let change = Change::Word(ticket, word);
         self.held = self.held.changed(&change);
         let Change::Word(_, word) = change else {
@@ -189,7 +189,7 @@ impl<P: PtrCore, B: BookBacking<P>> RouteBook<P, B> {
     {
         changes_keep_states_sound();
         // The word is as it must be.
-        let _ = word.as_bytes();
+        recall!(word.as_bytes());
         let change = Change::Place(key, word);
         self.held = self.held.changed(&change);
         let Change::Place(_, word) = change else {

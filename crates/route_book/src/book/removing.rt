@@ -14,6 +14,7 @@ use crate::backing::BookBacking;
 use crate::book::RouteBook;
 use crate::book::packing::pack_if;
 use crate::items::{Mark, Place, Stop};
+use proof_marks::recall;
 use route_lines::laws::{
     changes_keep_states_sound, removed_marks_leave_all_else, removed_places_leave_no_reference,
     removed_stops_join_their_neighbors,
@@ -70,13 +71,13 @@ fn end_at<P: PtrCore, B: BookBacking<P>>(
         Kind::Place => {
             removed_places_leave_no_reference();
             // The list is as it must be.
-            let _ = places.len();
+            recall!(places.len());
             let _ = places.remove(item);
         }
         Kind::Stop => {
             removed_stops_join_their_neighbors();
             // The links are as they must be.
-            let _ = stops.len();
+            recall!(stops.len());
             let _ = stops.remove_link_no_gen(item);
         }
         Kind::Mark => {

@@ -18,7 +18,7 @@ use ticket_book::Kind;
 use triple_arena::ArenaTrait;
 use triple_arena_chain::{ChainArenaTrait, LinkInsertKind};
 use triple_arena_ptr::PtrCore;
-use unreached::unreached;
+use proof_marks::{recall, unreached};
 
 impl<P: PtrCore, B: BookBacking<P>> RouteBook<P, B> {
     /// A new stop at a place, directly behind another stop on its route.
@@ -111,7 +111,7 @@ impl<P: PtrCore, B: BookBacking<P>> RouteBook<P, B> {
         joins_lead_on();
         stops_stay_as_routes_change();
         // The links are as they must be.
-        let _ = self.stops.len();
+        recall!(self.stops.len());
         let from = self.find_stop(stop, &mut counts.first)?;
         let to = self.find_stop(next, &mut counts.second)?;
         match self.stops.connect(from, to) {
@@ -153,7 +153,7 @@ impl<P: PtrCore, B: BookBacking<P>> RouteBook<P, B> {
         cuts_part_one_stop();
         stops_stay_as_routes_change();
         // The links are as they must be.
-        let _ = self.stops.len();
+        recall!(self.stops.len());
         let from = self.find_stop(stop, &mut counts.first)?;
         match self.stops.break_next(from) {
             Some(()) => {
@@ -202,7 +202,7 @@ impl<P: PtrCore, B: BookBacking<P>> RouteBook<P, B> {
         swaps_exchange_next_stops();
         stops_stay_as_routes_change();
         // The links are as they must be.
-        let _ = self.stops.len();
+        recall!(self.stops.len());
         let from = self.find_stop(stop, &mut counts.first)?;
         let by = self.find_stop(other, &mut counts.second)?;
         match self.stops.exchange_next(from, by) {

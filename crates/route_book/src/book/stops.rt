@@ -15,7 +15,7 @@ use ticket_book::Kind;
 use triple_arena::ArenaTrait;
 use triple_arena_chain::{ChainArenaTrait, LinkInsertKind};
 use triple_arena_ptr::PtrCore;
-use unreached::unreached;
+use proof_marks::unreached;
 
 impl<P: PtrCore, B: BookBacking<P>> RouteBook<P, B> {
     // Whether no further stop can be had.

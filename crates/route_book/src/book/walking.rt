@@ -18,7 +18,7 @@ use triple_arena_chain::ChainSlots;
 use triple_arena_chain::chain_iterators::IterChain;
 use triple_arena_ord::{OrdSlots, SimpleOrdArena};
 use triple_arena_ptr::{PtrCore, PtrInxCore};
-use unreached::unreached;
+use proof_marks::{recall, unreached};
 
 /// The stops of a route from one of them on, seen as the list of those that are left: to the end
 /// and then backwards from the stop before the first, or once round a ring.
@@ -105,7 +105,7 @@ impl<P: PtrCore, B: BookBacking<P>> RouteBook<P, B> {
         lists_are_walked_both_ways();
         rings_are_walked_once();
         // The links are as they must be.
-        let _ = self.stops.len();
+        recall!(self.stops.len());
         let at = self.find_stop(stop, &mut counts.first)?;
         match self.stops.iter_chain(at) {
             Some(stops) => Ok(Walk {

@@ -21,6 +21,7 @@ use crate::free_inx::FreeInx;
 use crate::iterators::LentEntry;
 use crate::{ArenaCloneFromWith, ArenaCloneSource, ArenaSlot, ArenaSlots, ArenaTrait};
 use std::num::NonZeroUsize;
+use proof_marks::recall;
 use triple_arena_ptr::{AllocError, OptionalInx, PtrCore, ReallocationError};
 
 impl<P: PtrCore, T: Drop, S: ArenaSlots<P, T>> ArenaCloneSource<P, T> for Arena<P, T, S> {
@@ -28,7 +29,7 @@ impl<P: PtrCore, T: Drop, S: ArenaSlots<P, T>> ArenaCloneSource<P, T> for Arena<
 
     fn lent_slots(&self) -> &[ArenaSlot<P, T>] {
         // Each slot has an index of the pointer type.
-        let _ = self.own_capacity();
+        recall!(self.own_capacity());
         self.slots.as_slice()
     }
 }
@@ -138,7 +139,7 @@ impl<P: PtrCore, T: Drop, S: ArenaSlots<P, T>> Arena<P, T, S> {
         ensures formed { IsWellFormed self.new }
     {
         // Each slot has an index of the pointer type.
-        let _ = self.own_capacity();
+        recall!(self.own_capacity());
         let counter = counter.unwrap_or(self.counter);
         self.empty();
         match append_copies::<P, T, U, ArenaSlot<P, T>, E, S, F>(&mut self.slots, source, map) {

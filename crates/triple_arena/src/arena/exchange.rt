@@ -11,7 +11,7 @@ use crate::two_values::lend_in_either_order;
 use crate::{ArenaSlots, DisjointableArenaTrait};
 use std::num::NonZeroUsize;
 use triple_arena_ptr::PtrCore;
-use unreached::unreached;
+use proof_marks::unreached;
 
 impl<P: PtrCore, T: Drop, S: ArenaSlots<P, T>> DisjointableArenaTrait<P, T> for Arena<P, T, S> {
     ghost exchanged = { with_exchange };

@@ -13,6 +13,7 @@ use crate::ArenaSlots;
 use crate::arena::Arena;
 use crate::free_inx::{FreeInx, free_at, place_of};
 use std::num::NonZeroUsize;
+use proof_marks::recall;
 use triple_arena_ptr::{OptionalInx, PtrCore};
 
 impl<P: PtrCore, T: Drop, S: ArenaSlots<P, T>> Arena<P, T, S> {
@@ -63,7 +64,7 @@ impl<P: PtrCore, T: Drop, S: ArenaSlots<P, T>> Arena<P, T, S> {
         ensures formed { IsWellFormed self.new }
     {
         // Each slot has an index of the pointer type.
-        let _ = self.own_capacity();
+        recall!(self.own_capacity());
         self.head = link_rising::<P, T, S>(&mut self.slots);
         // The arena is well-formed after.
         self.recall_formed();
@@ -122,7 +123,7 @@ pub(crate) fn set_prev_at<P: PtrCore, T: Drop, S: ArenaSlots<P, T>>(
     ensures room { S.room slots.new ≡ S.room slots.old }
 {
     // The number of slots is a `usize`, so the index of each is one.
-    let _ = slots.len();
+    recall!(slots.len());
     if let Some(i) = place_of::<P>(at) {
         slots.item_mut(i).set_prev(prev);
     }
@@ -144,7 +145,7 @@ fn set_next_at<P: PtrCore, T: Drop, S: ArenaSlots<P, T>>(
     ensures room { S.room slots.new ≡ S.room slots.old }
 {
     // The number of slots is a `usize`, so the index of each is one.
-    let _ = slots.len();
+    recall!(slots.len());
     if let Some(i) = place_of::<P>(at) {
         slots.item_mut(i).set_next(next);
     }

@@ -6,7 +6,7 @@ ghost use Rattle.triple_arena.specs.Content.{get, with_value as with_value_of};
 use crate::{Arena, ArenaSlots, ArenaTrait};
 use std::ops::{Index, IndexMut};
 use triple_arena_ptr::PtrCore;
-use unreached::unreached;
+use proof_marks::unreached;
 
 impl<P: PtrCore, T: Drop, S: ArenaSlots<P, T>> Index<P> for Arena<P, T, S> {
     type Output = T;

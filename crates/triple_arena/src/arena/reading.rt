@@ -11,7 +11,7 @@ use crate::slot::ValueMut;
 use crate::{ArenaSlots, ArenaTrait};
 use std::num::NonZeroUsize;
 use triple_arena_ptr::{PtrCore, PtrInxCore};
-use unreached::unreached;
+use proof_marks::{recall, unreached};
 
 impl<P: PtrCore, T: Drop, S: ArenaSlots<P, T>> Arena<P, T, S> {
     // The index of the entry that `p` points to, if it is live.
@@ -20,7 +20,7 @@ impl<P: PtrCore, T: Drop, S: ArenaSlots<P, T>> Arena<P, T, S> {
         ensures value { IfSome result (λ i. non_zero_usize_get i ≡ P.index p) }
     {
         // The number of slots is a `usize`, so no index past that is live.
-        let _ = self.slots.len();
+        recall!(self.slots.len());
         match p.inx().try_into_usize() {
             Some(i) => match self.slots.get(i) {
                 Some(slot) => {
@@ -54,7 +54,7 @@ impl<P: PtrCore, T: Drop, S: ArenaSlots<P, T>> Arena<P, T, S> {
         ensures value { IfSome result (λ i. non_zero_usize_get i ≡ P.Inx.number inx) }
     {
         // The number of slots is a `usize`, so no index past that is live.
-        let _ = self.slots.len();
+        recall!(self.slots.len());
         match inx.try_into_usize() {
             Some(i) => match self.slots.get(i) {
                 Some(slot) => {
@@ -76,7 +76,7 @@ impl<P: PtrCore, T: Drop, S: ArenaSlots<P, T>> Arena<P, T, S> {
             ≡ pointer_of_entry (entry_at self.now) (non_zero_usize_get i) }
     {
         // Each slot has an index of the pointer type.
-        let _ = self.own_capacity();
+        recall!(self.own_capacity());
         let inx = P::Inx::try_from_usize(i)?;
         let (generation, _) = self.get_inx(inx)?;
         Some(P::_from_raw(inx, generation))

@@ -21,6 +21,7 @@ use crate::arena::compression::{keep_first, put_entry, renewal, take_entry};
 use crate::arena::{Arena, pointer_at};
 use crate::{ArenaSlots, ArenaTrait, DirectArena, DirectSlots};
 use std::num::NonZeroUsize;
+use proof_marks::recall;
 use triple_arena_ptr::{OptionalInx, PtrCore, ReallocationError};
 
 /// Moves the live entries to the first indexes, as `compress` does, and returns the map from each
@@ -124,7 +125,7 @@ impl<P: PtrCore, T: Drop, S: ArenaSlots<P, T>> Arena<P, T, S> {
         ensures map_formed { IsFormed map.new }
     {
         // The slots are within the capacity, and so are their indexes.
-        let _ = self.own_capacity();
+        recall!(self.own_capacity());
         let (generation, _) = renewal(self.counter, reset);
         compact_noting(&mut self.slots, generation, map);
         self.counter = generation;

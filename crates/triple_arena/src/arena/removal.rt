@@ -13,7 +13,7 @@ use crate::{ArenaSlot, ArenaSlots};
 use std::mem;
 use std::num::NonZeroUsize;
 use triple_arena_ptr::{OptionalInx, PtrCore, PtrGenCore, PtrInxCore};
-use unreached::unreached;
+use proof_marks::{recall, unreached};
 
 impl<P: PtrCore, T: Drop, S: ArenaSlots<P, T>> Arena<P, T, S> {
     // Removes the entry at `i`, which is live, steps the counter, and says whether the generations
@@ -89,6 +89,6 @@ pub(crate) fn equal_uncounted<P: PtrCore>(p: P, q: P)
     ensures { P.Gen.last ≡ None → P.index p ≡ P.index q → p ≡ q }
 {
     // Each is one of the generations.
-    let _ = p.generation().generational_inc();
-    let _ = q.generation().generational_inc();
+    recall!(p.generation().generational_inc());
+    recall!(q.generation().generational_inc());
 }

@@ -14,6 +14,7 @@ use crate::copy::{append_copies, up_to_last};
 use crate::direct::DirectArena;
 use crate::iterators::LentEntry;
 use crate::{ArenaCloneFromWith, ArenaCloneSource, ArenaTrait, DirectSlot, DirectSlots};
+use proof_marks::recall;
 use triple_arena_ptr::{AllocError, PtrCore, ReallocationError};
 
 impl<P: PtrCore, T: Drop, S: DirectSlots<P, T>> ArenaCloneSource<P, T> for DirectArena<P, T, S> {
@@ -21,7 +22,7 @@ impl<P: PtrCore, T: Drop, S: DirectSlots<P, T>> ArenaCloneSource<P, T> for Direc
 
     fn lent_slots(&self) -> &[DirectSlot<P, T>] {
         // Each slot has an index of the pointer type.
-        let _ = self.own_capacity();
+        recall!(self.own_capacity());
         self.slots.as_slice()
     }
 }
@@ -122,7 +123,7 @@ impl<P: PtrCore, T: Drop, S: DirectSlots<P, T>> DirectArena<P, T, S> {
         ensures formed { IsWellFormed self.new }
     {
         // Each slot has an index of the pointer type.
-        let _ = self.own_capacity();
+        recall!(self.own_capacity());
         self.empty();
         match append_copies::<P, T, U, DirectSlot<P, T>, E, S, F>(&mut self.slots, source, map) {
             Ok(live) => {

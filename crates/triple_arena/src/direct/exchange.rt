@@ -11,7 +11,7 @@ use crate::two_values::lend_in_either_order;
 use crate::{DirectSlots, DisjointableArenaTrait};
 use std::num::NonZeroUsize;
 use triple_arena_ptr::PtrCore;
-use unreached::unreached;
+use proof_marks::unreached;
 
 impl<P: PtrCore, T: Drop, S: DirectSlots<P, T>> DisjointableArenaTrait<P, T>
     for DirectArena<P, T, S> {

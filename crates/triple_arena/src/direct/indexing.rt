@@ -6,7 +6,7 @@ ghost use Rattle.triple_arena.specs.DirectContent.{get, with_value as with_value
 use crate::{ArenaTrait, DirectArena, DirectSlots};
 use std::ops::{Index, IndexMut};
 use triple_arena_ptr::PtrCore;
-use unreached::unreached;
+use proof_marks::unreached;
 
 impl<P: PtrCore, T: Drop, S: DirectSlots<P, T>> Index<P> for DirectArena<P, T, S> {
     type Output = T;

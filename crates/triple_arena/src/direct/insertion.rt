@@ -11,7 +11,7 @@ use crate::direct::DirectArena;
 use crate::{DirectSlot, DirectSlots};
 use std::num::NonZeroUsize;
 use triple_arena_ptr::{DirectInsertionError, PtrCore, PtrInxCore};
-use unreached::unreached;
+use proof_marks::{recall, unreached};
 
 // Appends free slots, so that there are `n` at least.
 fn reach<P: PtrCore, T: Drop, S: DirectSlots<P, T>>(slots: &mut S, n: usize)
@@ -58,7 +58,7 @@ impl<P: PtrCore, T: Drop, S: DirectSlots<P, T>> DirectArena<P, T, S> {
             (P.Gen.number generation) t }
     {
         // The capacity is a `usize`, so one live entry more can be counted.
-        let _ = self.own_capacity();
+        recall!(self.own_capacity());
         reach(&mut self.slots, i.get());
         *self.slots.item_mut(i) = DirectSlot::used(generation, t);
         self.len += 1;

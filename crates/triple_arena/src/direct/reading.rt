@@ -11,7 +11,7 @@ use crate::slot::ValueMut;
 use crate::{ArenaTrait, DirectSlots};
 use std::num::NonZeroUsize;
 use triple_arena_ptr::{PtrCore, PtrInxCore};
-use unreached::unreached;
+use proof_marks::{recall, unreached};
 
 impl<P: PtrCore, T: Drop, S: DirectSlots<P, T>> DirectArena<P, T, S> {
     // The index of the entry that `p` points to, if it is live.
@@ -20,7 +20,7 @@ impl<P: PtrCore, T: Drop, S: DirectSlots<P, T>> DirectArena<P, T, S> {
         ensures value { IfSome result (λ i. non_zero_usize_get i ≡ P.index p) }
     {
         // The number of slots is a `usize`, so no index past that is live.
-        let _ = self.slots.len();
+        recall!(self.slots.len());
         match p.inx().try_into_usize() {
             Some(i) => match self.get_inx(p.inx()) {
                 Some((generation, _)) if generation == p.generation() => Some(i),
@@ -46,7 +46,7 @@ impl<P: PtrCore, T: Drop, S: DirectSlots<P, T>> DirectArena<P, T, S> {
         ensures value { IfSome result (λ i. non_zero_usize_get i ≡ P.Inx.number inx) }
     {
         // The number of slots is a `usize`, so no index past that is live.
-        let _ = self.slots.len();
+        recall!(self.slots.len());
         match inx.try_into_usize() {
             Some(i) if self.is_live(i) => Some(i),
             _ => None,
@@ -78,7 +78,7 @@ impl<P: PtrCore, T: Drop, S: DirectSlots<P, T>> DirectArena<P, T, S> {
             ≡ pointer_of_entry (entry_at self.now) (non_zero_usize_get i) }
     {
         // Each slot has an index of the pointer type.
-        let _ = self.own_capacity();
+        recall!(self.own_capacity());
         let inx = P::Inx::try_from_usize(i)?;
         let (generation, _) = self.get_inx(inx)?;
         Some(P::_from_raw(inx, generation))

@@ -20,7 +20,7 @@ use std::num::NonZeroUsize;
 use triple_arena::{
     Arena, ArenaTrait, DisjointableArenaTrait, InvalidationOption, PtrCore, PtrInxCore,
 };
-use unreached::unreached;
+use proof_marks::{recall, unreached};
 
 // Whether two indexes are one.
 pub(crate) fn is_one<I: PtrInxCore>(i: I, j: I) -> bool
@@ -187,7 +187,7 @@ where
     ensures within { result ≤ length arena.old.slots }
 {
     // Each live index is one of the pointers'.
-    let _ = arena.capacity();
+    recall!(arena.capacity());
     let start = behind(first);
     let (head, round) = unplaced_start(arena, start, first);
     bring(arena, None, head, start);
@@ -245,7 +245,7 @@ where
     ensures formed { IsWellFormed arena.new }
 {
     // Each live index is one of the pointers'.
-    let _ = arena.capacity();
+    recall!(arena.capacity());
     let mut before = None;
     let mut count = 0;
     'link: while count < len {

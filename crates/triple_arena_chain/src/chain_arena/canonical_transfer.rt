@@ -28,7 +28,7 @@ use triple_arena::{
     ReallocationError,
 };
 use triple_arena_ptr::OptionalInx;
-use unreached::unreached;
+use proof_marks::{recall, unreached};
 
 // Takes the link at `i`, which is live, out of an arena, and leaves the interlinks of all others as
 // they are. It returns the pointer, the value with what its removal tells, and the next index.
@@ -176,7 +176,7 @@ where
     ensures room { source.new.room ≡ source.old.room }
 {
     // Each live index is one of the pointers'.
-    let _ = target.capacity();
+    recall!(target.capacity());
     let mut advancer = source.advancer();
     'chain: while let Some(p) = advancer.advance(source) {
         let start = chain_start(source, p.inx());

@@ -15,6 +15,7 @@ use crate::chain_arena::interlinks::{read_next, read_prev, set_next, set_prev};
 use crate::chain_arena::mapping::{compact_links, renew_links};
 use crate::{ChainSlots, LinkNoGen};
 use std::num::NonZeroUsize;
+use proof_marks::recall;
 use triple_arena::{Advancer, Arena, ArenaTrait, InvalidationOption, PtrCore, PtrInxCore};
 
 // Gives each link, as its previous index, the one that it gets if the links go to the first
@@ -29,7 +30,7 @@ where
     ensures formed { IsWellFormed arena.new }
 {
     // Each live index is one of the pointers'.
-    let _ = arena.capacity();
+    recall!(arena.capacity());
     let mut count = 0;
     let mut advancer = arena.advancer();
     while let Some(p) = advancer.advance(arena) {

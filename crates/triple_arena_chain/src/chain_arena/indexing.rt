@@ -6,7 +6,7 @@ ghost use Rattle.triple_arena_chain.specs.Links.{values_in};
 use crate::{ChainArena, ChainSlots};
 use std::ops::{Index, IndexMut};
 use triple_arena::{ArenaTrait, PtrCore};
-use unreached::unreached;
+use proof_marks::unreached;
 
 impl<P: PtrCore, T: Drop, S: ChainSlots<P, T>> Index<P> for ChainArena<P, T, S> {
     type Output = T;

@@ -13,7 +13,7 @@ use std::iter::FusedIterator;
 use std::marker::Model;
 use triple_arena::{ArenaTrait, PtrCore, PtrInxCore};
 use triple_arena_ptr::OptionalInx;
-use unreached::unreached;
+use proof_marks::unreached;
 
 /// The pointers and the links of one chain, from a link on to the end and then backwards from the
 /// link before it, or once round a ring: seen as the list of the entries that are left.

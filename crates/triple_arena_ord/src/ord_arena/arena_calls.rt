@@ -26,6 +26,7 @@ use crate::ord_arena::mapping::compact_nodes;
 use crate::ord_arena::removal::neighbors;
 use crate::rebuild::rebuild;
 use crate::{OrdSlots, SimpleOrdArena};
+use proof_marks::recall;
 use triple_arena::arena_iterators::PtrAdvancer;
 use triple_arena::{
     ArenaTrait, CompactArenaTrait, InvalidationOption, InvalidationResult, PtrCore,
@@ -216,7 +217,7 @@ impl<P: PtrCore, T: Drop, S: OrdSlots<P, T>> ArenaTrait<P, T> for SimpleOrdArena
         self.last = ends.1;
         self.root = rebuild(&mut self.chains, ends.0);
         // The links are as they must be.
-        let _ = self.chains.len();
+        recall!(self.chains.len());
         answer
     }
 }

@@ -12,6 +12,7 @@ ghost use Rattle.triple_arena_ord.specs.CanonicalLayout.{IsLaidInOrder};
 use crate::rebuild_run::rebuild_run;
 use crate::{OrdSlots, SimpleOrdArena};
 use std::num::NonZeroUsize;
+use proof_marks::recall;
 use triple_arena::{ArenaTrait, InvalidationOption, PtrCore, PtrInxCore};
 
 // The first and the last of so many indexes from 1 on.
@@ -40,7 +41,7 @@ impl<P: PtrCore, T: Drop, S: OrdSlots<P, T>> SimpleOrdArena<P, T, S> {
     {
         let answer = self.chains.compress_canonical(reset);
         // So many indexes are the pointers'.
-        let _ = self.chains.capacity();
+        recall!(self.chains.capacity());
         let (first, last) = ends_of_run(self.chains.len());
         self.first = first;
         self.last = last;

@@ -13,6 +13,7 @@ use crate::ord_arena::canonical_layout::ends_of_run;
 use crate::ord_arena::link_moves::move_items;
 use crate::rebuild_run::rebuild_run;
 use crate::{OrdSlots, SimpleOrdArena, SimpleOrdArenaNode};
+use proof_marks::recall;
 use triple_arena::{ArenaTrait, InvalidationOption, PtrCore, ReallocationError};
 use triple_arena_chain::ChainArena;
 
@@ -78,7 +79,7 @@ impl<P: PtrCore, T: Drop, S: OrdSlots<P, T>> SimpleOrdArena<P, T, S> {
         source.first = None;
         source.last = None;
         // So many indexes are the pointers'.
-        let _ = self.chains.capacity();
+        recall!(self.chains.capacity());
         let (first, last) = ends_of_run(self.chains.len());
         self.first = first;
         self.last = last;

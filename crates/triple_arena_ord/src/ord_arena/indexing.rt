@@ -6,7 +6,7 @@ ghost use Rattle.triple_arena_ord.specs.Ordered.{entry_in};
 use crate::{OrdSlots, SimpleOrdArena};
 use std::ops::{Index, IndexMut};
 use triple_arena::{ArenaTrait, PtrCore};
-use unreached::unreached;
+use proof_marks::unreached;
 
 impl<P: PtrCore, T: Drop, S: OrdSlots<P, T>> Index<P> for SimpleOrdArena<P, T, S> {
     type Output = T;

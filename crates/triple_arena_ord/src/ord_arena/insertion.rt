@@ -22,7 +22,7 @@ use std::mem;
 use triple_arena::{ArenaTrait, PtrCore, PtrInxCore, ReallocationError};
 use triple_arena_chain::ChainArena;
 use triple_arena_ptr::{OrdInsertionError, Probes};
-use unreached::unreached;
+use proof_marks::unreached;
 
 // Another item in a node, and the one that it had.
 fn renew<P: PtrCore, T: Drop, S: OrdSlots<P, T>>(

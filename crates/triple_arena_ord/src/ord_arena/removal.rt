@@ -11,7 +11,7 @@ use crate::uprooting::take_entry;
 use crate::{OrdSlots, SimpleOrdArena, SimpleOrdArenaNode};
 use triple_arena::{PtrCore, PtrInxCore};
 use triple_arena_chain::{ChainArena, ChainArenaTrait};
-use unreached::unreached;
+use proof_marks::unreached;
 
 // The neighbors of an index in the list.
 pub(crate) fn neighbors<P: PtrCore, T: Drop, S: OrdSlots<P, T>>(

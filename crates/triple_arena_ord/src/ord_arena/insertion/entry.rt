@@ -19,7 +19,7 @@ use crate::{OrdEntryKind, OrdInsertKind, OrdSlots, SimpleOrdArena, SimpleOrdItem
 use std::cmp::Ordering;
 use triple_arena::{ArenaTrait, PtrCore};
 use triple_arena_ptr::OrdInsertionError;
-use unreached::unreached;
+use proof_marks::{recall, unreached};
 
 /// Room for one item more. Dropped unused, it leaves the entries as they are.
 #[derive(Drop)]
@@ -59,7 +59,7 @@ impl<'a, P: PtrCore, T: Drop, S: OrdSlots<P, T>> SimpleOrdArenaInsertEntry<'a, P
             ptr: _,
         } = self;
         // The list is as it must be.
-        let _ = arena.len();
+        recall!(arena.len());
         let place = arena.settle(place);
         match arena.insert_at_within_capacity(place, t) {
             Ok((_, replaced)) => replaced,

@@ -7,6 +7,7 @@ ghost use Rattle.triple_arena_ord.specs.Ordered.{entry_in, size_in};
 
 use crate::{OrdSlots, SimpleOrdArena};
 use std::cmp::Ordering;
+use proof_marks::recall;
 use triple_arena::{ArenaTrait, PtrCore};
 use triple_arena_ptr::OrdInsertionError;
 
@@ -50,7 +51,7 @@ impl<P: PtrCore, T: Drop, S: OrdSlots<P, T>> SimpleOrdArena<P, T, S> {
             (P.index result) (P.generation result) t self.old self.new }
     {
         // The list is as it must be.
-        let _ = self.len();
+        recall!(self.len());
         let place = self.settle(place);
         self.put_at(place, t)
     }

@@ -11,7 +11,7 @@ use crate::{OrdSlots, SimpleOrdArena};
 use rank_tree::{Knots, Side};
 use std::cmp::Ordering;
 use triple_arena::PtrCore;
-use unreached::unreached;
+use proof_marks::unreached;
 
 impl<P: PtrCore, T: Drop, S: OrdSlots<P, T>> SimpleOrdArena<P, T, S> {
     // Where a new leaf hangs that stands directly before an index: there, or on the right of the

@@ -16,6 +16,7 @@ use crate::ord_arena::removal::neighbors;
 use crate::{OrdSlots, SimpleOrdArena, SimpleOrdItem};
 use std::cmp::Ordering;
 use std::mem;
+use proof_marks::recall;
 use triple_arena::{ArenaTrait, PtrCore};
 use triple_arena_ptr::{OptionalInx, Probes};
 
@@ -77,7 +78,7 @@ impl<P: PtrCore, T: SimpleOrdItem + Drop, S: OrdSlots<P, T>> SimpleOrdArena<P, T
             ≡ Some (P.generation p)) }
     {
         // The list is as it must be.
-        let _ = self.len();
+        recall!(self.len());
         match neighbors(&self.chains, i).1 {
             Some(next) => Some(self.ptr_to(next)),
             None => None,

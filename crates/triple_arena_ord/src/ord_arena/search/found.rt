@@ -9,7 +9,7 @@ use crate::{OrdSlots, SimpleOrdArenaNode};
 use std::cmp::Ordering;
 use triple_arena::{ArenaTrait, PtrCore, PtrInxCore};
 use triple_arena_chain::ChainArena;
-use unreached::unreached;
+use proof_marks::unreached;
 
 // The pointer to the entry at an index that is live.
 pub(crate) fn ptr_at<P: PtrCore, T: Drop, S: OrdSlots<P, T>>(
