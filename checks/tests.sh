@@ -8,7 +8,8 @@ case $check in
     store-tests) crate=test_route_book ;;
     user-tests)
         crate=user_tests
-        tested='examples ord_examples caller_arena side_table triple_arena_chain triple_arena'
+        tested='example_chain example_ord promise_arena_users side_table'
+        tested+=' triple_arena_chain triple_arena'
         tested+=' triple_arena_ptr'
         mkdir -p "$work/crates/$crate/src/tests"
         printf '#![tactic(auto)]\n\n#[cfg(test)]\nmod tests;\n' >"$work/crates/$crate/src/lib.rt"

@@ -565,7 +565,7 @@ class Arena:
         if verb in ('get_inx_link_no_gen', 'get_inx_node'):
             ends = f'({option(self.neighbor(i, -1))}, {option(self.neighbor(i, 1))})'
             told = [f'({self.gen(self.e[i][0])}, {ends}, {self.item(i)})']
-            return told if verb == 'get_inx_link_no_gen' else told + [self.knot(i)]
+            return told if verb == 'get_inx_link_no_gen' else told + [self.node(i)]
         if verb == 'rank':
             return [self.rank(i)]
         at = option(self.item(i)) if self.live(i, g) else 'None'
@@ -612,7 +612,7 @@ class Arena:
             return '1'
         raise Open
 
-    def knot(self, i):
+    def node(self, i):
         """The parent and the children, where there is one shape alone."""
         if self.nodes:
             return '(' + ', '.join(option(it) for it in self.nodes[i][:3]) + ')'

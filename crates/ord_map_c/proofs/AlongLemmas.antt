@@ -1,4 +1,5 @@
 -- The entries along a list of indexes of an arena.
+use Rattle.std.specs.List.{AllByRecursion}
 use Rattle.std.proofs.Common.{◌≡◌, ◌≢◌, ◌∙◌, sym, ap, subst, refl, ℕ, zero, suc}
 use Rattle.std.proofs.Common.{◌+◌, List, [], ◌∷◌, ◌++◌, Option, Some, None, IsSome}
 use Rattle.std.proofs.Common.{IfNone, IfSome, option_map}
@@ -9,7 +10,6 @@ use Rattle.std.specs.Int.NonZero.{non_zero_u32_get}
 use Rattle.std.specs.Ordering.{nat_cmp, is_lt}
 use Rattle.std.specs.declared.cmp.Ordering.{Ordering}
 use Rattle.std.specs.declared.cmp.Ordering.TheVariants.{Less, Greater}
-use Rattle.rank_tree.specs.Search.{AllIn}
 use Rattle.triple_arena_chain.specs.Chains.{On, Off, Apart}
 use Rattle.triple_arena_chain.specs.ListLaws.{Apart-split}
 use Rattle.triple_arena_chain.specs.Links.{ends_in}
@@ -90,7 +90,7 @@ module _ (at : ℕ → Option (ℕ × Pair)) where
     abbrev pub asked : ℕ → Ordering
     asked i = asked_of nat_cmp key_in key (at i)
 
-    pub below_along : (w : List ℕ) → AllIn (λ i. asked i ≡ Greater) w → Below key (along w)
+    pub below_along : (w : List ℕ) → AllByRecursion (λ i. asked i ≡ Greater) w → Below key (along w)
     below_along [] all = tt
     below_along (i ∷ w) all = by (at i) refl all.0 (below_along w all.1)
       where
@@ -102,7 +102,7 @@ module _ (at : ℕ → Option (ℕ × Pair)) where
             subst (Below key) (sym (along_some i w e is))
             (ranked key e.1.k Greater (sym way), rest)
 
-    pub above_along : (w : List ℕ) → AllIn (λ i. asked i ≡ Less) w → Above key (along w)
+    pub above_along : (w : List ℕ) → AllByRecursion (λ i. asked i ≡ Less) w → Above key (along w)
     above_along [] all = tt
     above_along (i ∷ w) all = by (at i) refl all.0 (above_along w all.1)
       where
@@ -141,15 +141,15 @@ ascending (x ∷ y ∷ l) rise (suc k) d low high =
 
 -- each live index stands in the list
 abbrev pub AllStand : Type 0
-AllStand = (o : Arena) (i : ℕ) → IsOrdered non_zero_u32_get o → IsSome (entry_in o i)
-    → On (order_in non_zero_u32_get o) i
+AllStand = (o : Arena) (i : ℕ) → IsOrdered o → IsSome (entry_in o i)
+    → On (order_in o) i
 
 -- an index of the list does not stand before or behind itself
-pub apart_of : (o : Arena) → IsOrdered non_zero_u32_get o → (front back : List ℕ) (i : ℕ)
-    → order_in non_zero_u32_get o ≡ front ++ i ∷ back → Off front i × Off back i
+pub apart_of : (o : Arena) → IsOrdered o → (front back : List ℕ) (i : ℕ)
+    → order_in o ≡ front ++ i ∷ back → Off front i × Off back i
 apart_of o ordered front back i is =
     Apart-split front back i (subst Apart is
-    (linear_apart (ends_in non_zero_u32_get o.chains) None (order_in non_zero_u32_get o)
+    (linear_apart (ends_in o.chains) None (order_in o)
     ordered.linear))
 
 -- an entry stands in the list
@@ -158,7 +158,7 @@ pub record Standing (o : Arena) (e : Entry) : Type 0 where
   pub high : List Entry
   pub is : listed o ≡ low ++ e ∷ high
 
-pub standing : (o : Arena) → IsOrdered non_zero_u32_get o → AllStand → (i : ℕ) (e : ℕ × Pair)
+pub standing : (o : Arena) → IsOrdered o → AllStand → (i : ℕ) (e : ℕ × Pair)
     → entry_in o i ≡ Some e → Standing o (i, e)
 standing o ordered law i e is =
     let on = law o i ordered (rw is refl) in
@@ -169,7 +169,7 @@ standing o ordered law i e is =
     }
 
 pub ascends : (o : Arena) → KeysRise (listed o)
-    → IsAscending non_zero_u32_get nat_cmp key_in o
+    → IsAscending nat_cmp key_in o
 ascends o rise = ascending (listed o) rise
 
 -- an entry that stands in the arena has its key in the list

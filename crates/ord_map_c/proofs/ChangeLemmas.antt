@@ -23,7 +23,7 @@ use Rattle.std.specs.declared.num.NonZeroU32.{NonZeroU32}
 use Rattle.triple_arena_chain.specs.Links.{valued}
 use Rattle.triple_arena_chain.specs.LinkShape.{IndexLink}
 use Rattle.triple_arena_ord.specs.Ascending.{entries_along}
-use Rattle.triple_arena_ord.specs.Node.{itemed, knot_of}
+use Rattle.triple_arena_ord.specs.Node.{itemed, view_of}
 use Rattle.triple_arena_ord.specs.NodeShape.{IndexNode}
 use Rattle.triple_arena_ord.specs.States.{reallocated_in}
 use Rattle.triple_arena_ord.specs.Inserted.{InsertsByKey, IsAdded, IsReplaced, IsPlacedByKey}
@@ -80,7 +80,7 @@ module _ (old new : Arena) (map : IsMap old) (law : AllStand) where
     pub was : with_key (listed old) t.k ≡ Some (i, (g, u))
     pub rise : KeysRise (listed new)
 
-  pub rewritten : (i g : ℕ) (t u : Pair) → t.k ≡ u.k → IsReplaced non_zero_u32_get i g t u old new
+  pub rewritten : (i g : ℕ) (t u : Pair) → t.k ≡ u.k → IsReplaced i g t u old new
       → Rewritten i g t u
   rewritten i g t u same replaced =
       let on = law old i map.ordered (rw replaced.was refl) in
@@ -115,9 +115,9 @@ module _ (old new : Arena) (map : IsMap old) (law : AllStand) where
     pub absent : with_key (listed old) t.k ≡ None
     pub rise : KeysRise (listed new)
 
-  pub entered : (i g : ℕ) (t : Pair) → IsOrdered non_zero_u32_get new
-      → IsPlacedByKey non_zero_u32_get nat_cmp key_in t.k i old new
-      → IsAdded non_zero_u32_get i g t old new → Entered i g t
+  pub entered : (i g : ℕ) (t : Pair) → IsOrdered new
+      → IsPlacedByKey nat_cmp key_in t.k i old new
+      → IsAdded i g t old new → Entered i g t
   entered i g t ordered placed added =
       let apart = apart_of new ordered placed.before placed.after i placed.is in
       let other : (k : ℕ) → k ≢ i → entry_in new k ≡ entry_in old k =
@@ -153,7 +153,7 @@ module _ (old new : Arena) (map : IsMap old) (law : AllStand) where
     pub rise : KeysRise (listed new)
 
   pub taken_out : (last : Option ℕ) (i g : ℕ) (t : Pair)
-      → IsEntryRemoved non_zero_u32_get last i old new
+      → IsEntryRemoved last i old new
       → entry_in old i ≡ Some (g, t) → TakenOut t
   taken_out last i g t removed is =
       let loses = removed.order in
@@ -204,7 +204,7 @@ module _ (old new : Arena) (map : IsMap old) (law : AllStand) where
             ∙ ap Some (sym (nat_cmp_is key e.1.k Equal (sym same)))) in
             rw (is, ne_eqb e.1.k key apart) rest
 
-    pub put_is : InsertsByKey non_zero_u32_get nat_cmp key_in index generation (Some true) own made
+    pub put_is : InsertsByKey nat_cmp key_in index generation (Some true) own made
         old new
         → IsPut key value (as_put made index generation) old new
     put_is inserts = by made refl
@@ -248,7 +248,7 @@ module _ (old new : Arena) (map : IsMap old) (law : AllStand) where
               added = λ never. absurd (let no : Some u.v ≡ None = never in cc);
               replaced = λ was equal.
                   (let value_is : u.v ≡ was = cc in
-                  subst (λ (x : Pair). IsReplaced non_zero_u32_get (index p) (generation p) own x
+                  subst (λ (x : Pair). IsReplaced (index p) (generation p) own x
                   old new)
                   (ap (λ n. pair n u.v) (sym same) ∙ ap (pair key) value_is) both.1);
               same = λ _. ap (option_map pointer_of) now.was;
@@ -270,7 +270,7 @@ module _ (old new : Arena) (map : IsMap old) (law : AllStand) where
         by (Err e) is =
             let why = inserts.inserted.refused e is in
             let same = inserts.inserted.same e is in
-            let absent = none_equal (order_in non_zero_u32_get old)
+            let absent = none_equal (order_in old)
             (inserts.inserted.absent e is (ascends old map.rise)) in
             refusal e is why same absent
           where
@@ -389,10 +389,10 @@ paired o i generation key = by (entry_in o i) refl
 -- the list is as it was
 pub listed-reallocated : (o : Arena) (n : ℕ) → listed (reallocated_in o n) ≡ listed o
 listed-reallocated o n =
-    ap (λ (e : ℕ → Option (ℕ × IndexLink NonZeroU32 (IndexNode NonZeroU32 Pair))). entries_along
+    ap (λ (e : ℕ → Option (ℕ × IndexLink (IndexNode Pair))). entries_along
     (λ i. option_map itemed (option_map valued (e i)))
     (walk (tree_of (λ i. option_map
-    (λ (x : ℕ × IndexNode NonZeroU32 Pair). knot_of non_zero_u32_get x.1)
+    (λ (x : ℕ × IndexNode Pair). view_of x.1)
     (option_map valued (e i))) o.root)))
     (λ j k. same k j)
   where

@@ -2,7 +2,6 @@
 use Rattle.std.proofs.Common.{◌≡◌, ◌≢◌, ◌∙◌, sym, ap, subst, refl, ℕ, Option, Some, None}
 use Rattle.std.proofs.Common.{Result, Ok, Err, option_map, inl, inr, true}
 use Rattle.std.specs.Cmp.{ranked}
-use Rattle.std.specs.Int.NonZero.{non_zero_u32_get}
 use Rattle.std.specs.Ordering.{nat_cmp}
 use Rattle.std.specs.declared.cmp.Ordering.TheVariants.{Equal}
 use Rattle.std.proofs.lemmas.Bool.{eq-eqb}
@@ -37,12 +36,12 @@ stays o map law h key value is =
     let i = h.index in
     let g = h.generation in
     let own = pair key value in
-    let again : IsReplaced non_zero_u32_get i g own own o o = record {
+    let again : IsReplaced i g own own o o = record {
       was = is;
       order = refl;
       entries = written_again (entry_in o) i (g, own) is;
       root = refl;
-      knots = λ k. refl;
+      nodes = λ k. refl;
       kept = record { live = refl; slots = refl; free = refl; counter = refl; room = refl };
     } in
     let now = rewritten o o map law i g own own refl again in
@@ -52,7 +51,7 @@ stays o map law h key value is =
       pairs = again.entries;
       added = λ never. absurd (let no : Some value ≡ None = never in cc);
       replaced = λ was equal. (let value_is : value ≡ was = cc in
-          subst (λ n. IsReplaced non_zero_u32_get i g own (pair key n) o o) value_is again);
+          subst (λ n. IsReplaced i g own (pair key n) o o) value_is again);
       same = λ _. ap (option_map pointer_of) now.was;
       found = found_there (entry_in o) (entry_in o) i g own again.entries;
       others = λ j h other. refl;
@@ -84,11 +83,11 @@ came_back (Err e) = None
 module _ {P : Type 0} (index generation : P → ℕ) (old new : Arena) (map : IsMap old)
     (law : AllStand) (key value : ℕ) (made : Result (P × Option Pair) OrdInsertionError)
     (given : Pair) (is_key : given.k ≡ key) (is_value : given.v ≡ value)
-    (by_given : GetsOrInserts non_zero_u32_get nat_cmp key_in index generation (Some true) given
+    (by_given : GetsOrInserts nat_cmp key_in index generation (Some true) given
     made old new) where
-  gets : GetsOrInserts non_zero_u32_get nat_cmp key_in index generation (Some true)
+  gets : GetsOrInserts nat_cmp key_in index generation (Some true)
       (pair key value) made old new
-  gets = subst (λ (t : Pair). GetsOrInserts non_zero_u32_get nat_cmp key_in index generation
+  gets = subst (λ (t : Pair). GetsOrInserts nat_cmp key_in index generation
       (Some true) t made old new) (pair_is given key value is_key is_value) by_given
 
   pub kept : (p : P) (f : Option Pair) (u : Pair) → made ≡ Ok (p, f) → f ≡ Some u → new ≡ old

@@ -22,7 +22,7 @@ use Rattle.triple_arena_ord.specs.Found.{IsFound, IsSimilar, Answers}
 use Rattle.triple_arena_ord.specs.Ordered.{IsAscending, asked_at, entry_in, order_in}
 use Rattle.triple_arena_ord.specs.OrderedWalks.{IsEnd, IsFrom, OrderedSteps, OrderedWalk, left_over}
 use Rattle.triple_arena_ord.specs.OrderedWalks.{entries_left, from_index, walk_at}
-use Rattle.rank_tree.specs.Search.{Places}
+use Rattle.rank_tree.specs.Search.{EndsAt}
 use Rattle.ord_map_c.specs.Entries.{Entry, Pair, KeysRise, key_of, pointer_of, with_key, from_key}
 use Rattle.ord_map_c.specs.Entries.{past_key, below_key, first_of, last_of, entry, pair}
 use Rattle.ord_map_c.specs.State.{Arena, IsMap, StandsUnder, listed, nearest_in, beside_in}
@@ -93,12 +93,12 @@ module _ {P : Type 0} (index generation : P → ℕ) (o : Arena) (key : ℕ) (ma
 
   pub found_is : (result : Option P)
       → IsFound index generation (asked_at nat_cmp key_in key o)
-      (IsAscending non_zero_u32_get nat_cmp key_in o) result o
+      (IsAscending nat_cmp key_in o) result o
       → option_map {U = ℕ × ℕ} (λ p. (index p, generation p)) result
       ≡ option_map pointer_of (with_key (listed o) key)
   found_is None found = sym (ap (option_map pointer_of)
       (none_along (entry_in o) key (found.none (ascends o map.rise) refl)
-      (order_in non_zero_u32_get o)))
+      (order_in o)))
   found_is (Some p) found = answered p (found.some p refl)
 
   -- ---- bounds
@@ -108,7 +108,7 @@ module _ {P : Type 0} (index generation : P → ℕ) (o : Arena) (key : ℕ) (ma
   firsts (e ∷ l) = refl
 
   pub lower_is : (result : Option P)
-      → IsBound non_zero_u32_get index generation (λ t. nat_cmp key (key_in t) ≡ Greater) result o
+      → IsBound index generation (λ t. nat_cmp key (key_in t) ≡ Greater) result o
       → option_map {U = ℕ × ℕ} (λ p. (index p, generation p)) result
       ≡ option_map pointer_of (first_of (from_key (listed o) key))
   lower_is result bound =
@@ -140,7 +140,7 @@ module _ {P : Type 0} (index generation : P → ℕ) (o : Arena) (key : ℕ) (ma
           by Greater is never = absurd (never (sym is))
 
   pub upper_is : (result : Option P)
-      → IsBound non_zero_u32_get index generation (λ t. nat_cmp key (key_in t) ≢ Less) result o
+      → IsBound index generation (λ t. nat_cmp key (key_in t) ≢ Less) result o
       → option_map {U = ℕ × ℕ} (λ p. (index p, generation p)) result
       ≡ option_map pointer_of (first_of (past_key (listed o) key))
   upper_is result bound =
@@ -212,7 +212,7 @@ module _ {P : Type 0} (index generation : P → ℕ) (o : Arena) (key : ℕ) (ma
 
   module _ (p : P) (t : Pair) (is : entry_in o (index p) ≡ Some (generation p, t))
       (places : (d : Ordering) → asked_at nat_cmp key_in key o (index p) ≡ d
-      → Places (asked_at nat_cmp key_in key o) (order_in non_zero_u32_get o) (index p) d) where
+      → EndsAt (asked_at nat_cmp key_in key o) (order_in o) (index p) d) where
     abbrev own : Entry
     own = (index p, (generation p, t))
 
@@ -289,19 +289,19 @@ module _ {P : Type 0} (index generation : P → ℕ) (o : Arena) (key : ℕ) (ma
       some (Some e) same = refl
 
   pub nearest_is : (result : Option (P × Ordering))
-      → IsSimilar index generation non_zero_u32_get (asked_at nat_cmp key_in key o)
-      (IsAscending non_zero_u32_get nat_cmp key_in o) result o
+      → IsSimilar index generation (asked_at nat_cmp key_in key o)
+      (IsAscending nat_cmp key_in o) result o
       → (p : P) (d : Ordering) → result ≡ Some (p, d) → IsNearest p d
   nearest_is result similar p d is =
       let found = similar.some p d is in
       let at = live_at o (index p) (generation p) found.live in
-      by d found (λ e way. subst (Places (asked_at nat_cmp key_in key o)
-      (order_in non_zero_u32_get o) (index p)) (sym found.way ∙ way)
+      by d found (λ e way. subst (EndsAt (asked_at nat_cmp key_in key o)
+      (order_in o) (index p)) (sym found.way ∙ way)
       (similar.places (ascends o map.rise) p d is))
     where
       by : (d : Ordering) → Answers index generation (asked_at nat_cmp key_in key o) o p d
           → ((e : Ordering) → asked_at nat_cmp key_in key o (index p) ≡ e
-          → Places (asked_at nat_cmp key_in key o) (order_in non_zero_u32_get o) (index p) e)
+          → EndsAt (asked_at nat_cmp key_in key o) (order_in o) (index p) e)
           → IsNearest p d
       by Less found places =
           let at = live_at o (index p) (generation p) found.live in
@@ -314,12 +314,12 @@ module _ {P : Type 0} (index generation : P → ℕ) (o : Arena) (key : ℕ) (ma
   -- ---- the ends
 
   pub first_is : (result : Option P)
-      → IsEnd index generation (first_or (order_in non_zero_u32_get o) None) result o
+      → IsEnd index generation (first_or (order_in o) None) result o
       → option_map {U = ℕ × ℕ} (λ p. (index p, generation p)) result
       ≡ option_map pointer_of (first_of (listed o))
-  first_is result end = by (order_in non_zero_u32_get o) refl result end.at end.live
+  first_is result end = by (order_in o) refl result end.at end.live
     where
-      by : (w : List ℕ) → order_in non_zero_u32_get o ≡ w → (r : Option P)
+      by : (w : List ℕ) → order_in o ≡ w → (r : Option P)
           → option_map index r ≡ first_or w None
           → Rattle.std.specs.Prelude.IfSome r
           (λ p. generation_at (entry_in o) (index p) ≡ Some (generation p))
@@ -338,13 +338,13 @@ module _ {P : Type 0} (index generation : P → ℕ) (o : Arena) (key : ℕ) (ma
           sym (ap (λ l. option_map pointer_of (first_of l)) list)
 
   pub last_is : (result : Option P)
-      → IsEnd index generation (last_or None (order_in non_zero_u32_get o)) result o
+      → IsEnd index generation (last_or None (order_in o)) result o
       → option_map {U = ℕ × ℕ} (λ p. (index p, generation p)) result
       ≡ option_map pointer_of (last_of (listed o))
-  last_is result end = by (ended (order_in non_zero_u32_get o)) result end.at end.live
+  last_is result end = by (ended (order_in o)) result end.at end.live
     where
-      by : Ended (order_in non_zero_u32_get o) → (r : Option P)
-          → option_map index r ≡ last_or None (order_in non_zero_u32_get o)
+      by : Ended (order_in o) → (r : Option P)
+          → option_map index r ≡ last_or None (order_in o)
           → Rattle.std.specs.Prelude.IfSome r
           (λ p. generation_at (entry_in o) (index p) ≡ Some (generation p))
           → option_map {U = ℕ × ℕ} (λ p. (index p, generation p)) r
@@ -372,20 +372,20 @@ module _ {P : Type 0} (index generation : P → ℕ) (o : Arena) (key : ℕ) (ma
   -- ---- the neighbors
 
   stepped : (before after : OrderedWalk) (given : Option P) (i : ℕ) (rest : List ℕ)
-      → OrderedSteps non_zero_u32_get o before
+      → OrderedSteps o before
       (option_map {U = ℕ × ℕ} (λ p. (index p, generation p)) given) after
-      → left_over non_zero_u32_get o before ≡ i ∷ rest
-      → left_over non_zero_u32_get o after ≡ rest
+      → left_over o before ≡ i ∷ rest
+      → left_over o after ≡ rest
   stepped before after None i rest over is =
       absurd (let none : i ∷ rest ≡ [] = sym is ∙ over.left in cc)
   stepped before after (Some p) i rest given is =
-      (let both : i ∷ rest ≡ index p ∷ left_over non_zero_u32_get o after =
+      (let both : i ∷ rest ≡ index p ∷ left_over o after =
       sym is ∙ given.left in cc)
 
   first_along : (before after : OrderedWalk) (given : Option P) (w : List ℕ)
-      → OrderedSteps non_zero_u32_get o before
+      → OrderedSteps o before
       (option_map {U = ℕ × ℕ} (λ p. (index p, generation p)) given) after
-      → left_over non_zero_u32_get o before ≡ w
+      → left_over o before ≡ w
       → option_map {U = ℕ × ℕ} (λ p. (index p, generation p)) given
       ≡ option_map pointer_of (first_of (along (entry_in o) w))
   first_along before after None w over is =
@@ -393,35 +393,35 @@ module _ {P : Type 0} (index generation : P → ℕ) (o : Arena) (key : ℕ) (ma
   first_along before after (Some p) w given is =
       let there = live_at o (index p) (generation p) given.live in
       let list : along (entry_in o) w ≡ (index p, (generation p, there.pair))
-      ∷ along (entry_in o) (left_over non_zero_u32_get o after) =
+      ∷ along (entry_in o) (left_over o after) =
       ap (along (entry_in o)) (sym is ∙ given.left)
-      ∙ along_some (entry_in o) (index p) (left_over non_zero_u32_get o after)
+      ∙ along_some (entry_in o) (index p) (left_over o after)
       (generation p, there.pair) there.is in
       sym (ap (λ l. option_map pointer_of (first_of l)) list)
 
   last_along : (before after : OrderedWalk) (given : Option P) (w : List ℕ)
-      → OrderedSteps non_zero_u32_get o before
+      → OrderedSteps o before
       (option_map {U = ℕ × ℕ} (λ p. (index p, generation p)) given) after
-      → left_over non_zero_u32_get o before ≡ reverse w
+      → left_over o before ≡ reverse w
       → option_map {U = ℕ × ℕ} (λ p. (index p, generation p)) given
       ≡ option_map pointer_of (last_of (along (entry_in o) w))
   last_along before after given w step is = by (ended w) given step
     where
       by : Ended w → (r : Option P)
-          → OrderedSteps non_zero_u32_get o before
+          → OrderedSteps o before
           (option_map {U = ℕ × ℕ} (λ p. (index p, generation p)) r) after
           → option_map {U = ℕ × ℕ} (λ p. (index p, generation p)) r
           ≡ option_map pointer_of (last_of (along (entry_in o) w))
       by (none empty) None over =
           sym (ap (λ v. option_map pointer_of (last_of (along (entry_in o) v))) empty)
       by (none empty) (Some p) gives =
-          absurd (let no : index p ∷ left_over non_zero_u32_get o after ≡ [] =
+          absurd (let no : index p ∷ left_over o after ≡ [] =
           sym gives.left ∙ is ∙ ap reverse empty in cc)
       by (some_last ys y there) None over =
           absurd (let no : y ∷ reverse ys ≡ [] =
           sym (reverse-append ys (y ∷ [])) ∙ ap reverse (sym there) ∙ sym is ∙ over.left in cc)
       by (some_last ys y there) (Some p) gives =
-          let both : y ∷ reverse ys ≡ index p ∷ left_over non_zero_u32_get o after =
+          let both : y ∷ reverse ys ≡ index p ∷ left_over o after =
           sym (reverse-append ys (y ∷ [])) ∙ ap reverse (sym there) ∙ sym is ∙ gives.left in
           let same : index p ≡ y = cc in
           let at = live_at o (index p) (generation p) gives.live in
@@ -435,10 +435,10 @@ module _ {P : Type 0} (index generation : P → ℕ) (o : Arena) (key : ℕ) (ma
 
   pub beside_is : (i g : ℕ) (t : Pair) → entry_in o i ≡ Some (g, t) → (back : Bool)
       → (start then end : OrderedWalk) (passed given : Option P)
-      → IsFrom (order_in non_zero_u32_get o) i back (left_over non_zero_u32_get o start)
-      → OrderedSteps non_zero_u32_get o start
+      → IsFrom (order_in o) i back (left_over o start)
+      → OrderedSteps o start
       (option_map {U = ℕ × ℕ} (λ p. (index p, generation p)) passed) then
-      → OrderedSteps non_zero_u32_get o then
+      → OrderedSteps o then
       (option_map {U = ℕ × ℕ} (λ p. (index p, generation p)) given) end
       → option_map {U = ℕ × ℕ} (λ p. (index p, generation p)) given
       ≡ option_map pointer_of (beside_in back (listed o) t.k)
@@ -451,7 +451,7 @@ module _ {P : Type 0} (index generation : P → ℕ) (o : Arena) (key : ℕ) (ma
           ∙ along_split (entry_in o) from.before from.after i (g, t) is
 
       by : (b : Bool)
-          → left_over non_zero_u32_get o then
+          → left_over o then
           ≡ (Rattle.std.specs.Prelude.if◌then◌else◌ b (reverse from.before) from.after)
           → option_map {U = ℕ × ℕ} (λ p. (index p, generation p)) given
           ≡ option_map pointer_of (beside_in b (listed o) t.k)
@@ -470,27 +470,27 @@ module _ {P : Type 0} (index generation : P → ℕ) (o : Arena) (key : ℕ) (ma
 
   -- ---- what is left to a walk
 
-  pub all_left : (p : P) → Some (index p) ≡ first_or (order_in non_zero_u32_get o) None
+  pub all_left : (p : P) → Some (index p) ≡ first_or (order_in o) None
       → (r : Option OrderedWalk) → IfSome r (λ a. a ≡ walk_at (index p) false)
-      → IfSome r (λ w. entries_left non_zero_u32_get o w ≡ listed o)
+      → IfSome r (λ w. entries_left o w ≡ listed o)
   all_left p at None from = tt
-  all_left p at (Some a) from = by (order_in non_zero_u32_get o) refl at
+  all_left p at (Some a) from = by (order_in o) refl at
     where
-      by : (w : List ℕ) → order_in non_zero_u32_get o ≡ w → Some (index p) ≡ first_or w None
-          → entries_left non_zero_u32_get o a ≡ listed o
+      by : (w : List ℕ) → order_in o ≡ w → Some (index p) ≡ first_or w None
+          → entries_left o a ≡ listed o
       by [] is here = absurd (cc)
       by (i ∷ w) is here =
           let same : i ≡ index p = cc in
           let whole : from_index (i ∷ w) (index p) ≡ i ∷ w =
           rw (eq-eqb i (index p) same) refl in
-          ap (entries_left non_zero_u32_get o) from
+          ap (entries_left o) from
           ∙ ap (λ v. along (entry_in o) (from_index v (index p))) is
           ∙ ap (along (entry_in o)) whole ∙ sym (ap (along (entry_in o)) is)
 
   pub rest_left : (i g : ℕ) (t : Pair) → entry_in o i ≡ Some (g, t) → (r : Option OrderedWalk)
-      → IfSome r (λ a. IsFrom (order_in non_zero_u32_get o) i false
-      (left_over non_zero_u32_get o a))
-      → IfSome r (λ w. entries_left non_zero_u32_get o w ≡ from_key (listed o) t.k)
+      → IfSome r (λ a. IsFrom (order_in o) i false
+      (left_over o a))
+      → IfSome r (λ w. entries_left o w ≡ from_key (listed o) t.k)
   rest_left i g t is None from = tt
   rest_left i g t is (Some a) from =
       let low = along (entry_in o) from.before in
@@ -550,6 +550,6 @@ module _ {P : Type 0} (index generation : P → ℕ) (o : Arena) (key : ℕ) (ma
             value = e.1.1.v;
             in_list = there ∙ ap Some whole;
             in_arena = subst (λ (z : Entry). entry_in o z.0 ≡ Some z.1) whole
-                (along_stands (entry_in o) (order_in non_zero_u32_get o) stood.0 stood.1 e
+                (along_stands (entry_in o) (order_in o) stood.0 stood.1 e
                 stood.2);
           }

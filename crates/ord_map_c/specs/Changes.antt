@@ -47,9 +47,9 @@ pub record IsPut (key value : ℕ) (result : Result (Handle × Option ℕ) Refus
   pub pairs : IfOk result (λ r. (i : ℕ) → entry_in new i
       ≡ with_entry (entry_in old) r.0.index (r.0.generation, pair key value) i)
   pub added : IfOk result (λ r. r.1 ≡ None
-      → IsAdded non_zero_u32_get r.0.index r.0.generation (pair key value) old new)
+      → IsAdded r.0.index r.0.generation (pair key value) old new)
   pub replaced : IfOk result (λ r. (was : ℕ) → r.1 ≡ Some was
-      → IsReplaced non_zero_u32_get r.0.index r.0.generation (pair key value) (pair key was) old
+      → IsReplaced r.0.index r.0.generation (pair key value) (pair key was) old
       new)
   pub same : IfOk result (λ r. IsSome r.1
       → option_map pointer_of (with_key (listed old) key) ≡ Some (pair_of r.0))

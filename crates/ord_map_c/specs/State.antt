@@ -16,7 +16,7 @@ use Rattle.ord_map_c.specs.declared.refusal.Refusal.TheVariants.{NoMemory, Full,
 use Rattle.ord_map_c.specs.declared.refusal.Refusal.TheVariants.{NoEntry}
 
 abbrev pub Arena : Type 0
-Arena = Ordered NonZeroU32 Pair
+Arena = Ordered Pair
 
 -- the entries, and whether each generation was given, so that none is left for a further entry
 pub record State : Type 0 where
@@ -25,7 +25,7 @@ pub record State : Type 0 where
 
 -- the entries in the order of their keys
 abbrev pub listed : Arena → List Entry
-listed o = ordered_entries non_zero_u32_get o
+listed o = ordered_entries o
 
 -- the key and the value that a handle finds
 abbrev pub pair_in : Arena → ℕ → ℕ → Option Pair
@@ -55,7 +55,7 @@ pub record IsPast (s : State) (index generation : ℕ) : Type 0 where
 
 -- the list is that of the search tree, and its keys rise
 pub record IsMap (o : Arena) : Type 0 where
-  pub ordered : IsOrdered non_zero_u32_get o
+  pub ordered : IsOrdered o
   pub rise : KeysRise (listed o)
 
 -- while generations are left, no entry has one past that of the next entry

@@ -38,8 +38,7 @@ fn handle_of(p: P3) -> Handle
       index = non_zero_u32_get p.inx;
       generation = non_zero_u32_get p.generation;
     } }
-    ensures pointer { pair_of result
-        ≡ (non_zero_u32_get p.inx, non_zero_u32_get p.generation) }
+    ensures pointer { pair_of result ≡ (non_zero_u32_get p.inx, non_zero_u32_get p.generation) }
 {
     Handle {
         index: p.inx().get(),
@@ -114,8 +113,7 @@ pub(crate) fn find(entries: &Entries, key: u64) -> Option<Handle>
     ensures entry { option_map pair_of result
         ≡ option_map pointer_of (with_key (listed entries.now) key) }
     ensures none { IfNone result (with_key (listed entries.now) key ≡ None) }
-    ensures stands { IfSome result
-        (λ h. StandsUnder entries.now key h.index h.generation) }
+    ensures stands { IfSome result (λ h. StandsUnder entries.now key h.index h.generation) }
 {
     entries_stand_in_the_list::<P3, OrdPair<u64, u64>>();
     handle_if(entries.find_key(&key))
@@ -248,9 +246,8 @@ pub(crate) fn get_or_put(
 // Takes out the entry at an index.
 pub(crate) fn take(entries: &mut Entries, inx: NonZeroU32) -> Option<OrdPair<u64, u64>>
     requires { IsMap entries.old }
-    ensures pair { result
-        ≡ option_map (λ e. e.1) (entry_in entries.old (non_zero_u32_get inx)) }
-    ensures removed { OnSome result (IsEntryRemoved non_zero_u32_get (Some greatest)
+    ensures pair { result ≡ option_map (λ e. e.1) (entry_in entries.old (non_zero_u32_get inx)) }
+    ensures removed { OnSome result (IsEntryRemoved (Some greatest)
         (non_zero_u32_get inx) entries.old entries.new) }
     ensures listed { IfSome result
         (λ t. listed entries.new ≡ without_key (listed entries.old) t.k) }
@@ -272,7 +269,7 @@ pub(crate) fn write(entries: &mut Entries, inx: NonZeroU32, key: u64, value: u64
     ensures exact { entries.new
         ≡ with_item entries.old (non_zero_u32_get inx) (pair_with key value) }
     ensures written { IfSome (entry_in entries.old (non_zero_u32_get inx))
-        (λ e. IsReplaced non_zero_u32_get (non_zero_u32_get inx) e.0 (pair_with key value) e.1
+        (λ e. IsReplaced (non_zero_u32_get inx) e.0 (pair_with key value) e.1
         entries.old entries.new) }
     ensures others { IfSome (entry_in entries.old (non_zero_u32_get inx)) (λ e. (j h : ℕ)
         → (j ≢ non_zero_u32_get inx) ⊎ (h ≢ e.0)
@@ -312,10 +309,10 @@ pub(crate) fn beside(
 
 // The entry where a walk along the list is. The walk goes on from there.
 fn step(entries: &Entries, walk: &mut OrderedPtrAdvancer<P3>) -> Option<(Handle, OrdPair<u64, u64>)>
-    ensures entry { IfSome result (λ e. entries_left non_zero_u32_get entries.now walk.old
-        ≡ (e.0.index, (e.0.generation, e.1)) ∷ entries_left non_zero_u32_get entries.now walk.new) }
-    ensures none { IfNone result (entries_left non_zero_u32_get entries.now walk.old ≡ []) }
-    ensures over { IfNone result (entries_left non_zero_u32_get entries.now walk.new ≡ []) }
+    ensures entry { IfSome result (λ e. entries_left entries.now walk.old
+        ≡ (e.0.index, (e.0.generation, e.1)) ∷ entries_left entries.now walk.new) }
+    ensures none { IfNone result (entries_left entries.now walk.old ≡ []) }
+    ensures over { IfNone result (entries_left entries.now walk.new ≡ []) }
 {
     let Some(p) = walk.advance(entries) else {
         return None;
@@ -329,8 +326,7 @@ fn step(entries: &Entries, walk: &mut OrderedPtrAdvancer<P3>) -> Option<(Handle,
 // A walk along all entries. It is `None` if there is none.
 pub(crate) fn walk_all(entries: &Entries) -> Option<OrderedPtrAdvancer<P3>>
     requires { IsMap entries.now }
-    ensures left { IfSome result
-        (λ w. entries_left non_zero_u32_get entries.now w ≡ listed entries.now) }
+    ensures left { IfSome result (λ w. entries_left entries.now w ≡ listed entries.now) }
     ensures none { IfNone result (listed entries.now ≡ []) }
 {
     entries_stand_in_the_list::<P3, OrdPair<u64, u64>>();
@@ -343,7 +339,7 @@ pub(crate) fn walk_all(entries: &Entries) -> Option<OrderedPtrAdvancer<P3>>
 // A walk along the entries from that which a handle finds on.
 pub(crate) fn walk_from(entries: &Entries, from: Handle) -> Option<OrderedPtrAdvancer<P3>>
     requires { IsMap entries.now }
-    ensures left { IfSome result (λ w. entries_left non_zero_u32_get entries.now w
+    ensures left { IfSome result (λ w. entries_left entries.now w
         ≡ rest_in entries.now from.index from.generation) }
     ensures found { IsSome result ↔ IsSome (pair_in entries.now from.index from.generation) }
 {
@@ -365,21 +361,21 @@ fn fill(
     values: &mut [u64],
 ) -> usize
     ensures handles { map pair_of (take result handles.new)
-        ++ map pointer_of (entries_left non_zero_u32_get entries.now walk.new)
-        ≡ map pointer_of (entries_left non_zero_u32_get entries.now walk.old) }
+        ++ map pointer_of (entries_left entries.now walk.new)
+        ≡ map pointer_of (entries_left entries.now walk.old) }
     ensures keys { take result keys.new
-        ++ map key_of (entries_left non_zero_u32_get entries.now walk.new)
-        ≡ map key_of (entries_left non_zero_u32_get entries.now walk.old) }
+        ++ map key_of (entries_left entries.now walk.new)
+        ≡ map key_of (entries_left entries.now walk.old) }
     ensures values { take result values.new
-        ++ map value_of (entries_left non_zero_u32_get entries.now walk.new)
-        ≡ map value_of (entries_left non_zero_u32_get entries.now walk.old) }
+        ++ map value_of (entries_left entries.now walk.new)
+        ≡ map value_of (entries_left entries.now walk.old) }
     ensures fits { (result ≤ length handles.old) × ((result ≤ length keys.old)
         × (result ≤ length values.old)) }
     ensures lengths { (length handles.new ≡ length handles.old)
         × ((length keys.new ≡ length keys.old) × (length values.new ≡ length values.old)) }
     ensures all { (result ≡ length handles.old) ⊎ ((result ≡ length keys.old)
         ⊎ ((result ≡ length values.old)
-        ⊎ (entries_left non_zero_u32_get entries.now walk.new ≡ []))) }
+        ⊎ (entries_left entries.now walk.new ≡ []))) }
     ensures rest { drop result handles.new ≡ drop result handles.old }
     ensures rest_of_keys { drop result keys.new ≡ drop result keys.old }
     ensures rest_of_values { drop result values.new ≡ drop result values.old }
@@ -400,8 +396,7 @@ fn fill(
 
 // The handle of the entry where a walk is, or zeros if it is at its end.
 fn place(entries: &Entries, walk: &mut OrderedPtrAdvancer<P3>) -> Handle
-    ensures { pair_of result
-        ≡ place_of (entries_left non_zero_u32_get entries.now walk.old) }
+    ensures { pair_of result ≡ place_of (entries_left entries.now walk.old) }
 {
     match step(entries, walk) {
         Some((handle, _)) => handle,
@@ -422,19 +417,18 @@ pub(crate) fn read(
     values: &mut [u64],
 ) -> (usize, Handle)
     ensures handles { map pair_of (take result.0 handles.new) ≡ map pointer_of
-        (take result.0 (entries_left non_zero_u32_get entries.now walk)) }
+        (take result.0 (entries_left entries.now walk)) }
     ensures keys { take result.0 keys.new ≡ map key_of
-        (take result.0 (entries_left non_zero_u32_get entries.now walk)) }
+        (take result.0 (entries_left entries.now walk)) }
     ensures values { take result.0 values.new ≡ map value_of
-        (take result.0 (entries_left non_zero_u32_get entries.now walk)) }
-    ensures next { pair_of result.1
-        ≡ place_of (drop result.0 (entries_left non_zero_u32_get entries.now walk)) }
+        (take result.0 (entries_left entries.now walk)) }
+    ensures next { pair_of result.1 ≡ place_of (drop result.0 (entries_left entries.now walk)) }
     ensures fits { (result.0 ≤ length handles.old) × ((result.0 ≤ length keys.old)
         × (result.0 ≤ length values.old)) }
-    ensures within { result.0 ≤ length (entries_left non_zero_u32_get entries.now walk) }
+    ensures within { result.0 ≤ length (entries_left entries.now walk) }
     ensures all { (result.0 ≡ length handles.old) ⊎ ((result.0 ≡ length keys.old)
         ⊎ ((result.0 ≡ length values.old)
-        ⊎ (result.0 ≡ length (entries_left non_zero_u32_get entries.now walk)))) }
+        ⊎ (result.0 ≡ length (entries_left entries.now walk)))) }
     ensures rest { drop result.0 handles.new ≡ drop result.0 handles.old }
     ensures rest_of_keys { drop result.0 keys.new ≡ drop result.0 keys.old }
     ensures rest_of_values { drop result.0 values.new ≡ drop result.0 values.old }

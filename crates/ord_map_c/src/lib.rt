@@ -15,7 +15,6 @@
 ghost use Rattle.std.specs.Prelude.{◌≡◌, ◌≢◌, ◌⊎◌, ◌+◌, ◌<◌, ◌≤◌, ◌↔◌, ℕ, Some, None};
 ghost use Rattle.std.specs.Prelude.{IsTrue, IsSome, IfSome, false, length, take, drop, []};
 ghost use Rattle.std.specs.Prelude.{length as list_length, map as list_map};
-ghost use Rattle.std.specs.Int.NonZero.{non_zero_u32_get};
 ghost use Rattle.std.specs.Option.{option_map};
 ghost use Rattle.triple_arena_stack.specs.Room.{room_after};
 ghost use Rattle.triple_arena.specs.Content.{arena_capacity};
@@ -40,6 +39,7 @@ pub use handle::Handle;
 use handle::write_found;
 pub use holder::Holder;
 pub use ord_map::OrdMap;
+use proof_marks::recall;
 pub use refusal::Refusal;
 use std::alloc::Global;
 
@@ -127,8 +127,7 @@ pub extern "C" fn ord_map_reserve(alloc: Global, map: &mut Holder, min: usize) -
     ensures lasts { spent map.new.kept ≡ spent map.old.kept }
     ensures ended { (index generation : ℕ) → HasEnded map.old.kept index generation
         → HasEnded map.new.kept index generation }
-    ensures succeeds { OnKept map.old.kept (λ m. min ≤ arena_capacity m.arena.chains)
-        → result ≡ 0 }
+    ensures succeeds { OnKept map.old.kept (λ m. min ≤ arena_capacity m.arena.chains) → result ≡ 0 }
     ensures full { result ≡ 2 ↔ ((map.old.kept ≢ None) × (greatest < min)) }
     ensures no_map { result ≡ 5 ↔ (map.old.kept ≡ None) }
     ensures refused { result ≢ 0 → map.new.kept ≡ map.old.kept }
@@ -162,10 +161,9 @@ pub extern "C" fn ord_map_insert(
     ensures listed { (result ≡ 0) ⊎ (result ≡ 8) → entries map.new.kept
         ≡ put_in (entries map.old.kept) (entry handle.new.index handle.new.generation key value) }
     ensures added { result ≡ 0 → OnKept map.old.kept (λ before. OnKept map.new.kept (λ is.
-        IsAdded non_zero_u32_get handle.new.index handle.new.generation (pair key value)
-        before.arena is.arena)) }
+        IsAdded handle.new.index handle.new.generation (pair key value) before.arena is.arena)) }
     ensures replaced { result ≡ 8 → OnKept map.old.kept (λ before. OnKept map.new.kept (λ is.
-        IsReplaced non_zero_u32_get handle.new.index handle.new.generation (pair key value)
+        IsReplaced handle.new.index handle.new.generation (pair key value)
         (pair key was.new) before.arena is.arena)) }
     ensures replaces { result ≡ 8 ↔ IsSome (with_key (entries map.old.kept) key) }
     ensures was { result ≡ 8
@@ -243,7 +241,7 @@ pub extern "C" fn ord_map_get_or_insert(
     ensures listed { result ≡ 0 → entries map.new.kept
         ≡ put_in (entries map.old.kept) (entry handle.new.index handle.new.generation key value) }
     ensures added { result ≡ 0 → OnKept map.old.kept (λ before. OnKept map.new.kept (λ is.
-        IsAdded non_zero_u32_get handle.new.index handle.new.generation (pair key value)
+        IsAdded handle.new.index handle.new.generation (pair key value)
         before.arena is.arena)) }
     ensures gets { result ≡ 9 ↔ IsSome (with_key (entries map.old.kept) key) }
     ensures stays { result ≢ 0 → map.new.kept ≡ map.old.kept }
@@ -339,8 +337,7 @@ pub extern "C" fn ord_map_nearest(
     ensures found { result ≡ 0
         → option_map pointer_of (nearest_by side.new (entries map.old.kept) key)
         ≡ Some (pair_of handle.new) }
-    ensures equal { result ≡ 0
-        → ((side.new ≡ 0) ↔ IsSome (with_key (entries map.old.kept) key)) }
+    ensures equal { result ≡ 0 → ((side.new ≡ 0) ↔ IsSome (with_key (entries map.old.kept) key)) }
     ensures side { result ≡ 0 → side.new ≤ 2 }
     ensures none { result ≡ 7 ↔ ((map.old.kept ≢ None) × (entries map.old.kept ≡ [])) }
     ensures no_map { result ≡ 5 ↔ (map.old.kept ≡ None) }
@@ -502,7 +499,7 @@ pub extern "C" fn ord_map_remove(
     value: &mut u64,
 ) -> u8
     ensures removed { result ≡ 0 → OnKept map.old.kept (λ was. OnKept map.new.kept
-        (λ is. IsEntryRemoved non_zero_u32_get (Some greatest) handle.index was.arena is.arena)) }
+        (λ is. IsEntryRemoved (Some greatest) handle.index was.arena is.arena)) }
     ensures listed { result ≡ 0
         → entries map.new.kept ≡ without_key (entries map.old.kept) key.new }
     ensures pair { result ≡ 0 → pair_at map.old.kept handle.index handle.generation
@@ -515,8 +512,7 @@ pub extern "C" fn ord_map_remove(
     ensures ends { result ≡ 0 → HasEnded map.new.kept handle.index handle.generation }
     ensures ended { (index generation : ℕ) → HasEnded map.old.kept index generation
         → HasEnded map.new.kept index generation }
-    ensures spent { result ≡ 0
-        → (IsTrue (spent map.new.kept) ↔ OnKept map.old.kept IsAtEnd) }
+    ensures spent { result ≡ 0 → (IsTrue (spent map.new.kept) ↔ OnKept map.old.kept IsAtEnd) }
     ensures others { (index generation : ℕ)
         → (index ≢ handle.index) ⊎ (generation ≢ handle.generation)
         → pair_at map.new.kept index generation ≡ pair_at map.old.kept index generation }
@@ -552,9 +548,8 @@ pub extern "C" fn ord_map_remove_key(
 ) -> u8
     ensures removed { result ≡ 0 → IfSome (with_key (entries map.old.kept) key)
         (λ e. OnKept map.old.kept (λ was. OnKept map.new.kept (λ is.
-        IsEntryRemoved non_zero_u32_get (Some greatest) e.0 was.arena is.arena))) }
-    ensures listed { result ≡ 0
-        → entries map.new.kept ≡ without_key (entries map.old.kept) key }
+        IsEntryRemoved (Some greatest) e.0 was.arena is.arena))) }
+    ensures listed { result ≡ 0 → entries map.new.kept ≡ without_key (entries map.old.kept) key }
     ensures value { result ≡ 0
         → option_map value_of (with_key (entries map.old.kept) key) ≡ Some value.new }
     ensures none { result ≡ 7 ↔ ((map.old.kept ≢ None)
@@ -567,8 +562,7 @@ pub extern "C" fn ord_map_remove_key(
     ensures others { result ≡ 0 → IfSome (with_key (entries map.old.kept) key)
         (λ e. (index generation : ℕ) → (index ≢ e.0) ⊎ (generation ≢ e.1.0)
         → pair_at map.new.kept index generation ≡ pair_at map.old.kept index generation) }
-    ensures spent { result ≡ 0
-        → (IsTrue (spent map.new.kept) ↔ OnKept map.old.kept IsAtEnd) }
+    ensures spent { result ≡ 0 → (IsTrue (spent map.new.kept) ↔ OnKept map.old.kept IsAtEnd) }
     ensures no_map { result ≡ 5 ↔ (map.old.kept ≡ None) }
     ensures missed { result ≢ 0 → map.new.kept ≡ map.old.kept }
     ensures unwritten { result ≢ 0 → value.new ≡ value.old }
@@ -594,8 +588,7 @@ pub extern "C" fn ord_map_remove_key(
 pub extern "C" fn ord_map_first(alloc: Global, map: &mut Holder, handle: &mut Handle) -> u8
     ensures found { result ≡ 0 → option_map pointer_of (first_of (entries map.old.kept))
         ≡ Some (pair_of handle.new) }
-    ensures none { result ≡ 7 ↔ ((map.old.kept ≢ None)
-        × (first_of (entries map.old.kept) ≡ None)) }
+    ensures none { result ≡ 7 ↔ ((map.old.kept ≢ None) × (first_of (entries map.old.kept) ≡ None)) }
     ensures no_map { result ≡ 5 ↔ (map.old.kept ≡ None) }
     ensures unwritten { result ≢ 0 → handle.new ≡ handle.old }
     ensures kept { map.new.kept ≡ map.old.kept }
@@ -615,8 +608,7 @@ pub extern "C" fn ord_map_first(alloc: Global, map: &mut Holder, handle: &mut Ha
 pub extern "C" fn ord_map_last(alloc: Global, map: &mut Holder, handle: &mut Handle) -> u8
     ensures found { result ≡ 0 → option_map pointer_of (last_of (entries map.old.kept))
         ≡ Some (pair_of handle.new) }
-    ensures none { result ≡ 7 ↔ ((map.old.kept ≢ None)
-        × (last_of (entries map.old.kept) ≡ None)) }
+    ensures none { result ≡ 7 ↔ ((map.old.kept ≢ None) × (last_of (entries map.old.kept) ≡ None)) }
     ensures no_map { result ≡ 5 ↔ (map.old.kept ≡ None) }
     ensures unwritten { result ≢ 0 → handle.new ≡ handle.old }
     ensures kept { map.new.kept ≡ map.old.kept }
@@ -779,7 +771,7 @@ pub extern "C" fn ord_map_entries(
         return 5;
     };
     // The keys rise.
-    let _ = own.len();
+    recall!(own.len());
     let status = match own.read(*from, handles, keys, values) {
         Ok((count, next)) => {
             *written = count;

@@ -117,8 +117,7 @@ impl OrdMap {
         ensures entry { option_map pair_of result
             ≡ option_map pointer_of (with_key (listed self.now.arena) key) }
         ensures none { IfNone result (with_key (listed self.now.arena) key ≡ None) }
-        ensures stands { IfSome result
-            (λ h. StandsUnder self.now.arena key h.index h.generation) }
+        ensures stands { IfSome result (λ h. StandsUnder self.now.arena key h.index h.generation) }
     {
         entries::find(&self.entries, key)
     }
@@ -279,8 +278,7 @@ impl OrdMap {
             ↔ IsSome (pair_in self.old.arena handle.index handle.generation) }
         ensures written { IsTrue result → IfSome
             (pair_in self.old.arena handle.index handle.generation) (λ t. IsReplaced
-            non_zero_u32_get handle.index handle.generation (pair t.k value) t self.old.arena
-            self.new.arena) }
+            handle.index handle.generation (pair t.k value) t self.old.arena self.new.arena) }
         ensures exact { IsTrue result → IfSome
             (pair_in self.old.arena handle.index handle.generation)
             (λ t. self.new.arena ≡ with_item self.old.arena handle.index (pair t.k value)) }
@@ -309,7 +307,7 @@ impl OrdMap {
             (λ t. pair_in self.old.arena handle.index handle.generation ≡ Some (pair t.0 t.1)) }
         ensures listed { IfSome result
             (λ t. listed self.new.arena ≡ without_key (listed self.old.arena) t.0) }
-        ensures removed { OnSome result (IsEntryRemoved non_zero_u32_get (Some greatest)
+        ensures removed { OnSome result (IsEntryRemoved (Some greatest)
             handle.index self.old.arena self.new.arena) }
         ensures others { (j h : ℕ) → (j ≢ handle.index) ⊎ (h ≢ handle.generation)
             → pair_in self.new.arena j h ≡ pair_in self.old.arena j h }
@@ -341,8 +339,7 @@ impl OrdMap {
         ensures listed { OnSome result
             (listed self.new.arena ≡ without_key (listed self.old.arena) key) }
         ensures removed { IfSome (with_key (listed self.old.arena) key)
-            (λ e. IsEntryRemoved non_zero_u32_get (Some greatest) e.0 self.old.arena
-            self.new.arena) }
+            (λ e. IsEntryRemoved (Some greatest) e.0 self.old.arena self.new.arena) }
         ensures others { IfSome (with_key (listed self.old.arena) key) (λ e. (j h : ℕ)
             → (j ≢ e.0) ⊎ (h ≢ e.1.0) → pair_in self.new.arena j h ≡ pair_in self.old.arena j h) }
         ensures ends { IfSome (with_key (listed self.old.arena) key)

@@ -62,8 +62,7 @@ pub fn insert_at_the_next_index<P: PtrCore, S: ArenaSlots<P, u64>>(
 /// Finds the value that a pointer was given for, and nothing by the pointer of an entry that has
 /// gone.
 pub fn get<P: PtrCore, T: Drop, A: ArenaTrait<P, T>>(arena: &A, p: P) -> Option<&T>
-    ensures { option_copied result
-        ≡ value_if (P.generation p) (A.entry_at arena.now (P.index p)) }
+    ensures { option_copied result ≡ value_if (P.generation p) (A.entry_at arena.now (P.index p)) }
 {
     let found = arena.get(p);
     found
@@ -84,7 +83,7 @@ pub fn free_neighbors<P: PtrCore, T: Drop, S: ArenaSlots<P, T>>(
     }
 }
 
-/// Removes a value, and tells where the step of the counter started the generations again.
+/// Removes a value, and tells where the step of the counter wrapped.
 pub fn remove<P: PtrCore, T: Drop, A: ArenaTrait<P, T>>(
     arena: &mut A,
     p: P,

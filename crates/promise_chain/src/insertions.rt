@@ -46,7 +46,8 @@ pub fn insert_reallocating<P: PtrCore, T: Drop, C: ChainArenaTrait<P, T>>(
     grown
 }
 
-/// The same, if the links are as the kind requires.
+/// Stores `t` where the kind says, and grows if there is no room. The links must be as the kind
+/// requires.
 pub fn insert<P: PtrCore, T: Drop, C: ChainArenaTrait<P, T>>(
     chains: &mut C,
     kind: LinkInsertKind<P>,

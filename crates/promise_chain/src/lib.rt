@@ -1,5 +1,6 @@
-//! What is promised of the chains' calls, said again of callers, so that wrong bodies can be tried
-//! here.
+//! What the chains' calls promise, said once more of functions whose body is the call alone, so that
+//! wrong bodies can be tried here. An edit of `must-fail` puts one into a function, and must be
+//! refused.
 #![tactic(auto)]
 
 mod insertions;

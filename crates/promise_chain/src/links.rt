@@ -5,10 +5,10 @@ ghost use Rattle.std.specs.Option.{option_map};
 ghost use Rattle.triple_arena.specs.Content.{get};
 ghost use Rattle.triple_arena.specs.Entries.{value_if};
 ghost use Rattle.triple_arena_chain.specs.declared.kind.InsertKind.TheVariants.{Bridge};
-ghost use Rattle.triple_arena_chain.specs.Chains.{next_in, prev_in, next_at, prev_at, linked};
-ghost use Rattle.triple_arena_chain.specs.Chains.{unlinked, exchanged};
+ghost use Rattle.triple_arena_chain.specs.Chains.{next_in, next_at, prev_at};
 ghost use Rattle.triple_arena_chain.specs.Links.{ends_in, ends_found, values_in, gap_among};
-ghost use Rattle.triple_arena_chain.specs.Links.{IsChained, IsRelinked};
+ghost use Rattle.triple_arena_chain.specs.Links.{IsChained, Connects, BreaksNext, BreaksPrev};
+ghost use Rattle.triple_arena_chain.specs.Links.{ExchangesNexts, HasNext, HasPrev};
 ghost use Rattle.triple_arena_chain.specs.Lists.{IsAppended, IsSplit, IsExchanged};
 ghost use Rattle.triple_arena_chain.specs.Values.{IsLivePtr};
 
@@ -24,7 +24,7 @@ pub fn get_link<P: PtrCore, T: Drop, C: ChainArenaTrait<P, T>>(
         ≡ value_if (P.generation p) (values_in (C.links chains.now) (P.index p)) }
     ensures interlinks { option_map
         (λ l. (option_map P.index l.prev, option_map P.index l.next)) result
-        ≡ ends_found P.Inx.number (C.links chains.now) (P.index p) (P.generation p) }
+        ≡ ends_found (C.links chains.now) (P.index p) (P.generation p) }
     ensures live { IfSome result (λ l. IsLivePtr P.index P.generation (C.links chains.now) l.prev
         × IsLivePtr P.index P.generation (C.links chains.now) l.next) }
 {
@@ -35,7 +35,7 @@ pub fn get_link<P: PtrCore, T: Drop, C: ChainArenaTrait<P, T>>(
 /// Whether `q` is the next of `p`.
 pub fn are_neighbors<P: PtrCore, T: Drop, C: ChainArenaTrait<P, T>>(chains: &C, p: P, q: P) -> bool
     ensures { IsTrue result
-        ↔ ((next_in (ends_found P.Inx.number (C.links chains.now) (P.index p) (P.generation p))
+        ↔ ((next_in (ends_found (C.links chains.now) (P.index p) (P.generation p))
         ≡ Some (P.index q))
         × IsSome (get (C.links chains.now) (P.index q) (P.generation q))) }
 {
@@ -51,12 +51,11 @@ pub fn connect<P: PtrCore, T: Drop, C: ChainArenaTrait<P, T>>(
 ) -> Option<()>
     ensures variant { IsSome result
         ↔ IsSome (gap_among P.index P.generation P.Inx.number (C.links chains.old) (Bridge p q)) }
-    ensures relinked { OnSome result (IsRelinked P.Inx.number
-        (linked (ends_in P.Inx.number (C.links chains.old)) (P.index p) (P.index q))
-        (C.links chains.old) (C.links chains.new)) }
+    ensures relinked { OnSome result
+        (Connects (P.index p) (P.index q) (C.links chains.old) (C.links chains.new)) }
     ensures lists { OnSome result (IsAppended (P.index p) (P.index q)
-        (ends_in P.Inx.number (C.links chains.old)) (ends_in P.Inx.number (C.links chains.new))) }
-    ensures formed { IsChained P.Inx.number (C.links chains.new) }
+        (ends_in (C.links chains.old)) (ends_in (C.links chains.new))) }
+    ensures formed { IsChained (C.links chains.new) }
     ensures none { IfNone result (chains.new ≡ chains.old) }
 {
     let connected = chains.connect(p, q);
@@ -65,19 +64,13 @@ pub fn connect<P: PtrCore, T: Drop, C: ChainArenaTrait<P, T>>(
 
 /// Parts `p` from its next.
 pub fn break_next<P: PtrCore, T: Drop, C: ChainArenaTrait<P, T>>(chains: &mut C, p: P) -> Option<()>
-    ensures variant { IsSome result
-        ↔ IsSome (next_in (ends_found P.Inx.number (C.links chains.old) (P.index p)
-        (P.generation p))) }
-    ensures relinked { OnSome result ((q : ℕ)
-        → next_at (ends_in P.Inx.number (C.links chains.old)) (P.index p) ≡ Some q
-        → IsRelinked P.Inx.number
-        (unlinked (ends_in P.Inx.number (C.links chains.old)) (P.index p) q)
-        (C.links chains.old) (C.links chains.new)) }
+    ensures variant { IsSome result ↔ HasNext P.index P.generation (C.links chains.old) p }
+    ensures relinked { OnSome result
+        (BreaksNext (P.index p) (C.links chains.old) (C.links chains.new)) }
     ensures lists { OnSome result ((q : ℕ)
-        → next_at (ends_in P.Inx.number (C.links chains.old)) (P.index p) ≡ Some q
-        → IsSplit (P.index p) q (ends_in P.Inx.number (C.links chains.old))
-        (ends_in P.Inx.number (C.links chains.new))) }
-    ensures formed { IsChained P.Inx.number (C.links chains.new) }
+        → next_at (ends_in (C.links chains.old)) (P.index p) ≡ Some q
+        → IsSplit (P.index p) q (ends_in (C.links chains.old)) (ends_in (C.links chains.new))) }
+    ensures formed { IsChained (C.links chains.new) }
     ensures none { IfNone result (chains.new ≡ chains.old) }
 {
     let parted = chains.break_next(p);
@@ -86,19 +79,13 @@ pub fn break_next<P: PtrCore, T: Drop, C: ChainArenaTrait<P, T>>(chains: &mut C,
 
 /// Parts `p` from its previous link.
 pub fn break_prev<P: PtrCore, T: Drop, C: ChainArenaTrait<P, T>>(chains: &mut C, p: P) -> Option<()>
-    ensures variant { IsSome result
-        ↔ IsSome (prev_in (ends_found P.Inx.number (C.links chains.old) (P.index p)
-        (P.generation p))) }
-    ensures relinked { OnSome result ((q : ℕ)
-        → prev_at (ends_in P.Inx.number (C.links chains.old)) (P.index p) ≡ Some q
-        → IsRelinked P.Inx.number
-        (unlinked (ends_in P.Inx.number (C.links chains.old)) q (P.index p))
-        (C.links chains.old) (C.links chains.new)) }
+    ensures variant { IsSome result ↔ HasPrev P.index P.generation (C.links chains.old) p }
+    ensures relinked { OnSome result
+        (BreaksPrev (P.index p) (C.links chains.old) (C.links chains.new)) }
     ensures lists { OnSome result ((q : ℕ)
-        → prev_at (ends_in P.Inx.number (C.links chains.old)) (P.index p) ≡ Some q
-        → IsSplit q (P.index p) (ends_in P.Inx.number (C.links chains.old))
-        (ends_in P.Inx.number (C.links chains.new))) }
-    ensures formed { IsChained P.Inx.number (C.links chains.new) }
+        → prev_at (ends_in (C.links chains.old)) (P.index p) ≡ Some q
+        → IsSplit q (P.index p) (ends_in (C.links chains.old)) (ends_in (C.links chains.new))) }
+    ensures formed { IsChained (C.links chains.new) }
     ensures none { IfNone result (chains.new ≡ chains.old) }
 {
     let opened = chains.break_prev(p);
@@ -112,19 +99,13 @@ pub fn exchange_next<P: PtrCore, T: Drop, C: ChainArenaTrait<P, T>>(
     q: P,
 ) -> Option<()>
     ensures variant { IsSome result
-        ↔ (IsSome (next_in (ends_found P.Inx.number (C.links chains.old) (P.index p)
-        (P.generation p)))
-        × IsSome (next_in (ends_found P.Inx.number (C.links chains.old) (P.index q)
-        (P.generation q)))) }
-    ensures relinked { OnSome result ((s t : ℕ)
-        → next_at (ends_in P.Inx.number (C.links chains.old)) (P.index p) ≡ Some s
-        → next_at (ends_in P.Inx.number (C.links chains.old)) (P.index q) ≡ Some t
-        → IsRelinked P.Inx.number
-        (exchanged (ends_in P.Inx.number (C.links chains.old)) (P.index p) (P.index q) s t)
-        (C.links chains.old) (C.links chains.new)) }
+        ↔ (HasNext P.index P.generation (C.links chains.old) p
+        × HasNext P.index P.generation (C.links chains.old) q) }
+    ensures relinked { OnSome result
+        (ExchangesNexts (P.index p) (P.index q) (C.links chains.old) (C.links chains.new)) }
     ensures lists { OnSome result (IsExchanged (P.index p) (P.index q)
-        (ends_in P.Inx.number (C.links chains.old)) (ends_in P.Inx.number (C.links chains.new))) }
-    ensures formed { IsChained P.Inx.number (C.links chains.new) }
+        (ends_in (C.links chains.old)) (ends_in (C.links chains.new))) }
+    ensures formed { IsChained (C.links chains.new) }
     ensures none { IfNone result (chains.new ≡ chains.old) }
 {
     let exchanged = chains.exchange_next(p, q);

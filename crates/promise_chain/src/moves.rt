@@ -30,9 +30,9 @@ pub fn compress_with<P: PtrCore, T: Drop, S: ChainSlots<P, T>, F: FnMut(P, T, P)
     ensures mapped { IsMapped P.index P.generation F.step map (listed_values chains.old)
         (listed_values chains.new) }
     ensures overflow { overflowed result ≡ renewal_wraps P.Gen.last reset chains.old.counter }
-    ensures exact { IsCompacted P.Inx.number P.Gen.last reset
+    ensures exact { IsCompacted P.Gen.last reset
         (list_map value_of (listed_values chains.new)) chains.old chains.new }
-    ensures formed { IsChained P.Inx.number chains.new }
+    ensures formed { IsChained chains.new }
 {
     let answer = chains.compress_with(reset, map);
     answer
@@ -44,8 +44,8 @@ pub fn compress_canonical<P: PtrCore, T: Drop, S: ChainSlots<P, T>>(
     reset: bool,
 ) -> InvalidationOption<()>
     ensures overflow { overflowed result ≡ renewal_wraps P.Gen.last reset chains.old.counter }
-    ensures canonical { IsCanonical P.Inx.number P.Gen.last reset chains.old chains.new }
-    ensures formed { IsChained P.Inx.number chains.new }
+    ensures canonical { IsCanonical P.Gen.last reset chains.old chains.new }
+    ensures formed { IsChained chains.new }
 {
     let answer = chains.compress_canonical(reset);
     answer
@@ -66,10 +66,9 @@ where
     requires { F.IsAlwaysCallable map }
     ensures mapped { OnOk result (IsMappedCopy P.index P.generation F.step map
         (A.Links.live_entries (A.links source.now)) (listed_values target.new)) }
-    ensures linked { OnOk result ((k : ℕ)
-        → ends_in P.Inx.number target.new k ≡ A.ends source.now k) }
+    ensures linked { OnOk result ((k : ℕ) → ends_in target.new k ≡ A.ends source.now k) }
     ensures lists { OnOk result ((chain : Chain) → IsChainOf (A.ends source.now) chain
-        → IsChainOf (ends_in P.Inx.number target.new) chain) }
+        → IsChainOf (ends_in target.new) chain) }
     ensures copied { OnOk result (IsCopy values_in live_count some_counter room_in
         (A.Links.entry_at (A.links source.now)) (A.Links.live_count (A.links source.now))
         (last_listed (A.Links.live_entries (A.links source.now)))
@@ -89,7 +88,7 @@ where
         (reallocated c (last_listed (A.Links.live_entries (A.links source.now)))))
         (IsRefusedCopy P.index P.generation F.step map (A.Links.live_entries (A.links source.now)))
         target.old target.new }
-    ensures formed { IsChained P.Inx.number target.new }
+    ensures formed { IsChained target.new }
 {
     let copied = target.clone_from_with(source, map);
     copied
@@ -113,9 +112,9 @@ pub fn clone_from<P: PtrCore, T: Clone, S: ChainSlots<P, T>>(
         (last_listed (live_entries source.now))
         (λ c. cleared P.Gen.last (reallocated c (last_listed (live_entries source.now))))
         (MayRefuse T.is_infallible (listed_values source.now)) target.old target.new }
-    ensures lists { OnOk result ((chain : Chain) → IsChainOf (ends_in P.Inx.number source.now) chain
-        → IsChainOf (ends_in P.Inx.number target.new) chain) }
-    ensures formed { IsChained P.Inx.number target.new }
+    ensures lists { OnOk result ((chain : Chain) → IsChainOf (ends_in source.now) chain
+        → IsChainOf (ends_in target.new) chain) }
+    ensures formed { IsChained target.new }
 {
     let cloned = target.clone_from(source);
     cloned
@@ -126,7 +125,7 @@ pub fn exchange_arena<P: PtrCore, T: Drop, S: ChainSlots<P, T>>(
     chains: &mut ChainArena<P, T, S>,
     arena: &mut Arena<P, LinkNoGen<P, T>, S>,
 ) -> Option<()>
-    ensures variant { IsSome result ↔ IsAgreed (ends_in P.Inx.number arena.old) }
+    ensures variant { IsSome result ↔ IsAgreed (ends_in arena.old) }
     ensures some { OnSome result ((chains.new ≡ arena.old) × (arena.new ≡ chains.old)) }
     ensures none { IfNone result ((chains.new ≡ chains.old) × (arena.new ≡ arena.old)) }
 {

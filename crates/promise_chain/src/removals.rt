@@ -19,11 +19,11 @@ pub fn remove_link_no_gen<P: PtrCore, T: Drop, C: ChainArenaTrait<P, T>>(
         ≡ get (C.links chains.old) (P.index p) (P.generation p) }
     ensures overflow { IfSome (answer_of result)
         (λ a. overflowed a ≡ next_wraps P.Gen.last (C.links chains.old).counter) }
-    ensures taken { OnSome (answer_of result) (IsTakenOut P.Inx.number P.Gen.last
+    ensures taken { OnSome (answer_of result) (IsTakenOut P.Gen.last
         (P.index p) (C.links chains.old) (C.links chains.new)) }
     ensures exact { IfSome (answer_of result) (λ a. C.links chains.new ≡ removed P.Gen.last
-        (bridged_over P.Inx.number (C.links chains.old) (value_of a)) (P.index p)) }
-    ensures formed { IsChained P.Inx.number (C.links chains.new) }
+        (bridged_over (C.links chains.old) (value_of a)) (P.index p)) }
+    ensures formed { IsChained (C.links chains.new) }
     ensures invalid { IfNone (answer_of result) (chains.new ≡ chains.old) }
 {
     let removed = chains.remove_link_no_gen(p);
@@ -39,11 +39,11 @@ pub fn remove_inx_link_no_gen<P: PtrCore, T: Drop, C: ChainArenaTrait<P, T>>(
         (answer_of result) ≡ entry_at (C.links chains.old) (P.Inx.number i) }
     ensures overflow { IfSome (answer_of result)
         (λ a. overflowed a ≡ next_wraps P.Gen.last (C.links chains.old).counter) }
-    ensures taken { OnSome (answer_of result) (IsTakenOut P.Inx.number P.Gen.last
+    ensures taken { OnSome (answer_of result) (IsTakenOut P.Gen.last
         (P.Inx.number i) (C.links chains.old) (C.links chains.new)) }
     ensures exact { IfSome (answer_of result) (λ a. C.links chains.new ≡ removed P.Gen.last
-        (bridged_over P.Inx.number (C.links chains.old) (value_of a).1) (P.Inx.number i)) }
-    ensures formed { IsChained P.Inx.number (C.links chains.new) }
+        (bridged_over (C.links chains.old) (value_of a).1) (P.Inx.number i)) }
+    ensures formed { IsChained (C.links chains.new) }
     ensures invalid { IfNone (answer_of result) (chains.new ≡ chains.old) }
 {
     let removed = chains.remove_inx_link_no_gen(i);

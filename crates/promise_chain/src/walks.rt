@@ -17,7 +17,7 @@ pub fn iter_chain<P: PtrCore, T: Drop, S: ChainSlots<P, T>>(
 ) -> Option<IterChain<'_, P, T, S>>
     ensures variant { IsSome result ↔ IsSome (get chains.now (P.index p) (P.generation p)) }
     ensures along { IfSome result (λ it. (walk : List ℕ)
-        × IsWalkFrom (ends_in P.Inx.number chains.now) (P.index p) walk
+        × IsWalkFrom (ends_in chains.now) (P.index p) walk
         × (it ≡ links_along (entry_at chains.now) walk)) }
 {
     let along = chains.iter_chain(p);
@@ -29,7 +29,7 @@ pub fn advance<P: PtrCore, T: Drop, S: ChainSlots<P, T>>(
     walk: &mut ChainPtrAdvancer<P>,
     chains: &ChainArena<P, T, S>,
 ) -> Option<P>
-    ensures { ChainSteps (ends_in P.Inx.number chains.now) (values_in chains.now) walk.old
+    ensures { ChainSteps (ends_in chains.now) (values_in chains.now) walk.old
         (option_map (λ p. (P.index p, P.generation p)) result) walk.new }
 {
     let given = walk.advance(chains);

@@ -15,7 +15,7 @@ pub fn clone_from<P: PtrCore, T: Clone, S: OrdSlots<P, T>>(
     source: &SimpleOrdArena<P, T, S>,
 ) -> Result<(), ReallocationError>
     requires { (x y : T) → T.is_clone x y → y ≡ x }
-    ensures cloned { OnOk result (IsClone P.Inx.number target.old.chains source.now target.new) }
+    ensures cloned { OnOk result (IsClone target.old.chains source.now target.new) }
     ensures succeeds { last_inx source.now ≤ capacity_of (room_in target.old)
         → ((x : T) → T.is_infallible x) → IsOk result }
     ensures beyond { IsErrOf result ReallocationError.BeyondMaxCapacity
@@ -25,7 +25,7 @@ pub fn clone_from<P: PtrCore, T: Clone, S: OrdSlots<P, T>>(
         → IsUnmadeCopy entry_in size_in counter_in room_in S.takes_memory P.Gen.last
         (last_inx source.now) (emptied_to P.Gen.last (last_inx source.now))
         (MayRefuse T.is_infallible (indexed source.now)) target.old target.new }
-    ensures ordered { IsOrdered P.Inx.number target.new }
+    ensures ordered { IsOrdered target.new }
 {
     let cloned = target.clone_from(source);
     cloned

@@ -25,7 +25,7 @@ pub fn insert_within_capacity<P: PtrCore, T: SimpleOrdItem + Drop, S: OrdSlots<P
     arena: &mut SimpleOrdArena<P, T, S>,
     t: T,
 ) -> Result<(P, Option<T>), OrdInsertionError>
-    ensures { InsertsByKey P.Inx.number T.Key.cmp T.key_of P.index P.generation None
+    ensures { InsertsByKey T.Key.cmp T.key_of P.index P.generation None
         t result arena.old arena.new }
 {
     let inserted = arena.insert_within_capacity(t);
@@ -37,7 +37,7 @@ pub fn get_or_insert<P: PtrCore, T: SimpleOrdItem + Drop, S: OrdSlots<P, T>>(
     arena: &mut SimpleOrdArena<P, T, S>,
     t: T,
 ) -> Result<(P, Option<T>), OrdInsertionError>
-    ensures { GetsOrInserts P.Inx.number T.Key.cmp T.key_of P.index P.generation
+    ensures { GetsOrInserts T.Key.cmp T.key_of P.index P.generation
         (Some S.takes_memory) t result arena.old arena.new }
 {
     let got = arena.get_or_insert(t);
@@ -53,7 +53,7 @@ pub fn insert_inx_manual<P: PtrCore, T: Drop, S: OrdSlots<P, T>>(
 ) -> Result<Option<T>, OrdInsertionError>
     requires { IsSome (entry_in arena.old (P.Inx.number p)) }
     ensures { (q : ℕ × ℕ)
-        × InsertsAt P.Inx.number (λ (q : ℕ × ℕ). q.0) (λ (q : ℕ × ℕ). q.1)
+        × InsertsAt (λ (q : ℕ × ℕ). q.0) (λ (q : ℕ × ℕ). q.1)
         (Some S.takes_memory) (Some (P.Inx.number p, direction)) t (under q result)
         arena.old arena.new }
 {
@@ -72,7 +72,7 @@ pub fn insert_inx_manual_within_capacity<P: PtrCore, T: Drop, S: OrdSlots<P, T>>
     requires empty { place ≡ None → size_in arena.old ≡ 0 }
     requires new { Replaces (option_map (λ a. (P.Inx.number a.0, a.1)) place) → ⊥ }
     requires room { size_in arena.old < arena_capacity arena.old.chains }
-    ensures { AddsAt P.Inx.number (option_map (λ a. (P.Inx.number a.0, a.1)) place)
+    ensures { AddsAt (option_map (λ a. (P.Inx.number a.0, a.1)) place)
         (P.index result) (P.generation result) t arena.old arena.new }
 {
     let p = arena.insert_inx_manual_within_capacity(place, t);

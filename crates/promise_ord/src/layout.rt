@@ -14,8 +14,8 @@ pub fn compress_canonical<P: PtrCore, T: Drop, S: OrdSlots<P, T>>(
     reset: bool,
 ) -> InvalidationOption<()>
     ensures overflow { overflowed result ≡ renewal_wraps P.Gen.last reset arena.old.chains.counter }
-    ensures laid { IsLaidInOrder P.Inx.number P.Gen.last reset arena.old arena.new }
-    ensures ordered { IsOrdered P.Inx.number arena.new }
+    ensures laid { IsLaidInOrder P.Gen.last reset arena.old arena.new }
+    ensures ordered { IsOrdered arena.new }
 {
     let answer = arena.compress_canonical(reset);
     answer

@@ -1,5 +1,5 @@
-//! What is promised of the calls of an ordered arena, said again of callers, word for word, so that
-//! wrong bodies can be tried here, where a check takes seconds.
+//! What the calls of an ordered arena promise, said once more of functions whose body is the call
+//! alone, so that wrong bodies can be tried here, where a check takes seconds.
 //!
 //! Each function is proved by the contract of the call that is its body. An edit of `must-fail`
 //! puts another body there, made of other calls, and must be refused. Wrong bodies that lie inside

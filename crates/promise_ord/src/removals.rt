@@ -24,9 +24,9 @@ pub fn remove<P: PtrCore, T: Drop, S: OrdSlots<P, T>>(
     ensures overflow { IfSome (answer_of result)
         (λ a. overflowed a ≡ next_wraps P.Gen.last arena.old.chains.counter) }
     ensures removed { OnSome (answer_of result)
-        (IsEntryRemoved P.Inx.number P.Gen.last (P.index p) arena.old arena.new) }
+        (IsEntryRemoved P.Gen.last (P.index p) arena.old arena.new) }
     ensures invalid { IfNone (answer_of result) (arena.new ≡ arena.old) }
-    ensures ordered { IsOrdered P.Inx.number arena.new }
+    ensures ordered { IsOrdered arena.new }
 {
     let removed = arena.remove(p);
     removed
@@ -36,7 +36,7 @@ pub fn remove<P: PtrCore, T: Drop, S: OrdSlots<P, T>>(
 pub fn pop_first<P: PtrCore, T: Drop, S: OrdSlots<P, T>>(
     arena: &mut SimpleOrdArena<P, T, S>,
 ) -> Option<InvalidationOption<(P, T)>>
-    ensures { TakesFirst P.Inx.number P.Gen.last P.index P.generation result arena.old arena.new }
+    ensures { TakesFirst P.Gen.last P.index P.generation result arena.old arena.new }
 {
     let popped = arena.pop_first();
     popped
@@ -44,9 +44,9 @@ pub fn pop_first<P: PtrCore, T: Drop, S: OrdSlots<P, T>>(
 
 /// If the keys ascend, no key is less than that of the entry that is taken so.
 pub fn the_first_taken_is_the_least<P: PtrCore, T: SimpleOrdItem>()
-    ensures { (old new : Ordered P.Inx T) (item : InvalidationOption (P × T))
-        → TakesFirst P.Inx.number P.Gen.last P.index P.generation (Some item) old new
-        → IsAscending P.Inx.number T.Key.cmp T.key_of old
+    ensures { (old new : Ordered T) (item : InvalidationOption (P × T))
+        → TakesFirst P.Gen.last P.index P.generation (Some item) old new
+        → IsAscending T.Key.cmp T.key_of old
         → All (λ (e : ℕ × (ℕ × T)). T.Key.cmp (T.key_of e.1.1) (T.key_of (value_of item).1)
-        ≢ Way.Less) (ordered_entries P.Inx.number new) }
+        ≢ Way.Less) (ordered_entries new) }
 {}

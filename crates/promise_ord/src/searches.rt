@@ -31,17 +31,18 @@ pub fn find_key_counted<P: PtrCore, T: SimpleOrdItem + Drop, S: OrdSlots<P, T>>(
     probes: &mut Probes,
 ) -> Option<P>
     ensures found { IsFound P.index P.generation (asked_at T.Key.cmp T.key_of k.now arena.now)
-        (IsAscending P.Inx.number T.Key.cmp T.key_of arena.now) result arena.now }
+        (IsAscending T.Key.cmp T.key_of arena.now) result arena.now }
     ensures ticks { probes.new ≡ probes.old
         + asked_down (asked_at T.Key.cmp T.key_of k.now arena.now)
-        (tree_in P.Inx.number arena.now) }
+        (tree_in arena.now) }
     ensures bound { probes.new ≤ probes.old + most_comparisons (size_in arena.now) }
 {
     let found = arena.find_key_counted(k, probes);
     found
 }
 
-/// The same, along the list from an entry first, for so many comparisons.
+/// Finds an entry with an equal key, along the list from an entry first, for so many comparisons;
+/// in a list whose keys ascend, exactly if there is one. Each comparison is a tick.
 pub fn find_key_linear_counted<P: PtrCore, T: SimpleOrdItem + Drop, S: OrdSlots<P, T>>(
     arena: &SimpleOrdArena<P, T, S>,
     p_init: P,
@@ -50,21 +51,21 @@ pub fn find_key_linear_counted<P: PtrCore, T: SimpleOrdItem + Drop, S: OrdSlots<
     probes: &mut Probes,
 ) -> Option<P>
     ensures found { IsFound P.index P.generation (asked_at T.Key.cmp T.key_of k.now arena.now)
-        (IsAscending P.Inx.number T.Key.cmp T.key_of arena.now) result arena.now }
+        (IsAscending T.Key.cmp T.key_of arena.now) result arena.now }
     ensures rises { probes.old ≤ probes.new }
     ensures bound { probes.new ≤ probes.old + (num + most_comparisons (size_in arena.now)) }
     ensures gone { value_if (P.generation p_init) (entry_in arena.now (P.index p_init)) ≡ None
         → probes.new ≡ probes.old + asked_down (asked_at T.Key.cmp T.key_of k.now arena.now)
-        (tree_in P.Inx.number arena.now) }
+        (tree_in arena.now) }
     ensures counted { IsSome (value_if (P.generation p_init) (entry_in arena.now (P.index p_init)))
-        → (on : On (order_in P.Inx.number arena.now) (P.index p_init))
+        → (on : On (order_in arena.now) (P.index p_init))
         → IsKeyCounted num (asked_down (asked_at T.Key.cmp T.key_of k.now arena.now)
-        (tree_in P.Inx.number arena.now)) (asked_at T.Key.cmp T.key_of k.now arena.now)
+        (tree_in arena.now)) (asked_at T.Key.cmp T.key_of k.now arena.now)
         (path_from (asked_at T.Key.cmp T.key_of k.now arena.now) on) probes.old probes.new }
-    ensures near { IsAscending P.Inx.number T.Key.cmp T.key_of arena.now
+    ensures near { IsAscending T.Key.cmp T.key_of arena.now
         → IsSome (value_if (P.generation p_init) (entry_in arena.now (P.index p_init)))
         → IsEndNear num (asked_at T.Key.cmp T.key_of k.now arena.now)
-        (order_in P.Inx.number arena.now) (P.index p_init)
+        (order_in arena.now) (P.index p_init)
         → probes.new ≤ probes.old + num }
 {
     let found = arena.find_key_linear_counted(p_init, num, k, probes);
@@ -77,8 +78,8 @@ pub fn lower_bound<P: PtrCore, T: SimpleOrdItem + Drop, S: OrdSlots<P, T>>(
     arena: &SimpleOrdArena<P, T, S>,
     k: &T::Key,
 ) -> Option<P>
-    ensures bound { IsAscending P.Inx.number T.Key.cmp T.key_of arena.now
-        → IsBound P.Inx.number P.index P.generation
+    ensures bound { IsAscending T.Key.cmp T.key_of arena.now
+        → IsBound P.index P.generation
         (λ t. T.Key.cmp k.now (T.key_of t) ≡ Way.Greater) result arena.now }
     ensures live { IfSome result (λ p. generation_at (entry_in arena.now) (P.index p)
         ≡ Some (P.generation p)) }

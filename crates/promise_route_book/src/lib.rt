@@ -1,5 +1,5 @@
-//! What is promised of a store's calls, said again of callers, so that wrong bodies can be tried
-//! here, where a check takes seconds.
+//! What a store promises, said once more of small functions over its public calls, so that wrong
+//! bodies can be tried here, where a check takes seconds.
 //!
 //! An edit of `must-fail` puts another body into a function, made of other calls, and must be
 //! refused. Wrong bodies that lie inside the library stand in its own `wrong-bodies.txt`.

@@ -12,7 +12,7 @@ pub fn into_room<P: PtrCore, B: BookBacking<P>, Q: PtrCore, C: BookBacking<Q>>(
     stops: usize,
     marks: usize,
 ) -> Result<RouteBook<Q, C>, (RoomError, RouteBook<P, B>)>
-    ensures moved { IfOk result (λ moved. IsMovedIn Q.Inx.number Q.Gen.last Q.Inx.greatest C.room
+    ensures moved { IfOk result (λ moved. IsMovedIn Q.Gen.last Q.Inx.greatest C.room
         (record { places = places; stops = stops; marks = marks }) book.state moved) }
     ensures back { IfErr result (λ refused. refused.1 ≡ book) }
 {

@@ -9,8 +9,7 @@ use route_book::{BookBacking, Counts, PtrCore, Refusal, RouteBook, Shown};
 /// Packs the store: the state stays, and each stored reference is looked at once.
 pub fn pack_counted<P: PtrCore, B: BookBacking<P>>(book: &mut RouteBook<P, B>, counts: &mut Counts)
     ensures state { book.new.state ≡ book.old.state }
-    ensures packed { IsPacked P.Inx.number P.Gen.last counts.old.looks counts.new.looks
-        book.old book.new }
+    ensures packed { IsPacked P.Gen.last counts.old.looks counts.new.looks book.old book.new }
     ensures counts { ComparesWithin counts.old counts.new 0 0 0 }
 {
     book.pack_counted(counts);

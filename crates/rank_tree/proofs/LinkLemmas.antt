@@ -1,21 +1,21 @@
 -- What led to a node leads to another.
 use Rattle.std.proofs.Common.{◌≡◌, ◌≢◌, ℕ, Option, Some, refl, sym, ap, ◌∙◌}
-use Rattle.rank_tree.specs.Knot.{Knot}
+use Rattle.rank_tree.specs.NodeView.{NodeView}
 use Rattle.rank_tree.specs.Store.{Store, Written, Relinked, with_child}
 use Rattle.rank_tree.specs.declared.side.Side.{Side}
 use Rattle.rank_tree.specs.declared.side.Side.TheVariants.{Left, Right}
 
-seen : (v w : Knot) → ◌≡◌ {A = Option Knot} (Some v) (Some w) → v ≡ w
+seen : (v w : NodeView) → ◌≡◌ {A = Option NodeView} (Some v) (Some w) → v ≡ w
 seen v w h = cc
 
 numbered : (i j : ℕ) → ◌≡◌ {A = Option ℕ} (Some i) (Some j) → i ≡ j
 numbered i j h = cc
 
 -- the holder's child on the side of what left it
-pub relinked : (n m : Store) (root holder : Option ℕ) (i from : ℕ) (to : Option ℕ) (k : Knot)
+pub relinked : (n m : Store) (root holder : Option ℕ) (i from : ℕ) (to : Option ℕ) (k : NodeView)
     (s : Side) → holder ≡ Some i → n i ≡ Some k
     → (k.left ≡ Some from → s ≡ Left) → (k.left ≢ Some from → s ≡ Right)
-    → ((v : Knot) → n i ≡ Some v → Written n m i (with_child s to v))
+    → ((v : NodeView) → n i ≡ Some v → Written n m i (with_child s to v))
     → Relinked n m root root holder from to
 relinked n m root holder i from to k s at is on_left on_right w = record {
   at_top = λ none. absurd (cc);

@@ -4,7 +4,7 @@ use Rattle.std.proofs.Common.{Some, None, arith, refl, sym, ap, subst, ◌∙◌
 use Rattle.rank_tree.specs.declared.side.Side.TheVariants.{Left}
 use Rattle.rank_tree.specs.Store.{Store, Written, Reparented}
 use Rattle.rank_tree.specs.Tree.{Tree, leaf, node, walk, size}
-use Rattle.rank_tree.specs.Shape.{knot, root_of, Represents, one, count, IsDistinct}
+use Rattle.rank_tree.specs.Shape.{node_view, root_of, Represents, one, count, IsDistinct}
 use Rattle.rank_tree.specs.Halving.{part_rank, IsBuilt}
 use Rattle.rank_tree.specs.ClimbLaws.{size-walk}
 use Rattle.rank_tree.specs.FrameLaws.{Represents-keep, Represents-reparent, reparent-elsewhere}
@@ -78,10 +78,10 @@ module _ (k m i : ℕ) (v w : List ℕ) (left right : Option ℕ) (n0 n1 n2 n3 n
   right_last = Represents-keep n4 n5 (Some i) b.tree
       (λ j on. let h = once j in top_else j (omega (arith, h, on))) right_there
 
-  root_last : n5 i ≡ Some (knot Left None (root_of a.tree) (part_rank k m) (root_of b.tree))
+  root_last : n5 i ≡ Some (node_view Left None (root_of a.tree) (part_rank k m) (root_of b.tree))
   root_last =
-      top.here ∙ ap (λ o. Some (knot Left None o (part_rank k m) right)) a.root_is ∙ ap
-      (λ o. Some (knot Left None (root_of a.tree) (part_rank k m) o)) b.root_is
+      top.here ∙ ap (λ o. Some (node_view Left None o (part_rank k m) right)) a.root_is ∙ ap
+      (λ o. Some (node_view Left None (root_of a.tree) (part_rank k m) o)) b.root_is
 
   sizes : size a.tree + size b.tree + 1 ≡ m
   sizes =

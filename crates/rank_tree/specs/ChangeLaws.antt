@@ -1,11 +1,11 @@
 -- One index takes another's place.
 use Rattle.std.proofs.Common.{◌≡◌, ℕ, ◌+◌, ◌<◌, ◌≤◌, Option, Some, sym, ap, ◌∙◌, subst, arith}
 use Rattle.std.specs.Option.{IsSome}
-use Rattle.rank_tree.specs.Knot.{Knot}
+use Rattle.rank_tree.specs.NodeView.{NodeView}
 use Rattle.rank_tree.specs.declared.side.Side.TheVariants.{Left}
 use Rattle.rank_tree.specs.Store.{Store, Written, Reparented, Relinked}
 use Rattle.rank_tree.specs.Tree.{node, walk}
-use Rattle.rank_tree.specs.Shape.{knot, root_of, plug, holder, Stands, one, count, count_round}
+use Rattle.rank_tree.specs.Shape.{node_view, root_of, plug, holder, RepresentsTree, one, count, count_round}
 use Rattle.rank_tree.specs.Repair.{Replacement, KeptOff}
 use Rattle.rank_tree.specs.FrameLaws.{Represents-keep, Hangs-keep, plug-count, plug-opens}
 use Rattle.rank_tree.specs.FrameLaws.{plug-closes, Represents-reparent, reparent-elsewhere}
@@ -14,10 +14,10 @@ use Rattle.rank_tree.specs.SpotLaws.{is_some, root-lives, holder-lives}
 
 pub replaced : (n n1 n2 n3 n4 : Store) (root new_root : Option ℕ) (old new : ℕ)
     (h : Replacement n root old new)
-    → Written n n1 new (knot Left (holder h.context) (root_of h.left) h.rank (root_of h.right))
+    → Written n n1 new (node_view Left (holder h.context) (root_of h.left) h.rank (root_of h.right))
     → Reparented n1 n2 (root_of h.left) (Some new) → Reparented n2 n3 (root_of h.right) (Some new)
     → Relinked n3 n4 root new_root (holder h.context) old (Some new)
-    → Stands n4 new_root (plug h.context (node h.left new h.rank h.right))
+    → RepresentsTree n4 new_root (plug h.context (node h.left new h.rank h.right))
 replaced n n1 n2 n3 n4 root new_root old new h w1 w2 w3 w4 =
     let c = h.context in
     let l = h.left in
@@ -58,7 +58,7 @@ replaced n n1 n2 n3 n4 root new_root old new h w1 w2 w3 w4 =
     n1 n2 (Some new) l w2 new (omega arith) ∙ w1.here in
     plug-closes n4 new_root c (node l new h.rank r) round_4 (at_new, l_4, r_4)
 
-replaced_kept : (n n1 n2 n3 n4 : Store) (root new_root : Option ℕ) (old new : ℕ) (v : Knot)
+replaced_kept : (n n1 n2 n3 n4 : Store) (root new_root : Option ℕ) (old new : ℕ) (v : NodeView)
     (h : Replacement n root old new)
     → Written n n1 new v → Reparented n1 n2 (root_of h.left) (Some new)
     → Reparented n2 n3 (root_of h.right) (Some new)
@@ -74,10 +74,10 @@ replaced_kept n n1 n2 n3 n4 root new_root old new v h w1 w2 w3 w4 = λ j off.
     ∙ reparent-elsewhere n1 n2 (Some new) h.left w2 j (omega arith) ∙ write-elsewhere n n1 new v w1
     j (omega arith)
 
-pub replacement_knot : (n : Store) (root : Option ℕ) (old new : ℕ) (h : Replacement n root old new)
-    (value : Knot) → n old ≡ Some value
-    → value ≡ knot Left (holder h.context) (root_of h.left) h.rank (root_of h.right)
-replacement_knot n root old new h value e = let f =
+pub replacement_node : (n : Store) (root : Option ℕ) (old new : ℕ) (h : Replacement n root old new)
+    (value : NodeView) → n old ≡ Some value
+    → value ≡ node_view Left (holder h.context) (root_of h.left) h.rank (root_of h.right)
+replacement_node n root old new h value e = let f =
     (plug-opens n root h.context (node h.left old h.rank h.right) h.stands).1.0 in cc
 
 pub replacement_lives : (n : Store) (root : Option ℕ) (old new : ℕ) → Replacement n root old new
@@ -85,15 +85,15 @@ pub replacement_lives : (n : Store) (root : Option ℕ) (old new : ℕ) → Repl
 replacement_lives n root old new h
     = is_some (n old) _ (plug-opens n root h.context (node h.left old h.rank h.right) h.stands).1.0
 
-pub record ReplacementLives (n : Store) (value : Knot) : Type 0 where
+pub record ReplacementLives (n : Store) (value : NodeView) : Type 0 where
   pub left : (i : ℕ) → value.left ≡ Some i → IsSome (n i)
   pub right : (i : ℕ) → value.right ≡ Some i → IsSome (n i)
   pub parent : (i : ℕ) → value.parent ≡ Some i → IsSome (n i)
 
 pub replacement_links : (n : Store) (root : Option ℕ) (old new : ℕ) (h : Replacement n root old new)
-    (value : Knot) → n old ≡ Some value → ReplacementLives n value
+    (value : NodeView) → n old ≡ Some value → ReplacementLives n value
 replacement_links n root old new h value e =
-    let is = replacement_knot n root old new h value e in
+    let is = replacement_node n root old new h value e in
     let o = plug-opens n root h.context (node h.left old h.rank h.right) h.stands in
     record {
       left = λ i u. root-lives n (Some old) h.left i o.1.1 (ap (λ v. v.left) (sym is) ∙ u);
@@ -102,16 +102,16 @@ replacement_links n root old new h value e =
     }
 
 pub replacement_works : (n n1 n2 n3 n4 : Store) (root new_root : Option ℕ) (old new : ℕ)
-    (value : Knot)
+    (value : NodeView)
     → n old ≡ Some value
     → Written n n1 new value → Reparented n1 n2 value.left (Some new)
     → Reparented n2 n3 value.right (Some new)
     → Relinked n3 n4 root new_root value.parent old (Some new)
     → (h : Replacement n root old new)
-    → Stands n4 new_root (plug h.context (node h.left new h.rank h.right))
+    → RepresentsTree n4 new_root (plug h.context (node h.left new h.rank h.right))
     × KeptOff (walk (plug h.context (node h.left new h.rank h.right))) n n4
 replacement_works n n1 n2 n3 n4 root new_root old new value e w1 w2 w3 w4 h =
-    let is = replacement_knot n root old new h value e in
+    let is = replacement_node n root old new h value e in
     let moved_left = subst (λ v. Reparented n1 n2 v.left (Some new)) is w2 in
     let moved_right = subst (λ v. Reparented n2 n3 v.right (Some new)) is w3 in
     let hung = subst (λ v. Relinked n3 n4 root new_root v.parent old (Some new)) is w4 in (

@@ -2,30 +2,31 @@
 use Rattle.std.proofs.Common.{◌≡◌, ℕ, ◌+◌, ◌-◌, ◌^◌, ◌<◌, ◌≤◌, min, List, length, ◌∷◌, Option, Some}
 use Rattle.std.proofs.Common.{None, refl, sym, ap, ◌∙◌, subst, arith, inl, inr, length-append}
 use Rattle.std.specs.Option.{IsSome, IfSome}
-use Rattle.rank_tree.specs.Knot.{Knot}
+use Rattle.rank_tree.specs.NodeView.{NodeView}
 use Rattle.rank_tree.specs.declared.side.Side.{Side}
 use Rattle.rank_tree.specs.declared.side.Side.TheVariants.{Left, Right}
 use Rattle.rank_tree.specs.Store.{Store, other_side, child_of, Written, with_rank, rank_in}
 use Rattle.rank_tree.specs.Store.{rank_or_zero}
 use Rattle.rank_tree.specs.Tree.{Tree, leaf, node, walk, size, rank_of, IsRanked, Fits}
-use Rattle.rank_tree.specs.Shape.{make, near_of, knot, root_of, Context, top, under, plug}
-use Rattle.rank_tree.specs.Shape.{holder, Hangs, Stands, one, count, count_round, IsDistinct}
+use Rattle.rank_tree.specs.Shape.{make, near_of, node_view, root_of, Context, top, under, plug}
+use Rattle.rank_tree.specs.Shape.{holder, Hangs, RepresentsTree, one, count, count_round, IsDistinct}
 use Rattle.rank_tree.specs.Repair.{Spot, IsRankedRound, Restored, Grown, Leaning, KeptOff}
 use Rattle.rank_tree.specs.BoundLaws.{small_rank}
 use Rattle.rank_tree.specs.FrameLaws.{one-same, Represents-keep, Hangs-keep, make-count, make-root}
 use Rattle.rank_tree.specs.FrameLaws.{make-rank, make-opens, make-closes, plug-count, plug-opens}
 use Rattle.rank_tree.specs.FrameLaws.{plug-closes, plug-walk, IsDistinct-walk, write-elsewhere}
 use Rattle.rank_tree.specs.FrameLaws.{write_kept}
-use Rattle.rank_tree.specs.SpotLaws.{is_some, root-lives, knot_rank, knot_ranked, both_ranks}
+use Rattle.rank_tree.specs.SpotLaws.{is_some, root-lives, node_rank, node_ranked, both_ranks}
 use Rattle.rank_tree.specs.SpotLaws.{spot_child_of, spotted}
 use Rattle.rank_tree.specs.TurningLaws.{make-ranked, make-ranked-opens, restored}
 
 -- one node gets another rank
 pub ranked-write : (n m : Store) (root : Option ℕ) (c : Context) (s : Side) (t : Tree) (y k j : ℕ)
     (far : Tree)
-    → Written n m y (knot s (holder c) (root_of t) j (root_of far))
+    → Written n m y (node_view s (holder c) (root_of t) j (root_of far))
     → IsDistinct (plug c (make s t y k far))
-    → Stands n root (plug c (make s t y k far)) → Stands m root (plug c (make s t y j far))
+    → RepresentsTree n root (plug c (make s t y k far))
+    → RepresentsTree m root (plug c (make s t y j far))
 ranked-write n m root c s t y k j far w distinct h =
     let once : (i : ℕ) → count_round i c + (count i t + one i y + count i far) ≤ 1 = λ i.
     let o = distinct.once i in let p = plug-count c i (make s t y k far) in let q =
@@ -114,7 +115,7 @@ pub record Climbing (n : Store) (root : Option ℕ) (low : ℕ) (w : List ℕ) (
   pub leaning : 2 ≤ rank → rank_of outer + rank_of inner + 3 ≡ rank + rank
   pub distinct : IsDistinct
       (plug context (make side (make side outer low rank inner) high high_rank far))
-  pub stands : Stands n root
+  pub stands : RepresentsTree n root
       (plug context (make side (make side outer low rank inner) high high_rank far))
   pub fits : Fits (rank_of outer) rank (rank_of inner)
   pub outer_ranked : IsRanked outer
@@ -126,17 +127,18 @@ pub record Climbing (n : Store) (root : Option ℕ) (low : ℕ) (w : List ℕ) (
       ≡ w
   pub small : length w < 2 ^ 64
 
-pub grown_knot : (n : Store) (root : Option ℕ) (low : ℕ) (w : List ℕ) (h : Grown n root low w)
-    → n low ≡ Some (knot Left (holder h.context) (root_of h.left) h.rank (root_of h.right))
-grown_knot n root low w h
+pub grown_node : (n : Store) (root : Option ℕ) (low : ℕ) (w : List ℕ) (h : Grown n root low w)
+    → n low ≡ Some (node_view Left (holder h.context) (root_of h.left) h.rank (root_of h.right))
+grown_node n root low w h
     = (plug-opens n root h.context (node h.left low h.rank h.right) h.stands).1.0
 
-pub grown_under : (n : Store) (root : Option ℕ) (low high : ℕ) (below : Knot) (w : List ℕ)
+pub grown_under : (n : Store) (root : Option ℕ) (low high : ℕ) (below : NodeView) (w : List ℕ)
     → n low ≡ Some below → below.parent ≡ Some high → Grown n root low w
     → Climbing n root low w high
 grown_under n root low high below w eb eh h =
-    let below_is : below ≡ knot Left (holder h.context) (root_of h.left) h.rank (root_of h.right) =
-    cc (grown_knot n root low w h) in
+    let below_is : below ≡ node_view Left (holder h.context) (root_of h.left) h.rank
+    (root_of h.right) =
+    cc (grown_node n root low w h) in
     let v = open_round h.context high (ap (λ v. v.parent) (sym below_is) ∙ eh) in
     let s = v.side in
     let t = make s (near_of s h.left h.right) low h.rank (near_of (other_side s) h.left h.right) in
@@ -163,7 +165,7 @@ grown_under n root low high below w eb eh h =
       one_more = h.one_more;
       leaning = λ z. sum_is _ _ _ sum (h.leaning z);
       distinct = subst IsDistinct whole_is h.distinct;
-      stands = subst (Stands n root) whole_is h.stands;
+      stands = subst (RepresentsTree n root) whole_is h.stands;
       fits = parts.fits;
       outer_ranked = parts.near;
       inner_ranked = parts.far;
@@ -194,15 +196,17 @@ climb_spot n root low high w h =
     }
 
 -- at the root
-pub grown_ends : (n : Store) (root : Option ℕ) (low : ℕ) (below : Knot) (w : List ℕ)
+pub grown_ends : (n : Store) (root : Option ℕ) (low : ℕ) (below : NodeView) (w : List ℕ)
     → n low ≡ Some below → below.parent ≡ None → Grown n root low w → Restored n root w
 grown_ends n root low below w eb eh h =
-    let below_is : below ≡ knot Left (holder h.context) (root_of h.left) h.rank (root_of h.right) =
-    cc (grown_knot n root low w h) in
+    let below_is : below ≡ node_view Left (holder h.context) (root_of h.left) h.rank
+    (root_of h.right) =
+    cc (grown_node n root low w h) in
     let is : h.context ≡ top = open_top h.context (ap (λ v. v.parent) (sym below_is) ∙ eh) in
     record {
       tree = node h.left low h.rank h.right;
-      stands = subst (λ c. Stands n root (plug c (node h.left low h.rank h.right))) is h.stands;
+      stands = subst (λ c. RepresentsTree n root (plug c (node h.left low h.rank h.right)))
+          is h.stands;
       ranked = h.ranked;
       is_walk = ap (λ c. walk (plug c (node h.left low h.rank h.right))) (sym is) ∙ h.is_walk;
     }
@@ -248,7 +252,7 @@ climb_leans n root low high w h same less =
       distinct = subst (λ k. IsDistinct
           (plug h.context (make h.side (make h.side h.outer low h.rank h.inner) high k h.far)))
           is h.distinct;
-      stands = subst (λ k. Stands n root
+      stands = subst (λ k. RepresentsTree n root
           (plug h.context (make h.side (make h.side h.outer low h.rank h.inner) high k h.far)))
           is h.stands;
       fits = h.fits;
@@ -266,7 +270,8 @@ climb_leans n root low high w h same less =
 -- the parent has the same rank, and the sibling one less: the parent rises
 pub climb_up : (n m : Store) (root : Option ℕ) (low high : ℕ) (w : List ℕ)
     (h : Climbing n root low w high) → h.high_rank ≤ h.rank → h.rank ≤ rank_of h.far + 1
-    → Written n m high (knot h.side (holder h.context) (Some low) (h.high_rank + 1) (root_of h.far))
+    → Written n m high (node_view h.side (holder h.context) (Some low) (h.high_rank + 1)
+    (root_of h.far))
     → Grown m root high w
 climb_up n m root low high w h same less written =
     let f = h.high_fits in
@@ -298,10 +303,10 @@ climb_up n m root low high w h same less written =
       leaning = λ z. omega arith;
       distinct = subst (λ z. IsDistinct (plug h.context z)) new_is
           (IsDistinct-walk _ _ new_walk h.distinct);
-      stands = subst (λ z. Stands m root (plug h.context z)) new_is
+      stands = subst (λ z. RepresentsTree m root (plug h.context z)) new_is
           (ranked-write n m root h.context s t high h.high_rank (h.high_rank + 1) h.far
           (subst (λ z. Written n m high
-          (knot s (holder h.context) z (h.high_rank + 1) (root_of h.far))) link written)
+          (node_view s (holder h.context) z (h.high_rank + 1) (root_of h.far))) link written)
           h.distinct h.stands);
       ranked = subst IsRanked new_is
           (make-ranked s t high (h.high_rank + 1) h.far fits
@@ -313,7 +318,7 @@ climb_up n m root low high w h same less written =
     }
 
 -- and nothing beside the tree is changed
-pub climb_kept : (n m : Store) (root : Option ℕ) (low high : ℕ) (v : Knot) (w : List ℕ)
+pub climb_kept : (n m : Store) (root : Option ℕ) (low high : ℕ) (v : NodeView) (w : List ℕ)
     → Climbing n root low w high → Written n m high v → KeptOff w n m
 climb_kept n m root low high v w h written =
     let t = make h.side (make h.side h.outer low h.rank h.inner) high h.high_rank h.far in
@@ -325,32 +330,32 @@ climb_kept n m root low high v w h written =
 
 -- the parent's node, which is no higher than the subtree that has grown to this rank
 pub record IsLevel (n : Store) (root : Option ℕ) (low : ℕ) (w : List ℕ) (high : ℕ)
-    (h : Climbing n root low w high) (above : Knot) (rank : ℕ) : Type 0 where
+    (h : Climbing n root low w high) (above : NodeView) (rank : ℕ) : Type 0 where
   pub at_high : n high ≡ Some above
   pub rank_is : rank ≡ h.rank
   pub no_higher : h.high_rank ≤ h.rank
 
 -- the parent's node
-pub climb_knot : (n : Store) (root : Option ℕ) (low high : ℕ) (above : Knot)
+pub climb_node : (n : Store) (root : Option ℕ) (low high : ℕ) (above : NodeView)
     → n high ≡ Some above → (w : List ℕ) (h : Climbing n root low w high)
-    → above ≡ knot h.side (holder h.context) (Some low) h.high_rank (root_of h.far)
-climb_knot n root low high above e w h =
+    → above ≡ node_view h.side (holder h.context) (Some low) h.high_rank (root_of h.far)
+climb_node n root low high above e w h =
     let f = spotted n root low (climb_spot n root low high w h) in cc f.at_high
 
-pub climb_ranks : (n : Store) (root : Option ℕ) (low high : ℕ) (below above : Knot) → n low
+pub climb_ranks : (n : Store) (root : Option ℕ) (low high : ℕ) (below above : NodeView) → n low
     ≡ Some below → n high ≡ Some above
     → (w : List ℕ) (h : Climbing n root low w high) → (below.rank ≡ h.rank) × (above.rank
     ≡ h.high_rank)
 climb_ranks n root low high below above eb ea w h =
     let f = spotted n root low (climb_spot n root low high w h) in
-    let b : below ≡ knot h.side (Some high) (root_of h.outer) h.rank
+    let b : below ≡ node_view h.side (Some high) (root_of h.outer) h.rank
     (root_of h.inner) = cc f.at_low in
-    let a : above ≡ knot h.side (holder h.context) (Some low) h.high_rank
+    let a : above ≡ node_view h.side (holder h.context) (Some low) h.high_rank
     (root_of h.far) = cc f.at_high in
-    (ap (λ v. v.rank) b ∙ knot_rank h.side _ _ _ _, ap (λ v. v.rank) a ∙ knot_rank h.side _ _ _ _)
+    (ap (λ v. v.rank) b ∙ node_rank h.side _ _ _ _, ap (λ v. v.rank) a ∙ node_rank h.side _ _ _ _)
 
 -- the lower of the two ranks that the code reads
-pub level_lower : (n : Store) (root : Option ℕ) (low high : ℕ) (above : Knot) (l r rank : ℕ)
+pub level_lower : (n : Store) (root : Option ℕ) (low high : ℕ) (above : NodeView) (l r rank : ℕ)
     → ((j : ℕ) → above.left ≡ Some j → IfSome (n j) (λ x. l ≡ x.rank)) → (above.left ≡ None → l ≡ 0)
     → ((j : ℕ) → above.right ≡ Some j → IfSome (n j) (λ x. r ≡ x.rank))
     → (above.right ≡ None → r ≡ 0)
@@ -375,28 +380,28 @@ none_rank (node l i k r) e = absurd (cc)
 
 -- the child beside the one that has grown
 sibling_none : (s z : Side) (p : Option ℕ) (low k : ℕ) (far : Tree)
-    → child_of z (knot s p (Some low) k (root_of far)) ≡ None → rank_of far ≡ 0
+    → child_of z (node_view s p (Some low) k (root_of far)) ≡ None → rank_of far ≡ 0
 sibling_none Left Left p low k far e = absurd (cc)
 sibling_none Left Right p low k far e = none_rank far e
 sibling_none Right Left p low k far e = none_rank far e
 sibling_none Right Right p low k far e = absurd (cc)
 
 sibling_some : (s : Side) (p : Option ℕ) (low k : ℕ) (far : Tree) → IsRanked far
-    → (child_of Left (knot s p (Some low) k (root_of far)) ≡ None → ⊥)
-    → (child_of Right (knot s p (Some low) k (root_of far)) ≡ None → ⊥) → 0 < rank_of far
+    → (child_of Left (node_view s p (Some low) k (root_of far)) ≡ None → ⊥)
+    → (child_of Right (node_view s p (Some low) k (root_of far)) ≡ None → ⊥) → 0 < rank_of far
 sibling_some Left p low k far h left right = some_node far h right
 sibling_some Right p low k far h left right = some_node far h left
 
-module _ (n : Store) (root : Option ℕ) (low high : ℕ) (above : Knot) (rank : ℕ) (w : List ℕ)
+module _ (n : Store) (root : Option ℕ) (low high : ℕ) (above : NodeView) (rank : ℕ) (w : List ℕ)
     (h : Climbing n root low w high) (level : IsLevel n root low w high h above rank) where
-  level_knot : above ≡ knot h.side (holder h.context) (Some low) h.high_rank (root_of h.far)
-  level_knot = climb_knot n root low high above level.at_high w h
+  level_node : above ≡ node_view h.side (holder h.context) (Some low) h.high_rank (root_of h.far)
+  level_node = climb_node n root low high above level.at_high w h
 
   -- at rank 2 a child that is absent is two lower
   pub level_none : (z : Side) → rank ≡ 2 → child_of z above ≡ None → rank_of h.far + 1 < rank
   level_none z two none =
       let e = sibling_none h.side z (holder h.context) low h.high_rank h.far
-      (ap (child_of z) (sym level_knot) ∙ none) in
+      (ap (child_of z) (sym level_node) ∙ none) in
       omega arith
 
   -- and if none is, the one that has not grown is one lower
@@ -404,23 +409,24 @@ module _ (n : Store) (root : Option ℕ) (low high : ℕ) (above : Knot) (rank :
       → (child_of Right above ≡ None → ⊥) → rank_of h.far + 1 < rank → ⊥
   level_some two left right less =
       let e = sibling_some h.side (holder h.context) low h.high_rank h.far h.far_ranked
-      (λ none. left (ap (child_of Left) level_knot ∙ none))
-      (λ none. right (ap (child_of Right) level_knot ∙ none)) in
+      (λ none. left (ap (child_of Left) level_node ∙ none))
+      (λ none. right (ap (child_of Right) level_node ∙ none)) in
       omega arith
 
-pub climb_write : (n m : Store) (root : Option ℕ) (low high : ℕ) (above : Knot) → n high
+pub climb_write : (n m : Store) (root : Option ℕ) (low high : ℕ) (above : NodeView) → n high
     ≡ Some above
     → Written n m high (with_rank (above.rank + 1) above)
     → (w : List ℕ) (h : Climbing n root low w high)
-    → Written n m high (knot h.side (holder h.context) (Some low) (h.high_rank + 1) (root_of h.far))
+    → Written n m high (node_view h.side (holder h.context) (Some low) (h.high_rank + 1)
+    (root_of h.far))
 climb_write n m root low high above e written w h =
-    let v = knot h.side (holder h.context) (Some low) h.high_rank (root_of h.far) in
-    let knot_is : above ≡ v = climb_knot n root low high above e w h in
-    let rank_is : above.rank ≡ h.high_rank = ap (λ x. x.rank) knot_is ∙ knot_rank h.side _ _ _ _ in
+    let v = node_view h.side (holder h.context) (Some low) h.high_rank (root_of h.far) in
+    let node_is : above ≡ v = climb_node n root low high above e w h in
+    let rank_is : above.rank ≡ h.high_rank = ap (λ x. x.rank) node_is ∙ node_rank h.side _ _ _ _ in
     let is : with_rank (above.rank + 1) above
-    ≡ knot h.side (holder h.context) (Some low) (h.high_rank + 1) (root_of h.far) =
-    ap (λ k. with_rank (k + 1) above) rank_is ∙ ap (λ x. with_rank (h.high_rank + 1) x) knot_is
-    ∙ knot_ranked h.side (holder h.context) (Some low) h.high_rank (h.high_rank + 1)
+    ≡ node_view h.side (holder h.context) (Some low) (h.high_rank + 1) (root_of h.far) =
+    ap (λ k. with_rank (k + 1) above) rank_is ∙ ap (λ x. with_rank (h.high_rank + 1) x) node_is
+    ∙ node_ranked h.side (holder h.context) (Some low) h.high_rank (h.high_rank + 1)
     (root_of h.far) in
     subst (λ x. Written n m high x) is written
 
@@ -435,12 +441,12 @@ climb_small n root low high w h =
     h.is_walk h.small in
     omega arith
 
-pub children_live : (n : Store) (root : Option ℕ) (low high : ℕ) (above : Knot) (z : Side)
+pub children_live : (n : Store) (root : Option ℕ) (low high : ℕ) (above : NodeView) (z : Side)
     → n high ≡ Some above → (w : List ℕ) → Climbing n root low w high
     → (i : ℕ) → child_of z above ≡ Some i → IsSome (n i)
 children_live n root low high above z e w h i c =
     let f = spotted n root low (climb_spot n root low high w h) in
-    let is = climb_knot n root low high above e w h in
+    let is = climb_node n root low high above e w h in
     elim (spot_child_of h.side z (holder h.context) (Some low) h.high_rank (root_of h.far) i
     (subst (λ v. child_of z v ≡ Some i) is c)) [
       | inl u ↦ let same : low ≡ i = cc in rw (← same) (is_some (n low) _ f.at_low)
@@ -449,17 +455,17 @@ children_live n root low high above z e w h i c =
 
 pub grown_lives : (n : Store) (root : Option ℕ) (low : ℕ) (w : List ℕ) → Grown n root low w
     → IsSome (n low)
-grown_lives n root low w h = is_some (n low) _ (grown_knot n root low w h)
+grown_lives n root low w h = is_some (n low) _ (grown_node n root low w h)
 
 pub parent_lives : (n : Store) (root : Option ℕ) (low high : ℕ) (w : List ℕ)
     → Climbing n root low w high → IsSome (n high)
 parent_lives n root low high w h
     = is_some (n high) _ (spotted n root low (climb_spot n root low high w h)).at_high
 
-pub rank_in_at : (n : Store) (i : ℕ) (v : Knot) → n i ≡ Some v → rank_in n i ≡ v.rank
+pub rank_in_at : (n : Store) (i : ℕ) (v : NodeView) → n i ≡ Some v → rank_in n i ≡ v.rank
 rank_in_at n i v e = ap rank_or_zero e
 
-pub climb_falls : (n m : Store) (low high : ℕ) (below above : Knot) → n low ≡ Some below
+pub climb_falls : (n m : Store) (low high : ℕ) (below above : NodeView) → n low ≡ Some below
     → Written n m high (with_rank (above.rank + 1) above)
     → below.rank ≤ above.rank → below.rank ≤ 127 → 255 - rank_in m high < 255 - rank_in n low
 climb_falls n m low high below above eb written le small =

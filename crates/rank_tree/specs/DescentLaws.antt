@@ -1,16 +1,17 @@
 -- A search goes down.
+use Rattle.std.specs.List.{AllByRecursion}
 use Rattle.std.proofs.Common.{◌≡◌, ℕ, ◌+◌, ◌<◌, ◌≤◌, List, [], append-nil, ◌∷◌, ◌++◌, Option, Some}
 use Rattle.std.proofs.Common.{None, refl, sym, ap, ◌∙◌, subst, arith, append_assoc}
 use Rattle.std.specs.Option.{IsSome}
 use Rattle.std.specs.declared.cmp.Ordering.{Ordering}
 use Rattle.std.specs.declared.cmp.Ordering.TheVariants.{Less, Equal, Greater}
-use Rattle.rank_tree.specs.Knot.{Knot}
+use Rattle.rank_tree.specs.NodeView.{NodeView}
 use Rattle.rank_tree.specs.declared.side.Side.TheVariants.{Left, Right}
 use Rattle.rank_tree.specs.Store.{Store, rank_in, rank_or_zero, rank_or_link}
 use Rattle.rank_tree.specs.Tree.{Tree, leaf, node, walk, rank_of, IsRanked}
-use Rattle.rank_tree.specs.Shape.{knot, root_of, Context, top, under, plug, holder, Represents}
-use Rattle.rank_tree.specs.Shape.{Hangs, Stands, count, count_round}
-use Rattle.rank_tree.specs.Search.{AllIn, Before, IsParted, Places, IsAnswer, IsFreeAt, led_by}
+use Rattle.rank_tree.specs.Shape.{node_view, root_of, Context, top, under, plug, holder, Represents}
+use Rattle.rank_tree.specs.Shape.{Hangs, RepresentsTree, count, count_round}
+use Rattle.rank_tree.specs.Search.{Before, IsParted, EndsAt, IsAnswer, IsFreeAt, led_by}
 use Rattle.rank_tree.specs.Search.{asked_down}
 use Rattle.rank_tree.specs.FrameLaws.{one-same, plug-count, plug-opens, root-counted}
 use Rattle.rank_tree.specs.SpotLaws.{root-lives, rank_link}
@@ -37,32 +38,35 @@ plug-walk_is top t = sym (append-nil (walk t))
 plug-walk_is (under c Left i k far) t = plug-walk_is c (node t i k far) ∙ simp append_assoc
 plug-walk_is (under c Right i k far) t = plug-walk_is c (node far i k t) ∙ simp append_assoc
 
-pub AllIn-append : (P : ℕ → Type 0) (xs ys : List ℕ) → AllIn P xs → AllIn P ys → AllIn P (xs ++ ys)
-AllIn-append P [] ys p q = q
-AllIn-append P (x ∷ xs) ys p q = (p.0, AllIn-append P xs ys p.1 q)
+pub all-append : (P : ℕ → Type 0) (xs ys : List ℕ) → AllByRecursion P xs → AllByRecursion P ys
+    → AllByRecursion P (xs ++ ys)
+all-append P [] ys p q = q
+all-append P (x ∷ xs) ys p q = (p.0, all-append P xs ys p.1 q)
 
-pub AllIn-front : (P : ℕ → Type 0) (xs ys : List ℕ) → AllIn P (xs ++ ys) → AllIn P xs
-AllIn-front P [] ys p = tt
-AllIn-front P (x ∷ xs) ys p = (p.0, AllIn-front P xs ys p.1)
+pub all-front : (P : ℕ → Type 0) (xs ys : List ℕ) → AllByRecursion P (xs ++ ys)
+    → AllByRecursion P xs
+all-front P [] ys p = tt
+all-front P (x ∷ xs) ys p = (p.0, all-front P xs ys p.1)
 
-pub AllIn-back : (P : ℕ → Type 0) (xs ys : List ℕ) → AllIn P (xs ++ ys) → AllIn P ys
-AllIn-back P [] ys p = p
-AllIn-back P (x ∷ xs) ys p = AllIn-back P xs ys p.1
+pub all-back : (P : ℕ → Type 0) (xs ys : List ℕ) → AllByRecursion P (xs ++ ys) → AllByRecursion P ys
+all-back P [] ys p = p
+all-back P (x ∷ xs) ys p = all-back P xs ys p.1
 
-pub AllIn-map : (P Q : ℕ → Type 0) → ((y : ℕ) → P y → Q y) → (xs : List ℕ) → AllIn P xs → AllIn Q xs
-AllIn-map P Q f [] p = tt
-AllIn-map P Q f (x ∷ xs) p = (f x p.0, AllIn-map P Q f xs p.1)
+pub all-map : (P Q : ℕ → Type 0) → ((y : ℕ) → P y → Q y) → (xs : List ℕ) → AllByRecursion P xs
+    → AllByRecursion Q xs
+all-map P Q f [] p = tt
+all-map P Q f (x ∷ xs) p = (f x p.0, all-map P Q f xs p.1)
 
 pub parted-after : (f : ℕ → Ordering) (xs : List ℕ) (i : ℕ) (ys : List ℕ)
-    → IsParted f (xs ++ i ∷ ys) → AllIn (λ y. Before (f i) (f y)) ys
+    → IsParted f (xs ++ i ∷ ys) → AllByRecursion (λ y. Before (f i) (f y)) ys
 parted-after f [] i ys s = s.0
 parted-after f (x ∷ xs) i ys s = parted-after f xs i ys s.1
 
 pub parted-before : (f : ℕ → Ordering) (xs : List ℕ) (i : ℕ) (ys : List ℕ)
-    → IsParted f (xs ++ i ∷ ys) → AllIn (λ y. Before (f y) (f i)) xs
+    → IsParted f (xs ++ i ∷ ys) → AllByRecursion (λ y. Before (f y) (f i)) xs
 parted-before f [] i ys s = tt
 parted-before f (x ∷ xs) i ys s
-    = ((AllIn-back (λ y. Before (f x) (f y)) xs (i ∷ ys) s.0).0, parted-before f xs i ys s.1)
+    = ((all-back (λ y. Before (f x) (f y)) xs (i ∷ ys) s.0).0, parted-before f xs i ys s.1)
 
 some_pair : (x i : ℕ) (d e : Ordering) → ◌≡◌ {A = Option (ℕ × Ordering)} (Some (x, d)) (Some (i, e))
     → (x ≡ i) × (d ≡ e)
@@ -82,10 +86,11 @@ pub record Descent (n : Store) (f : ℕ → Ordering) (whole : Tree) (link : Opt
   pub left_over : asked + rank_of rest ≤ rank_of whole
   pub counted : asked + asked_down f rest ≡ asked_down f whole
   pub answered : (i : ℕ) (d : Ordering) → place ≡ Some (i, d) → f i ≡ d
-  pub parted : IsParted f (walk whole) → AllIn (λ y. f y ≡ Greater) (before context)
-      × AllIn (λ y. f y ≡ Less) (after context)
+  pub parted : IsParted f (walk whole) → AllByRecursion (λ y. f y ≡ Greater) (before context)
+      × AllByRecursion (λ y. f y ≡ Less) (after context)
 
-pub descent_begins : (n : Store) (f : ℕ → Ordering) (root : Option ℕ) (t : Tree) → Stands n root t
+pub descent_begins : (n : Store) (f : ℕ → Ordering) (root : Option ℕ) (t : Tree)
+    → RepresentsTree n root t
     → IsRanked t → Descent n f t root None 0
 descent_begins n f root t stands ranked =
     record {
@@ -117,8 +122,8 @@ place_top (under c Right x k far) e = absurd (cc)
 
 -- at the end, the last that was asked is a neighbor of the gap
 place_places : (f : ℕ → Ordering) (c : Context) (i : ℕ) (d : Ordering) → last_of c ≡ Some (i, d)
-    → AllIn (λ y. f y ≡ Greater) (before c) → AllIn (λ y. f y ≡ Less) (after c)
-    → Places f (walk (plug c leaf)) i d
+    → AllByRecursion (λ y. f y ≡ Greater) (before c) → AllByRecursion (λ y. f y ≡ Less) (after c)
+    → EndsAt f (walk (plug c leaf)) i d
 place_places f top i d e lo hi = absurd (cc)
 place_places f (under c Left x k far) i d e lo hi =
     let xi : x ≡ i = (some_pair x i Less d e).0 in
@@ -159,7 +164,7 @@ descent_ends n f whole link place asked e h =
       lives = λ i d u. let p = place_lives h.context i d (sym h.place_is ∙ u) in let q =
           plug-count h.context i leaf in subst (λ t. 0 < count i t) is (omega arith);
       asked = h.answered;
-      parted = λ i d u s. let o = h.parted s in subst (λ t. Places f (walk t) i d) is
+      parted = λ i d u s. let o = h.parted s in subst (λ t. EndsAt f (walk t) i d) is
           (place_places f h.context i d (sym h.place_is ∙ u) o.0 o.1);
     }
 
@@ -185,18 +190,18 @@ place_free n root (under c Right x k far) h i d e =
     subst (λ d. IsFreeAt d (n i)) p.1 (subst (λ j. IsFreeAt Greater (n j)) p.0 (rw (h.0) refl))
 
 pub descent_free : (n : Store) (f : ℕ → Ordering) (root : Option ℕ) (whole : Tree) (link : Option ℕ)
-    (place : Option (ℕ × Ordering)) (asked : ℕ) → Stands n root whole
+    (place : Option (ℕ × Ordering)) (asked : ℕ) → RepresentsTree n root whole
     → link ≡ None → Descent n f whole link place asked → (i : ℕ) (d : Ordering)
     → place ≡ Some (i, d) → IsFreeAt d (n i)
 descent_free n f root whole link place asked stands e h i d at =
     let nil : h.rest ≡ leaf = rest_leaf h.rest (sym h.link_is ∙ e) in
     let is : whole ≡ plug h.context leaf = sym h.is ∙ ap (λ t. plug h.context t) nil in
     place_free n root h.context
-    (plug-opens n root h.context leaf (subst (Stands n root) is stands)).0 i d
+    (plug-opens n root h.context leaf (subst (RepresentsTree n root) is stands)).0 i d
     (sym h.place_is ∙ at)
 
 -- one step down
-pub record Here (n : Store) (f : ℕ → Ordering) (whole : Tree) (i : ℕ) (v : Knot) (asked : ℕ)
+pub record Here (n : Store) (f : ℕ → Ordering) (whole : Tree) (i : ℕ) (v : NodeView) (asked : ℕ)
     : Type 0 where
   pub lives : 0 < count i whole
   pub rank_left : rank_or_link n v.left < rank_in n i
@@ -212,16 +217,16 @@ answers : (f : ℕ → Ordering) (x : ℕ) (e : Ordering) → f x ≡ e → (i :
 answers f x e q i d u = let g = some_pair x i e d u in sym (ap f g.0) ∙ q ∙ g.1
 
 here_at : (n : Store) (f : ℕ → Ordering) (c : Context) (l : Tree) (i k : ℕ) (r : Tree)
-    (asked : ℕ) (v : Knot)
+    (asked : ℕ) (v : NodeView)
     → n i ≡ Some v → Represents n (holder c) (node l i k r) → IsRanked (node l i k r)
     → asked + k ≤ rank_of (plug c (node l i k r))
     → asked + asked_down f (node l i k r) ≡ asked_down f (plug c (node l i k r))
-    → (IsParted f (walk (plug c (node l i k r))) → AllIn (λ y. f y ≡ Greater) (before c)
-    × AllIn (λ y. f y ≡ Less) (after c))
+    → (IsParted f (walk (plug c (node l i k r))) → AllByRecursion (λ y. f y ≡ Greater) (before c)
+    × AllByRecursion (λ y. f y ≡ Less) (after c))
     → Here n f (plug c (node l i k r)) i v asked
 here_at n f c l i k r asked v e h ranked over asks parted =
     let fits = ranked.0 in
-    let is : v ≡ knot Left (holder c) (root_of l) k (root_of r) = cc h.0 in
+    let is : v ≡ node_view Left (holder c) (root_of l) k (root_of r) = cc h.0 in
     let left_is : v.left ≡ root_of l = ap (λ z. z.left) is in
     let right_is : v.right ≡ root_of r = ap (λ z. z.right) is in
     let k_is : rank_in n i ≡ k = ap rank_or_zero h.0 in
@@ -258,10 +263,10 @@ here_at n f c l i k r asked v e h ranked over asks parted =
               o.0,
               (
                 q,
-                AllIn-append (λ y. f y ≡ Less) (walk r) (after c)
-                    (AllIn-map (λ y. Before (f i) (f y)) (λ y. f y ≡ Less)
+                all-append (λ y. f y ≡ Less) (walk r) (after c)
+                    (all-map (λ y. Before (f i) (f y)) (λ y. f y ≡ Less)
                     (λ y z. z.less q) (walk r)
-                    (AllIn-front (λ y. Before (f i) (f y)) (walk r) (after c) up)) o.1,
+                    (all-front (λ y. Before (f i) (f y)) (walk r) (after c) up)) o.1,
               ),
             );
       };
@@ -280,10 +285,10 @@ here_at n f c l i k r asked v e h ranked over asks parted =
             let o = parted s in
             let down = parted-before f (before c ++ walk l) i (walk r ++ after c)
             (subst (IsParted f) flat s) in (
-              AllIn-append (λ y. f y ≡ Greater) (before c) (walk l ++ i ∷ []) o.0
-                  (AllIn-append (λ y. f y ≡ Greater) (walk l) (i ∷ [])
-                  (AllIn-map (λ y. Before (f y) (f i)) (λ y. f y ≡ Greater) (λ y z. z.greater q)
-                  (walk l) (AllIn-back (λ y. Before (f y) (f i)) (before c) (walk l) down))
+              all-append (λ y. f y ≡ Greater) (before c) (walk l ++ i ∷ []) o.0
+                  (all-append (λ y. f y ≡ Greater) (walk l) (i ∷ [])
+                  (all-map (λ y. Before (f y) (f i)) (λ y. f y ≡ Greater) (λ y z. z.greater q)
+                  (walk l) (all-back (λ y. Before (f y) (f i)) (before c) (walk l) down))
                   (q, tt)),
               o.1,
             );
@@ -308,7 +313,7 @@ here_at n f c l i k r asked v e h ranked over asks parted =
     }
 
 pub step_down : (n : Store) (f : ℕ → Ordering) (whole : Tree) (link : Option ℕ)
-    (place : Option (ℕ × Ordering)) (asked : ℕ) (i : ℕ) (v : Knot)
+    (place : Option (ℕ × Ordering)) (asked : ℕ) (i : ℕ) (v : NodeView)
     → link ≡ Some i → n i ≡ Some v → Descent n f whole link place asked → Here n f whole i v asked
 step_down n f whole link place asked i v e ev h = go h.rest refl
   where
@@ -327,8 +332,8 @@ step_down n f whole link place asked i v e ev h = go h.rest refl
         (subst IsRanked same h.ranked)
         (rw is (let y = ap rank_of same in omega arith))
         (ap (λ t. asked + asked_down f t) (sym same) ∙ h.counted ∙ ap (asked_down f) (sym is))
-        (subst (λ t. IsParted f (walk t) → AllIn (λ y. f y ≡ Greater) (before h.context)
-        × AllIn (λ y. f y ≡ Less) (after h.context)) (sym is) h.parted))
+        (subst (λ t. IsParted f (walk t) → AllByRecursion (λ y. f y ≡ Greater) (before h.context)
+        × AllByRecursion (λ y. f y ≡ Less) (after h.context)) (sym is) h.parted))
 
 pub descent_lives : (n : Store) (f : ℕ → Ordering) (whole : Tree) (link : Option ℕ)
     (place : Option (ℕ × Ordering)) (asked : ℕ) (i : ℕ)

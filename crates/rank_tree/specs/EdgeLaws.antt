@@ -3,14 +3,14 @@ use Rattle.std.proofs.Common.{◌≡◌, ℕ, ◌+◌, ◌≤◌, length, ◌∷
 use Rattle.std.proofs.Common.{ap, ◌∙◌, subst, arith, inl, inr, length-append}
 use Rattle.std.proofs.lemmas.Bool.{cases_eq}
 use Rattle.std.specs.Option.{IsSome, IfSome}
-use Rattle.rank_tree.specs.Knot.{Knot}
+use Rattle.rank_tree.specs.NodeView.{NodeView}
 use Rattle.rank_tree.specs.declared.side.Side.{Side}
 use Rattle.rank_tree.specs.declared.side.Side.TheVariants.{Left, Right}
 use Rattle.rank_tree.specs.Store.{Store, with_child, Written, Reparented, Relinked}
 use Rattle.rank_tree.specs.Tree.{Tree, leaf, node, walk, rank_of, IsRanked}
-use Rattle.rank_tree.specs.Shape.{make, knot, root_of, Context, top, under, plug, holder, Hangs}
+use Rattle.rank_tree.specs.Shape.{make, node_view, root_of, Context, top, under, plug, holder, Hangs}
 use Rattle.rank_tree.specs.Shape.{one, count, count_round}
-use Rattle.rank_tree.specs.Repair.{IsRankedRound, Grown, Pending, Gap, new_below, filled}
+use Rattle.rank_tree.specs.Repair.{IsRankedRound, Grown, Pending, FreeSide, new_below, filled}
 use Rattle.rank_tree.specs.Repair.{Loose, KeptOff}
 use Rattle.rank_tree.specs.FrameLaws.{one-same, one-other, Represents-keep, Hangs-keep, make-count}
 use Rattle.rank_tree.specs.FrameLaws.{make-root, make-rank, make-opens, make-closes, plug-count}
@@ -18,7 +18,7 @@ use Rattle.rank_tree.specs.FrameLaws.{plug-opens, plug-closes, write-elsewhere, 
 use Rattle.rank_tree.specs.FrameLaws.{reparent-elsewhere, relink-elsewhere, Hangs-relink}
 use Rattle.rank_tree.specs.FrameLaws.{count-walk}
 use Rattle.rank_tree.specs.SpotLaws.{is_some as some_at, if_some, root-lives, holder-lives}
-use Rattle.rank_tree.specs.SpotLaws.{knot_parent}
+use Rattle.rank_tree.specs.SpotLaws.{node_parent}
 use Rattle.rank_tree.specs.TurningLaws.{make-ranked-opens}
 use Rattle.rank_tree.specs.DescentLaws.{before, after, plug-walk_is}
 use Rattle.rank_tree.specs.ClimbLaws.{size-walk, size-make}
@@ -66,9 +66,9 @@ make-length s a i k b = let p = size-walk (make s a i k b) in let q = size-make 
     size-walk a in let r = size-walk b in omega arith
 
 pub attached : (n m : Store) (root : Option ℕ) (at_holder : ℕ) (side : Side) (new : ℕ)
-    (g : Gap n root at_holder side new)
+    (g : FreeSide n root at_holder side new)
     → n new ≡ Some (new_below at_holder)
-    → Written n m at_holder (knot side (holder g.context) (Some new) g.rank (root_of g.far))
+    → Written n m at_holder (node_view side (holder g.context) (Some new) g.rank (root_of g.far))
     → Grown m root new (walk (filled g))
 attached n m root at_holder side new g slot w =
     let c = g.context in
@@ -134,7 +134,7 @@ attached n m root at_holder side new g slot w =
     }
 
 pub attached_kept : (n m : Store) (root : Option ℕ) (at_holder : ℕ) (side : Side) (new : ℕ)
-    (v : Knot) (g : Gap n root at_holder side new)
+    (v : NodeView) (g : FreeSide n root at_holder side new)
     → Written n m at_holder v → KeptOff (walk (filled g)) n m
 attached_kept n m root at_holder side new v g w = λ j off.
     let t = node leaf new 1 leaf in
@@ -192,34 +192,34 @@ detached_kept n n1 n2 root new_root gone h w1 w2 = λ j off.
     (omega arith) ∙ reparent-elsewhere n n1 (holder c) h.sub w1 j (omega arith)
 
 -- what the code reads
-gap_knot : (n : Store) (root : Option ℕ) (at_holder : ℕ) (side : Side) (new : ℕ)
-    (g : Gap n root at_holder side new)
-    → n at_holder ≡ Some (knot side (holder g.context) None g.rank (root_of g.far))
-gap_knot n root at_holder side new g =
+free_side_node : (n : Store) (root : Option ℕ) (at_holder : ℕ) (side : Side) (new : ℕ)
+    (g : FreeSide n root at_holder side new)
+    → n at_holder ≡ Some (node_view side (holder g.context) None g.rank (root_of g.far))
+free_side_node n root at_holder side new g =
     let e0 = plug-opens n root g.context (make side leaf at_holder g.rank g.far) g.stands in
     (make-opens side n (holder g.context) leaf at_holder g.rank g.far e0.1).0
 
-pub gap_lives : (n : Store) (root : Option ℕ) (at_holder : ℕ) (side : Side) (new : ℕ)
-    → Gap n root at_holder side new → IsSome (n at_holder)
-gap_lives n root at_holder side new g =
-    some_at (n at_holder) _ (gap_knot n root at_holder side new g)
+pub free_side_lives : (n : Store) (root : Option ℕ) (at_holder : ℕ) (side : Side) (new : ℕ)
+    → FreeSide n root at_holder side new → IsSome (n at_holder)
+free_side_lives n root at_holder side new g =
+    some_at (n at_holder) _ (free_side_node n root at_holder side new g)
 
-knot_filled : (s : Side) (p : Option ℕ) (k : ℕ) (b link : Option ℕ)
-    → with_child s link (knot s p None k b) ≡ knot s p link k b
-knot_filled Left p k b link = refl
-knot_filled Right p k b link = refl
+node_filled : (s : Side) (p : Option ℕ) (k : ℕ) (b link : Option ℕ)
+    → with_child s link (node_view s p None k b) ≡ node_view s p link k b
+node_filled Left p k b link = refl
+node_filled Right p k b link = refl
 
 -- the holder has the new node as its child
 module _ (n m : Store) (root : Option ℕ) (at_holder : ℕ) (side : Side) (new : ℕ)
-    (does : (v : Knot) → n at_holder ≡ Some v
+    (does : (v : NodeView) → n at_holder ≡ Some v
     → Written n m at_holder (with_child side (Some new) v))
-    (g : Gap n root at_holder side new) where
+    (g : FreeSide n root at_holder side new) where
   child_written : Written n m at_holder
-      (knot side (holder g.context) (Some new) g.rank (root_of g.far))
+      (node_view side (holder g.context) (Some new) g.rank (root_of g.far))
   child_written =
       subst (λ v. Written n m at_holder v)
-      (knot_filled side (holder g.context) g.rank (root_of g.far) (Some new))
-      (does _ (gap_knot n root at_holder side new g))
+      (node_filled side (holder g.context) g.rank (root_of g.far) (Some new))
+      (does _ (free_side_node n root at_holder side new g))
 
   pub attach_works : n new ≡ Some (new_below at_holder) → Grown m root new (walk (filled g))
   attach_works slot = attached n m root at_holder side new g slot child_written
@@ -234,44 +234,45 @@ module _ (n m : Store) (root : Option ℕ) (at_holder : ℕ) (side : Side) (new 
   pub attach_kept : KeptOff (walk (filled g)) n m
   attach_kept = attached_kept n m root at_holder side new _ g child_written
 
-pub loose_knot : (n : Store) (root : Option ℕ) (gone : ℕ) (h : Loose n root gone)
-    → n gone ≡ Some (knot h.side (holder h.context) (root_of h.sub) h.rank None)
-loose_knot n root gone h
+pub loose_node : (n : Store) (root : Option ℕ) (gone : ℕ) (h : Loose n root gone)
+    → n gone ≡ Some (node_view h.side (holder h.context) (root_of h.sub) h.rank None)
+loose_node n root gone h
     = (make-opens h.side n (holder h.context) h.sub gone h.rank leaf
     (plug-opens n root h.context (make h.side h.sub gone h.rank leaf) h.stands).1).0
 
 pub loose_lives : (n : Store) (root : Option ℕ) (gone : ℕ) → Loose n root gone → IsSome (n gone)
-loose_lives n root gone h = some_at (n gone) _ (loose_knot n root gone h)
+loose_lives n root gone h = some_at (n gone) _ (loose_node n root gone h)
 
 first_is : (s : Side) (p : Option ℕ) (t : Tree) (k : ℕ) (link : Option ℕ)
-    → ((i : ℕ) → (knot s p (root_of t) k None).left ≡ Some i → link ≡ Some i)
-    → ((knot s p (root_of t) k None).left ≡ None → link ≡ (knot s p (root_of t) k None).right)
+    → ((i : ℕ) → (node_view s p (root_of t) k None).left ≡ Some i → link ≡ Some i)
+    → ((node_view s p (root_of t) k None).left ≡ None
+    → link ≡ (node_view s p (root_of t) k None).right)
     → link ≡ root_of t
 first_is Left p leaf k link f g = g refl
 first_is Left p (node l i j r) k link f g = f i refl
 first_is Right p t k link f g = g refl
 
 pub record LooseReads (n : Store) (root : Option ℕ) (gone : ℕ) (h : Loose n root gone)
-    (value : Knot) (link : Option ℕ) : Type 0 where
+    (value : NodeView) (link : Option ℕ) : Type 0 where
   pub link_is : link ≡ root_of h.sub
   pub parent_is : value.parent ≡ holder h.context
   pub sub_lives : IfSome link (λ i. IsSome (n i))
   pub holder_lives : (i : ℕ) → value.parent ≡ Some i → IsSome (n i)
 
-pub loose_reads : (n : Store) (root : Option ℕ) (gone : ℕ) (value : Knot) (link : Option ℕ)
+pub loose_reads : (n : Store) (root : Option ℕ) (gone : ℕ) (value : NodeView) (link : Option ℕ)
     → n gone ≡ Some value
     → ((i : ℕ) → value.left ≡ Some i → link ≡ Some i) → (value.left ≡ None → link ≡ value.right)
     → (h : Loose n root gone) → LooseReads n root gone h value link
 loose_reads n root gone value link e f g h =
-    let is : value ≡ knot h.side (holder h.context) (root_of h.sub) h.rank None =
-    cc (loose_knot n root gone h) in
+    let is : value ≡ node_view h.side (holder h.context) (root_of h.sub) h.rank None =
+    cc (loose_node n root gone h) in
     let o = plug-opens n root h.context (make h.side h.sub gone h.rank leaf) h.stands in
     let parts = make-opens h.side n (holder h.context) h.sub gone h.rank leaf o.1 in
     let link_is = first_is h.side (holder h.context) h.sub h.rank link
     (subst (λ v. (i : ℕ) → v.left ≡ Some i → link ≡ Some i) is f)
     (subst (λ v. v.left ≡ None → link ≡ v.right) is g) in
     let parent_is : value.parent ≡ holder h.context =
-    ap (λ v. v.parent) is ∙ knot_parent h.side _ _ _ _ in
+    ap (λ v. v.parent) is ∙ node_parent h.side _ _ _ _ in
     record {
       link_is = link_is;
       parent_is = parent_is;
@@ -280,7 +281,7 @@ loose_reads n root gone value link e f g h =
       holder_lives = λ i u. holder-lives n root h.context _ i o.0 (sym parent_is ∙ u);
     }
 
-pub detach_works : (n n1 n2 : Store) (root new_root : Option ℕ) (gone : ℕ) (value : Knot)
+pub detach_works : (n n1 n2 : Store) (root new_root : Option ℕ) (gone : ℕ) (value : NodeView)
     (link : Option ℕ)
     → Reparented n n1 link value.parent → Relinked n1 n2 root new_root value.parent gone link
     → (h : Loose n root gone) → LooseReads n root gone h value link

@@ -2,13 +2,13 @@
 use Rattle.std.proofs.Common.{◌≡◌, ◌≢◌, ℕ, ◌+◌, ◌<◌, ◌≤◌, List, [], ◌∷◌, ◌++◌, Option, Some, refl}
 use Rattle.std.proofs.Common.{sym, ap, ◌∙◌, subst, arith}
 use Rattle.std.proofs.lemmas.Bool.{eq-eqb, ne_eqb}
-use Rattle.rank_tree.specs.Knot.{Knot}
+use Rattle.rank_tree.specs.NodeView.{NodeView}
 use Rattle.rank_tree.specs.declared.side.Side.{Side}
 use Rattle.rank_tree.specs.declared.side.Side.TheVariants.{Left, Right}
 use Rattle.rank_tree.specs.Store.{Store, Written, Reparented, Relinked}
 use Rattle.rank_tree.specs.Tree.{Tree, leaf, node, walk, rank_of}
-use Rattle.rank_tree.specs.Shape.{make, knot, root_of, Context, top, under, plug, holder}
-use Rattle.rank_tree.specs.Shape.{Represents, Hangs, Stands, one, count, count_in, count_round}
+use Rattle.rank_tree.specs.Shape.{make, node_view, root_of, Context, top, under, plug, holder}
+use Rattle.rank_tree.specs.Shape.{Represents, Hangs, RepresentsTree, one, count, count_in, count_round}
 use Rattle.rank_tree.specs.Shape.{IsDistinct}
 use Rattle.rank_tree.specs.Repair.{KeptOff}
 
@@ -64,13 +64,13 @@ make-rank Right a i k b = refl
 
 pub make-opens : (s : Side) (n : Store) (p : Option ℕ) (a : Tree) (i k : ℕ) (b : Tree)
     → Represents n p (make s a i k b)
-    → (n i ≡ Some (knot s p (root_of a) k (root_of b))) × Represents n (Some i) a
+    → (n i ≡ Some (node_view s p (root_of a) k (root_of b))) × Represents n (Some i) a
     × Represents n (Some i) b
 make-opens Left n p a i k b h = h
 make-opens Right n p a i k b h = (h.0, h.2, h.1)
 
 pub make-closes : (s : Side) (n : Store) (p : Option ℕ) (a : Tree) (i k : ℕ) (b : Tree)
-    → (n i ≡ Some (knot s p (root_of a) k (root_of b)))
+    → (n i ≡ Some (node_view s p (root_of a) k (root_of b)))
     → Represents n (Some i) a → Represents n (Some i) b → Represents n p (make s a i k b)
 make-closes Left n p a i k b h u v = (h, u, v)
 make-closes Right n p a i k b h u v = (h, v, u)
@@ -80,7 +80,8 @@ plug-count top j t = omega arith
 plug-count (under c s i k far) j t = let e = plug-count c j (make s t i k far) in let f =
     make-count s j t i k far in omega arith
 
-pub plug-opens : (n : Store) (root : Option ℕ) (c : Context) (t : Tree) → Stands n root (plug c t)
+pub plug-opens : (n : Store) (root : Option ℕ) (c : Context) (t : Tree)
+    → RepresentsTree n root (plug c t)
     → Hangs n root c (root_of t) × Represents n (holder c) t
 plug-opens n root top t h = h
 plug-opens n root (under c s i k far) t h =
@@ -89,7 +90,7 @@ plug-opens n root (under c s i k far) t h =
     ((e.0, e.2, rw make-root at g.0), e.1)
 
 pub plug-closes : (n : Store) (root : Option ℕ) (c : Context) (t : Tree)
-    → Hangs n root c (root_of t) → Represents n (holder c) t → Stands n root (plug c t)
+    → Hangs n root c (root_of t) → Represents n (holder c) t → RepresentsTree n root (plug c t)
 plug-closes n root top t h r = (h, r)
 plug-closes n root (under c s i k far) t h r =
     plug-closes n root c (make s t i k far) (rw make-root h.2)
@@ -164,8 +165,8 @@ Hangs-relink n m root new_root (under c s i k far) from to d w h =
           (Hangs-keep n m root c (Some i) (λ j z. same j (omega arith)) h.2),
     )
   where
-    relink-here : (s : Side) → n i ≡ Some (knot s (holder c) (Some from) k (root_of far))
-        → m i ≡ Some (knot s (holder c) to k (root_of far))
+    relink-here : (s : Side) → n i ≡ Some (node_view s (holder c) (Some from) k (root_of far))
+        → m i ≡ Some (node_view s (holder c) to k (root_of far))
     relink-here Left e = w.on_left i _ refl e refl
     relink-here Right e = w.on_right i _ refl e
         (λ u. let g = root-counted far from u in let once = d from in let f =
@@ -174,12 +175,12 @@ Hangs-relink n m root new_root (under c s i k far) from to d w h =
 pub one-apart : (j i : ℕ) → one j i ≡ 0 → j ≢ i
 one-apart j i z u = let g : one j i ≡ 1 = rw u (one-same i) in absurd (omega arith)
 
-pub write-elsewhere : (n m : Store) (i : ℕ) (v : Knot) → Written n m i v → (j : ℕ)
+pub write-elsewhere : (n m : Store) (i : ℕ) (v : NodeView) → Written n m i v → (j : ℕ)
     → one j i ≡ 0 → m j ≡ n j
 write-elsewhere n m i v w j z = w.elsewhere j (one-apart j i z)
 
 -- a write within a tree
-pub write_kept : (n m : Store) (i : ℕ) (v : Knot) (t : Tree) (w : List ℕ) → Written n m i v
+pub write_kept : (n m : Store) (i : ℕ) (v : NodeView) (t : Tree) (w : List ℕ) → Written n m i v
     → 0 < count i t → walk t ≡ w → KeptOff w n m
 write_kept n m i v t w written on e = λ j off. written.elsewhere j (λ u.
     let z = count-walk j t ∙ ap (count_in j) e ∙ off in let f =

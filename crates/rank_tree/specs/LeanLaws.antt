@@ -2,7 +2,7 @@
 use Rattle.std.proofs.Common.{◌≡◌, ◌≢◌, ℕ, ◌+◌, ◌-◌, ◌<◌, ◌≤◌, List, Option, Some, None, ap, ◌∙◌}
 use Rattle.std.proofs.Common.{arith}
 use Rattle.std.specs.Option.{IfSome}
-use Rattle.rank_tree.specs.Knot.{Knot}
+use Rattle.rank_tree.specs.NodeView.{NodeView}
 use Rattle.rank_tree.specs.declared.side.Side.{Side}
 use Rattle.rank_tree.specs.declared.side.Side.TheVariants.{Left, Right}
 use Rattle.rank_tree.specs.Store.{Store, other_side, child_of}
@@ -103,7 +103,7 @@ pub record LeanReads (n : Store) (root : Option ℕ) (low : ℕ) (w : List ℕ) 
   pub inner_is : inner ≡ root_of h.inner
   pub inner_rank_is : inner_rank ≡ rank_of h.inner
 
-pub lean_reads : (n : Store) (root : Option ℕ) (low : ℕ) (below above : Knot) (high : ℕ)
+pub lean_reads : (n : Store) (root : Option ℕ) (low : ℕ) (below above : NodeView) (high : ℕ)
     (t z : Side) (inner : Option ℕ) (inner_rank : ℕ)
     → n low ≡ Some below → below.parent ≡ Some high → n high ≡ Some above
     → (above.left ≡ Some low → t ≡ Left) → (above.left ≢ Some low → t ≡ Right)

@@ -4,21 +4,21 @@ use Rattle.std.proofs.Common.{None, refl, sym, ap, ◌∙◌, subst, arith, inl,
 use Rattle.std.proofs.Common.{max, Bool, false, IsTrue, ◌↔◌}
 use Rattle.std.proofs.lemmas.Bool.{cases_lt, false≢true}
 use Rattle.std.specs.Option.{IsSome, IfSome}
-use Rattle.rank_tree.specs.Knot.{Knot}
+use Rattle.rank_tree.specs.NodeView.{NodeView}
 use Rattle.rank_tree.specs.declared.side.Side.{Side}
 use Rattle.rank_tree.specs.declared.side.Side.TheVariants.{Left, Right}
 use Rattle.rank_tree.specs.Store.{Store, other_side, child_of, Written, with_rank, rank_in}
 use Rattle.rank_tree.specs.Store.{rank_or_zero, ahead}
 use Rattle.rank_tree.specs.Tree.{Tree, leaf, node, walk, rank_of, IsRanked, Fits}
-use Rattle.rank_tree.specs.Shape.{make, near_of, knot, root_of, Context, top, under, plug}
-use Rattle.rank_tree.specs.Shape.{holder, Represents, Hangs, Stands, IsDistinct, one, count}
+use Rattle.rank_tree.specs.Shape.{make, near_of, node_view, root_of, Context, top, under, plug}
+use Rattle.rank_tree.specs.Shape.{holder, Represents, Hangs, RepresentsTree, IsDistinct, one, count}
 use Rattle.rank_tree.specs.Repair.{Spot, IsRankedRound, Restored, Broken, Nearly, Pending, Short}
 use Rattle.rank_tree.specs.Repair.{KeptOff, IsFitAbove}
 use Rattle.rank_tree.specs.FrameLaws.{one-same, make-count, plug-count, make-rank, make-root}
 use Rattle.rank_tree.specs.FrameLaws.{make-walk, make-closes, plug-opens, plug-walk}
 use Rattle.rank_tree.specs.FrameLaws.{IsDistinct-walk, write_kept, both_kept}
-use Rattle.rank_tree.specs.SpotLaws.{is_some, if_some, root-lives, spotted, knot_rank, knot_ranked}
-use Rattle.rank_tree.specs.SpotLaws.{knot_parent, rank_read, both_ranks, write-lives}
+use Rattle.rank_tree.specs.SpotLaws.{is_some, if_some, root-lives, spotted, node_rank, node_ranked}
+use Rattle.rank_tree.specs.SpotLaws.{node_parent, rank_read, both_ranks, write-lives}
 use Rattle.rank_tree.specs.TurningLaws.{make-ranked, make-ranked-opens, plug-ranked, open_tree}
 use Rattle.rank_tree.specs.TurningLaws.{root-some}
 use Rattle.rank_tree.specs.ClimbLaws.{ranked-write, same-walk-rank, as_make, as_node}
@@ -52,7 +52,7 @@ near_second Right a b = refl
 -- a subtree has lost one rank, and is the child that may be too low
 pub pending_up : (m : Store) (root : Option ℕ) (c : Context) (t : Tree) (k : ℕ) (w : List ℕ)
     → IsDistinct (plug c t)
-    → Stands m root (plug c t) → IsRanked t → rank_of t + 1 ≡ k → IsRankedRound c k
+    → RepresentsTree m root (plug c t) → IsRanked t → rank_of t + 1 ≡ k → IsRankedRound c k
     → walk (plug c t) ≡ w → length w < 2 ^ 64
     → Pending m root (holder c) (root_of t) w
 pending_up m root top t k w d h r e round q small
@@ -67,7 +67,7 @@ pending_up m root (under c s i j far) t k w d h r e round q small =
       rank = j;
       right = near_of (other_side s) t far;
       distinct = subst (λ z. IsDistinct (plug c z)) is d;
-      stands = subst (λ z. Stands m root (plug c z)) is h;
+      stands = subst (λ z. RepresentsTree m root (plug c z)) is h;
       left_ranked = near_holds IsRanked s t far r round.1;
       right_ranked = near_holds IsRanked (other_side s) t far r round.1;
       nearly = near_nearly s t far j o;
@@ -79,16 +79,16 @@ pending_up m root (under c s i j far) t k w d h r e round q small =
       small = small;
     }
 
-pub broken_knot : (n : Store) (root : Option ℕ) (high : ℕ) (near : Option ℕ) (w : List ℕ)
+pub broken_node : (n : Store) (root : Option ℕ) (high : ℕ) (near : Option ℕ) (w : List ℕ)
     (h : Broken n root high near w)
-    → n high ≡ Some (knot Left (holder h.context) (root_of h.left) h.rank (root_of h.right))
-broken_knot n root high near w h
+    → n high ≡ Some (node_view Left (holder h.context) (root_of h.left) h.rank (root_of h.right))
+broken_node n root high near w h
     = (plug-opens n root h.context (node h.left high h.rank h.right) h.stands).1.0
 
 pub broken_lives : (n : Store) (root : Option ℕ) (high : ℕ) (near : Option ℕ) (w : List ℕ)
     → Broken n root high near w
     → IsSome (n high)
-broken_lives n root high near w h = is_some (n high) _ (broken_knot n root high near w h)
+broken_lives n root high near w h = is_some (n high) _ (broken_node n root high near w h)
 
 link_lives : (n : Store) (p : Option ℕ) (t : Tree) (link : Option ℕ) → link ≡ root_of t
     → Represents n p t
@@ -98,8 +98,8 @@ link_lives n p t link e h
 
 -- what the code reads of the broken node
 pub record BrokenReads (n : Store) (root : Option ℕ) (high : ℕ) (near : Option ℕ) (w : List ℕ)
-    (h : Broken n root high near w) (above : Knot) : Type 0 where
-  pub knot_is : above ≡ knot Left (holder h.context) (root_of h.left) h.rank (root_of h.right)
+    (h : Broken n root high near w) (above : NodeView) : Type 0 where
+  pub node_is : above ≡ node_view Left (holder h.context) (root_of h.left) h.rank (root_of h.right)
   pub left_is : above.left ≡ root_of h.left
   pub right_is : above.right ≡ root_of h.right
   pub rank_is : above.rank ≡ h.rank
@@ -111,17 +111,17 @@ pub record BrokenReads (n : Store) (root : Option ℕ) (high : ℕ) (near : Opti
   pub left_small : rank_of h.left ≤ 127
   pub right_small : rank_of h.right ≤ 127
 
-pub broken_reads : (n : Store) (root : Option ℕ) (high : ℕ) (above : Knot) → n high ≡ Some above
+pub broken_reads : (n : Store) (root : Option ℕ) (high : ℕ) (above : NodeView) → n high ≡ Some above
     → (near : Option ℕ) (w : List ℕ) (h : Broken n root high near w)
     → BrokenReads n root high near w h above
 broken_reads n root high above e near w h =
     let o = plug-opens n root h.context (node h.left high h.rank h.right) h.stands in
-    let is : above ≡ knot Left (holder h.context) (root_of h.left) h.rank (root_of h.right) =
-    cc (broken_knot n root high near w h) in
+    let is : above ≡ node_view Left (holder h.context) (root_of h.left) h.rank (root_of h.right) =
+    cc (broken_node n root high near w h) in
     let left_is : above.left ≡ root_of h.left = ap (λ v. v.left) is in
     let right_is : above.right ≡ root_of h.right = ap (λ v. v.right) is in
     record {
-      knot_is = is;
+      node_is = is;
       left_is = left_is;
       right_is = right_is;
       rank_is = ap (λ v. v.rank) is;
@@ -144,7 +144,7 @@ zero_root : (t : Tree) → IsRanked t → rank_of t ≡ 0 → root_of t ≡ None
 zero_root leaf h e = refl
 zero_root (node l i k r) h e = let f = h.0 in absurd (omega arith)
 
-module _ (n : Store) (root : Option ℕ) (high : ℕ) (above : Knot) (e : n high ≡ Some above)
+module _ (n : Store) (root : Option ℕ) (high : ℕ) (above : NodeView) (e : n high ≡ Some above)
     (near : Option ℕ) (w : List ℕ) (h : Broken n root high near w) where
   abbrev pub near_tree : Tree
   near_tree = near_of h.side h.left h.right
@@ -230,7 +230,8 @@ pub record Lowered (m : Store) (root : Option ℕ) (high : ℕ) (old : Store) (p
   pub kept : KeptOff w old m
 
 -- a node whose children are both two lower may lose one
-pub broken_lower : (n m : Store) (root : Option ℕ) (high : ℕ) (above : Knot) → n high ≡ Some above
+pub broken_lower : (n m : Store) (root : Option ℕ) (high : ℕ) (above : NodeView)
+    → n high ≡ Some above
     → Written n m high (with_rank (above.rank - 1) above)
     → (near : Option ℕ) (w : List ℕ) (h : Broken n root high near w)
     → rank_of h.left + 2 ≤ h.rank → rank_of h.right + 2 ≤ h.rank
@@ -240,16 +241,17 @@ broken_lower n m root high above e written near w h p q =
     let f = h.nearly in
     let old = node h.left high h.rank h.right in
     let new = node h.left high (h.rank - 1) h.right in
-    let value : with_rank (above.rank - 1) above ≡ knot Left (holder h.context) (root_of h.left)
+    let value : with_rank (above.rank - 1) above
+    ≡ node_view Left (holder h.context) (root_of h.left)
     (h.rank - 1) (root_of h.right) =
-    ap (λ k. with_rank (k - 1) above) r.rank_is ∙ ap (with_rank (h.rank - 1)) r.knot_is in
+    ap (λ k. with_rank (k - 1) above) r.rank_is ∙ ap (with_rank (h.rank - 1)) r.node_is in
     let stands = ranked-write n m root h.context Left h.left high h.rank (h.rank - 1) h.right
     (subst (λ v. Written n m high v) value written) h.distinct h.stands in
     let same = plug-walk h.context old new refl in
     let distinct = IsDistinct-walk (plug h.context old) (plug h.context new) same h.distinct in
     let fits : Fits (rank_of h.left) (h.rank - 1) (rank_of h.right) = omega arith in
     let o = plug-opens m root h.context new stands in
-    let old_rank : rank_in n high ≡ h.rank = ap rank_or_zero (broken_knot n root high near w h) in
+    let old_rank : rank_in n high ≡ h.rank = ap rank_or_zero (broken_node n root high near w h) in
     let pending = pending_up m root h.context new h.rank w distinct stands
     (fits, h.left_ranked, h.right_ranked) (omega arith) h.round
     (sym same ∙ h.is_walk) h.small in
@@ -325,7 +327,7 @@ three_less_of a k b m n f g h e u = elim (cases_lt (a + 2) k) [
 ]
 
 child_near : (z : Side) (p : Option ℕ) (a b : Tree) (k : ℕ)
-    → child_of z (knot Left p (root_of a) k (root_of b)) ≡ root_of (near_of z a b)
+    → child_of z (node_view Left p (root_of a) k (root_of b)) ≡ root_of (near_of z a b)
 child_near Left p a b k = refl
 child_near Right p a b k = refl
 
@@ -337,7 +339,7 @@ pub record Higher (n : Store) (root : Option ℕ) (high : ℕ) (near : Option �
   pub one_less : rank_of (near_of z h.left h.right) + 1 ≡ h.rank
   pub three_less : rank_of (near_of (other_side z) h.left h.right) + 3 ≡ h.rank
 
-pub broken_higher : (n : Store) (root : Option ℕ) (high : ℕ) (above : Knot) (z : Side)
+pub broken_higher : (n : Store) (root : Option ℕ) (high : ℕ) (above : NodeView) (z : Side)
     → n high ≡ Some above
     → (near : Option ℕ) (w : List ℕ) (h : Broken n root high near w)
     → (rank_of h.left < rank_of h.right → z ≡ Right) → (rank_of h.right ≤ rank_of h.left → z ≡ Left)
@@ -351,7 +353,7 @@ broken_higher n root high above z e near w h right left not_fits tight =
     let sum = near_ranks z h.left h.right in
     let f = h.nearly in
     record {
-      link_is = ap (child_of z) r.knot_is ∙ child_near z (holder h.context) h.left h.right h.rank;
+      link_is = ap (child_of z) r.node_is ∙ child_near z (holder h.context) h.left h.right h.rank;
       one_less = omega arith;
       three_less = three_less_of (rank_of h.left) h.rank
           (rank_of h.right) _ _ h.nearly not_fits tight more sum;
@@ -383,7 +385,7 @@ broken_sibling n root high low z link near w h up e =
         high_rank = h.rank;
         far = far;
         distinct = subst (λ t. IsDistinct (plug h.context t)) is h.distinct;
-        stands = subst (λ t. Stands n root (plug h.context t)) is h.stands;
+        stands = subst (λ t. RepresentsTree n root (plug h.context t)) is h.stands;
       };
       high_is = refl;
       fits = parts.fits;
@@ -411,10 +413,10 @@ pub sibling_lower : (n m m' : Store) (root : Option ℕ) (low high j k : ℕ) (w
     (h : Sibling n root low w high)
     → h.spot.low_rank ≡ rank_of h.spot.outer + 2 → h.spot.low_rank ≡ rank_of h.spot.inner + 2
     → j ≡ h.spot.low_rank - 1 → k ≡ h.spot.high_rank - 1
-    → Written n m low (knot h.spot.side (Some h.spot.high) (root_of h.spot.outer) j
+    → Written n m low (node_view h.spot.side (Some h.spot.high) (root_of h.spot.outer) j
     (root_of h.spot.inner))
     → Written m m' h.spot.high
-    (knot h.spot.side (holder h.spot.context) (Some low) k (root_of h.spot.far))
+    (node_view h.spot.side (holder h.spot.context) (Some low) k (root_of h.spot.far))
     → Lowered m' root h.spot.high n (holder h.spot.context) w
 sibling_lower n m m' root low high j k w h p q ej ek written written' =
     let x = h.spot in
@@ -435,7 +437,7 @@ sibling_lower n m m' root low high j k w h p q ej ek written written' =
     x.inner written x.distinct x.stands in
     let half_distinct = IsDistinct-walk (plug c old) (plug c between) same_whole x.distinct in
     let link : Some low ≡ root_of new_low = sym (make-root s x.outer low j x.inner) in
-    let high_written = subst (λ l. Written m m' x.high (knot s (holder c) l k (root_of x.far)))
+    let high_written = subst (λ l. Written m m' x.high (node_view s (holder c) l k (root_of x.far)))
     link written' in
     let done = ranked-write m m' root c s new_low x.high x.high_rank k x.far high_written
     half_distinct half in
@@ -449,7 +451,7 @@ sibling_lower n m m' root low high j k w h p q ej ek written written' =
     let o = plug-opens m' root c new done in
     let f2 = spotted n root low x in
     let old_rank : rank_in n x.high ≡ x.high_rank =
-    ap rank_or_zero f2.at_high ∙ knot_rank s _ _ _ _ in
+    ap rank_or_zero f2.at_high ∙ node_rank s _ _ _ _ in
     record {
       pending =
           subst (λ l. Pending m' root (holder c) l w) (make-root s new_low x.high k x.far)
@@ -495,14 +497,14 @@ pub broken_small : (n : Store) (root : Option ℕ) (high : ℕ) (near : Option �
     → Broken n root high near w
     → rank_in n high < 256
 broken_small n root high near w h =
-    let r = broken_reads n root high _ (broken_knot n root high near w h) near w h in
-    let e = ap rank_or_zero (broken_knot n root high near w h) in
+    let r = broken_reads n root high _ (broken_node n root high near w h) near w h in
+    let e = ap rank_or_zero (broken_node n root high near w h) in
     let f = h.nearly in
     omega arith
 
 -- what the code of a step reads
 pub record MendReads (n : Store) (root : Option ℕ) (high : ℕ) (near : Option ℕ) (w : List ℕ)
-    (h : Broken n root high near w) (above : Knot)
+    (h : Broken n root high near w) (above : NodeView)
     (l r : ℕ) : Type 0 where
   pub rank_is : above.rank ≡ h.rank
   pub left_is : l ≡ rank_of h.left
@@ -510,7 +512,7 @@ pub record MendReads (n : Store) (root : Option ℕ) (high : ℕ) (near : Option
   pub left_small : rank_of h.left ≤ 127
   pub right_small : rank_of h.right ≤ 127
 
-pub mend_reads : (n : Store) (root : Option ℕ) (high : ℕ) (above : Knot) (l r : ℕ)
+pub mend_reads : (n : Store) (root : Option ℕ) (high : ℕ) (above : NodeView) (l r : ℕ)
     → n high ≡ Some above
     → ((i : ℕ) → above.left ≡ Some i → IfSome (n i) (λ v. l ≡ v.rank)) → (above.left ≡ None → l ≡ 0)
     → ((i : ℕ) → above.right ≡ Some i → IfSome (n i) (λ v. r ≡ v.rank))
@@ -527,7 +529,7 @@ mend_reads n root high above l r e ls ln rs rn near w h =
       right_small = b.right_small;
     }
 
-pub mend_higher : (n : Store) (root : Option ℕ) (high : ℕ) (above : Knot) (l r : ℕ) (z : Side)
+pub mend_higher : (n : Store) (root : Option ℕ) (high : ℕ) (above : NodeView) (l r : ℕ) (z : Side)
     (link near : Option ℕ) (w : List ℕ) (h : Broken n root high near w)
     → MendReads n root high near w h above l r → n high ≡ Some above
     → IsUnfit (rank_of h.left) h.rank (rank_of h.right)
@@ -540,11 +542,11 @@ mend_higher n root high above l r z link near w h m e not_fits tight right left 
 
 -- what the code reads of the sibling: its rank, and those of its children
 pub record SiblingReads (n : Store) (root : Option ℕ) (low high : ℕ) (w : List ℕ)
-    (h : Sibling n root low w high) (below : Knot) (l r : ℕ) : Type 0 where
+    (h : Sibling n root low w high) (below : NodeView) (l r : ℕ) : Type 0 where
   pub rank_is : below.rank ≡ h.spot.low_rank
   pub higher_is : max l r ≡ max (rank_of h.spot.outer) (rank_of h.spot.inner)
 
-pub sibling_reads : (n : Store) (root : Option ℕ) (low high : ℕ) (below : Knot) (l r : ℕ)
+pub sibling_reads : (n : Store) (root : Option ℕ) (low high : ℕ) (below : NodeView) (l r : ℕ)
     → n low ≡ Some below
     → ((i : ℕ) → below.left ≡ Some i → IfSome (n i) (λ v. l ≡ v.rank)) → (below.left ≡ None → l ≡ 0)
     → ((i : ℕ) → below.right ≡ Some i → IfSome (n i) (λ v. r ≡ v.rank)) → (below.right ≡ None
@@ -554,26 +556,27 @@ sibling_reads n root low high below l r e ls ln rs rn w h =
     let x = h.spot in
     let s = x.side in
     let f = spotted n root low x in
-    let is : below ≡ knot s (Some x.high) (root_of x.outer) x.low_rank
+    let is : below ≡ node_view s (Some x.high) (root_of x.outer) x.low_rank
     (root_of x.inner) = cc f.at_low in
     let stands = make-closes s n (Some x.high) x.outer low x.low_rank x.inner f.at_low
     f.outer_stands
     f.inner_stands in
     record {
-      rank_is = ap (λ v. v.rank) is ∙ knot_rank s _ _ _ _;
+      rank_is = ap (λ v. v.rank) is ∙ node_rank s _ _ _ _;
       higher_is = (both_ranks s n (Some x.high) x.outer low x.low_rank x.inner below l r e ls ln
           rs rn
           stands).higher;
     }
 
 -- both lose one rank
-pub mend_lower : (n m m' : Store) (root : Option ℕ) (low high j k : ℕ) (above : Knot) (w : List ℕ)
+pub mend_lower : (n m m' : Store) (root : Option ℕ) (low high j k : ℕ) (above : NodeView)
+    (w : List ℕ)
     (h : Sibling n root low w high)
     → n high ≡ Some above → h.spot.low_rank ≡ rank_of h.spot.outer + 2
     → h.spot.low_rank ≡ rank_of h.spot.inner + 2
     → j ≡ h.spot.low_rank - 1 → k ≡ above.rank - 1
-    → ((v : Knot) → n low ≡ Some v → Written n m low (with_rank j v))
-    → ((v : Knot) → m high ≡ Some v → Written m m' high (with_rank k v))
+    → ((v : NodeView) → n low ≡ Some v → Written n m low (with_rank j v))
+    → ((v : NodeView) → m high ≡ Some v → Written m m' high (with_rank k v))
     → Lowered m' root high n above.parent w
 mend_lower n m m' root low high j k above w h e p q ej ek one_written two_written =
     let x = h.spot in
@@ -581,33 +584,33 @@ mend_lower n m m' root low high j k above w h e p q ej ek one_written two_writte
     let f = spotted n root low x in
     let old_low = one_written _ f.at_low in
     let low_written = subst (λ v. Written n m low v)
-    (knot_ranked s (Some x.high) (root_of x.outer) x.low_rank j (root_of x.inner)) old_low in
-    let knot_at : ℕ → Knot = λ r. knot s (holder x.context) (Some low) r (root_of x.far) in
-    let at_high : m x.high ≡ Some (knot_at x.high_rank) =
+    (node_ranked s (Some x.high) (root_of x.outer) x.low_rank j (root_of x.inner)) old_low in
+    let node_at : ℕ → NodeView = λ r. node_view s (holder x.context) (Some low) r (root_of x.far) in
+    let at_high : m x.high ≡ Some (node_at x.high_rank) =
     old_low.elsewhere x.high (spot_apart n root low x) ∙ f.at_high in
     let old_high = two_written _
-    (subst (λ i. m i ≡ Some (knot_at x.high_rank)) h.high_is at_high) in
+    (subst (λ i. m i ≡ Some (node_at x.high_rank)) h.high_is at_high) in
     let new_high = subst (λ v. Written m m' high v)
-    (knot_ranked s (holder x.context) (Some low) x.high_rank k (root_of x.far)) old_high in
-    let high_written = subst (λ i. Written m m' i (knot_at k)) (sym h.high_is) new_high in
-    let above_is : above ≡ knot_at x.high_rank = cc (f.at_high, ap n h.high_is) in
-    let high_rank_is : above.rank ≡ x.high_rank = ap (λ v. v.rank) above_is ∙ knot_rank s _ _ _ _ in
+    (node_ranked s (holder x.context) (Some low) x.high_rank k (root_of x.far)) old_high in
+    let high_written = subst (λ i. Written m m' i (node_at k)) (sym h.high_is) new_high in
+    let above_is : above ≡ node_at x.high_rank = cc (f.at_high, ap n h.high_is) in
+    let high_rank_is : above.rank ≡ x.high_rank = ap (λ v. v.rank) above_is ∙ node_rank s _ _ _ _ in
     let done = sibling_lower n m m' root low high j k w h p q ej
     (ek ∙ ap (λ z. z - 1) high_rank_is) low_written high_written in
     let parent_is : above.parent ≡ holder x.context =
-    ap (λ v. v.parent) above_is ∙ knot_parent s (holder x.context) (Some low) x.high_rank
+    ap (λ v. v.parent) above_is ∙ node_parent s (holder x.context) (Some low) x.high_rank
     (root_of x.far) in
     subst (λ i. Lowered m' root i n above.parent w) h.high_is
     (subst (λ o. Lowered m' root x.high n o w) (sym parent_is) done)
 
 -- a write of a rank where a node stands leaves each node standing
-sets_some : (n m : Store) (i k : ℕ) (o : Option Knot) → n i ≡ o → IsSome o
-    → ((v : Knot) → n i ≡ Some v → Written n m i (with_rank k v)) → (j : ℕ) → IsSome (n j)
+sets_some : (n m : Store) (i k : ℕ) (o : Option NodeView) → n i ≡ o → IsSome o
+    → ((v : NodeView) → n i ≡ Some v → Written n m i (with_rank k v)) → (j : ℕ) → IsSome (n j)
     → IsSome (m j)
 sets_some n m i k None e h w j l = absurd (false≢true h)
 sets_some n m i k (Some v) e h w j l = write-lives n m i (with_rank k v) (w v e) j l
 
 pub sets_lives : (n m : Store) (i k : ℕ) → IsSome (n i)
-    → ((v : Knot) → n i ≡ Some v → Written n m i (with_rank k v))
+    → ((v : NodeView) → n i ≡ Some v → Written n m i (with_rank k v))
     → (j : ℕ) → IsSome (n j) → IsSome (m j)
 sets_lives n m i k h w j l = sets_some n m i k (n i) refl h w j l

@@ -1,11 +1,11 @@
 -- A node by indexes, and by their numbers.
 use Rattle.std.specs.Prelude.{ℕ}
 use Rattle.std.specs.Option.{option_map}
-use Rattle.rank_tree.specs.Knot.{Knot}
-use Rattle.rank_tree.specs.declared.tree_links.TreeLinks.{TreeLinks}
+use Rattle.rank_tree.specs.NodeView.{NodeView}
+use Rattle.rank_tree.specs.declared.node_links.NodeLinks.{NodeLinks}
 
 -- a node's links and rank, by numbers
-abbrev pub named : {I : Type 0} → (I → ℕ) → TreeLinks I → Knot
+abbrev pub named : {I : Type 0} → (I → ℕ) → NodeLinks I → NodeView
 named number k = record {
   parent = option_map number k.parent;
   left = option_map number k.left;

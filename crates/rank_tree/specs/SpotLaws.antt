@@ -3,14 +3,14 @@ use Rattle.std.proofs.Common.{◌≡◌, ◌≢◌, ℕ, min, max, Option, Some,
 use Rattle.std.proofs.Common.{arith, rules, inl, inr, ◌⊎◌}
 use Rattle.std.specs.Option.{IsSome, IfSome}
 use Rattle.std.proofs.lemmas.Bool.{cases_eq, false≢true}
-use Rattle.rank_tree.specs.Knot.{Knot}
+use Rattle.rank_tree.specs.NodeView.{NodeView}
 use Rattle.rank_tree.specs.declared.side.Side.{Side}
 use Rattle.rank_tree.specs.declared.side.Side.TheVariants.{Left, Right}
 use Rattle.rank_tree.specs.Store.{Store, other_side, child_of, rank_or_link, rank_or_zero, Written}
 use Rattle.rank_tree.specs.Store.{Reparented, Relinked, with_parent, with_child, with_rank}
 use Rattle.rank_tree.specs.Tree.{Tree, leaf, node, walk, rank_of}
-use Rattle.rank_tree.specs.Shape.{make, knot, root_of, Context, top, under, holder, Represents}
-use Rattle.rank_tree.specs.Shape.{Hangs, Stands}
+use Rattle.rank_tree.specs.Shape.{make, node_view, root_of, Context, top, under, holder, Represents}
+use Rattle.rank_tree.specs.Shape.{Hangs, RepresentsTree}
 use Rattle.rank_tree.specs.Repair.{Spot, turned, KeptOff}
 use Rattle.rank_tree.specs.FrameLaws.{one-same, make-count, make-root, make-opens, plug-count}
 use Rattle.rank_tree.specs.FrameLaws.{plug-opens, root-counted}
@@ -25,7 +25,7 @@ if_some None P f = search rules
 if_some (Some x) P f = f x refl
 
 -- a write ends no slot
-pub write-lives : (n m : Store) (i : ℕ) (v : Knot) → Written n m i v → (j : ℕ) → IsSome (n j)
+pub write-lives : (n m : Store) (i : ℕ) (v : NodeView) → Written n m i v → (j : ℕ) → IsSome (n j)
     → IsSome (m j)
 write-lives n m i v w j h = elim (cases_eq j i) [
   | inl e ↦ rw e (is_some (m i) v w.here)
@@ -37,8 +37,8 @@ some_or_none None j = inr (λ e. cc)
 some_or_none (Some i) j
     = elim (cases_eq i j) [ inl e ↦ inl (ap (λ z. Some z) e) | inr d ↦ inr (λ e. d (cc)) ]
 
-some_lives : (n m : Store) (o : Option Knot) (f : Knot → Knot) (j : ℕ) → n j ≡ o
-    → ((v : Knot) → n j ≡ Some v → m j ≡ Some (f v)) → IsSome o → IsSome (m j)
+some_lives : (n m : Store) (o : Option NodeView) (f : NodeView → NodeView) (j : ℕ) → n j ≡ o
+    → ((v : NodeView) → n j ≡ Some v → m j ≡ Some (f v)) → IsSome o → IsSome (m j)
 some_lives n m None f j e g h = absurd (false≢true h)
 some_lives n m (Some v) f j e g h = is_some (m j) (f v) (g v e)
 
@@ -62,9 +62,10 @@ holder-lives n root (under c s x k far) link i h e = let f : x ≡ i =
 
 pub record Spotted (n : Store) (root : Option ℕ) (low : ℕ) (spot : Spot n root low) : Type 0 where
   pub at_low : n low ≡ Some
-      (knot spot.side (Some spot.high) (root_of spot.outer) spot.low_rank (root_of spot.inner))
+      (node_view spot.side (Some spot.high) (root_of spot.outer) spot.low_rank (root_of spot.inner))
   pub at_high : n spot.high
-      ≡ Some (knot spot.side (holder spot.context) (Some low) spot.high_rank (root_of spot.far))
+      ≡ Some (node_view spot.side (holder spot.context) (Some low) spot.high_rank
+      (root_of spot.far))
   pub outer_lives : (i : ℕ) → root_of spot.outer ≡ Some i → IsSome (n i)
   pub inner_lives : (i : ℕ) → root_of spot.inner ≡ Some i → IsSome (n i)
   pub holder_lives : (i : ℕ) → holder spot.context ≡ Some i → IsSome (n i)
@@ -86,7 +87,7 @@ spotted n root low spot =
     record {
       at_low = e2.0;
       at_high = e1.0 ∙ ap (λ z. Some
-          (knot spot.side (holder spot.context) z spot.high_rank (root_of spot.far))) root_is;
+          (node_view spot.side (holder spot.context) z spot.high_rank (root_of spot.far))) root_is;
       outer_lives = λ i e. root-lives n (Some low) spot.outer i e2.1 e;
       inner_lives = λ i e. root-lives n (Some low) spot.inner i e2.2 e;
       holder_lives = λ i e. holder-lives n root spot.context _ i e0.0 e;
@@ -107,45 +108,47 @@ pub rank_link : (n : Store) (p : Option ℕ) (t : Tree) → Represents n p t
 rank_link n p leaf h = refl
 rank_link n p (node l i k r) h = ap rank_or_zero h.0
 
-pub knot_ranked : (s : Side) (p a : Option ℕ) (k j : ℕ) (b : Option ℕ)
-    → with_rank j (knot s p a k b) ≡ knot s p a j b
-knot_ranked Left p a k j b = refl
-knot_ranked Right p a k j b = refl
+pub node_ranked : (s : Side) (p a : Option ℕ) (k j : ℕ) (b : Option ℕ)
+    → with_rank j (node_view s p a k b) ≡ node_view s p a j b
+node_ranked Left p a k j b = refl
+node_ranked Right p a k j b = refl
 
-pub knot_parent : (s : Side) (p a : Option ℕ) (k : ℕ) (b : Option ℕ) → (knot s p a k b).parent ≡ p
-knot_parent Left p a k b = refl
-knot_parent Right p a k b = refl
+pub node_parent : (s : Side) (p a : Option ℕ) (k : ℕ) (b : Option ℕ)
+    → (node_view s p a k b).parent ≡ p
+node_parent Left p a k b = refl
+node_parent Right p a k b = refl
 
-knot_near : (s : Side) (p a : Option ℕ) (k : ℕ) (b : Option ℕ) → child_of s (knot s p a k b) ≡ a
-knot_near Left p a k b = refl
-knot_near Right p a k b = refl
+node_near : (s : Side) (p a : Option ℕ) (k : ℕ) (b : Option ℕ)
+    → child_of s (node_view s p a k b) ≡ a
+node_near Left p a k b = refl
+node_near Right p a k b = refl
 
-knot_other : (s : Side) (p a : Option ℕ) (k : ℕ) (b : Option ℕ)
-    → child_of (other_side s) (knot s p a k b) ≡ b
-knot_other Left p a k b = refl
-knot_other Right p a k b = refl
+node_other : (s : Side) (p a : Option ℕ) (k : ℕ) (b : Option ℕ)
+    → child_of (other_side s) (node_view s p a k b) ≡ b
+node_other Left p a k b = refl
+node_other Right p a k b = refl
 
-abbrev placed : Option ℕ → ℕ → Knot → Knot
+abbrev placed : Option ℕ → ℕ → NodeView → NodeView
 placed p k v = record v { parent = p; rank = k }
 
-knot_near_with : (s : Side) (p a : Option ℕ) (k : ℕ) (b z q : Option ℕ) (j : ℕ)
-    → placed q j (with_child s z (knot s p a k b)) ≡ knot s q z j b
-knot_near_with Left p a k b z q j = refl
-knot_near_with Right p a k b z q j = refl
+node_near_with : (s : Side) (p a : Option ℕ) (k : ℕ) (b z q : Option ℕ) (j : ℕ)
+    → placed q j (with_child s z (node_view s p a k b)) ≡ node_view s q z j b
+node_near_with Left p a k b z q j = refl
+node_near_with Right p a k b z q j = refl
 
-knot_far_with : (s : Side) (p a : Option ℕ) (k : ℕ) (b z q : Option ℕ) (j : ℕ)
-    → placed q j (with_child (other_side s) z (knot s p a k b)) ≡ knot s q a j z
-knot_far_with Left p a k b z q j = refl
-knot_far_with Right p a k b z q j = refl
+node_far_with : (s : Side) (p a : Option ℕ) (k : ℕ) (b z q : Option ℕ) (j : ℕ)
+    → placed q j (with_child (other_side s) z (node_view s p a k b)) ≡ node_view s q a j z
+node_far_with Left p a k b z q j = refl
+node_far_with Right p a k b z q j = refl
 
 -- which side the code finds
 side_found : (s t : Side) (p : Option ℕ) (x k : ℕ) (b : Option ℕ) → b ≢ Some x
-    → ((knot s p (Some x) k b).left ≡ Some x → t ≡ Left)
-    → ((knot s p (Some x) k b).left ≢ Some x → t ≡ Right) → t ≡ s
+    → ((node_view s p (Some x) k b).left ≡ Some x → t ≡ Left)
+    → ((node_view s p (Some x) k b).left ≢ Some x → t ≡ Right) → t ≡ s
 side_found Left t p x k b d f g = f refl
 side_found Right t p x k b d f g = g d
 
-written_same : (n m : Store) (i j : ℕ) (v w : Knot) → i ≡ j → v ≡ w → Written n m i v
+written_same : (n m : Store) (i j : ℕ) (v w : NodeView) → i ≡ j → v ≡ w → Written n m i v
     → Written n m j w
 written_same n m i j v w e f h = subst (λ z. Written n m z w) e (subst (λ z. Written n m i z) f h)
 
@@ -161,7 +164,7 @@ relinked_same n m r q l k i j to e f h = subst (λ z. Relinked n m r q k z to) f
 
 -- the code of a turn, over what it read
 pub turn_works : (n n1 n2 n3 n4 : Store) (root new_root : Option ℕ) (low jx jy : ℕ)
-    (below above : Knot) (high : ℕ) (t : Side) (middle : Option ℕ) (lowered raised : Knot)
+    (below above : NodeView) (high : ℕ) (t : Side) (middle : Option ℕ) (lowered raised : NodeView)
     → n low ≡ Some below → below.parent ≡ Some high → n high ≡ Some above
     → ((spot : Spot n root low) → t ≡ spot.side)
     → middle ≡ child_of (other_side t) below
@@ -171,41 +174,41 @@ pub turn_works : (n n1 n2 n3 n4 : Store) (root new_root : Option ℕ) (low jx jy
     → Reparented n1 n2 middle (Some high)
     → Written n2 n3 low (record raised { parent = above.parent; rank = jx })
     → Relinked n3 n4 root new_root above.parent high (Some low)
-    → (spot : Spot n root low) → Stands n4 new_root (turned spot jx jy)
+    → (spot : Spot n root low) → RepresentsTree n4 new_root (turned spot jx jy)
     × KeptOff (walk (turned spot jx jy)) n n4
 turn_works n n1 n2 n3 n4 root new_root low jx jy below above high t middle lowered raised eb eh ea
     side em el er w1 w2 w3 w4 spot =
     let f = spotted n root low spot in
     let s = spot.side in
-    let below_is : below ≡ knot s (Some spot.high) (root_of spot.outer) spot.low_rank
+    let below_is : below ≡ node_view s (Some spot.high) (root_of spot.outer) spot.low_rank
     (root_of spot.inner) = cc f.at_low in
     let high_is : high ≡ spot.high =
     cc (
       ap (λ v. v.parent) below_is,
-      knot_parent s (Some spot.high) (root_of spot.outer) spot.low_rank (root_of spot.inner),
+      node_parent s (Some spot.high) (root_of spot.outer) spot.low_rank (root_of spot.inner),
     ) in
-    let above_is : above ≡ knot s (holder spot.context) (Some low) spot.high_rank
+    let above_is : above ≡ node_view s (holder spot.context) (Some low) spot.high_rank
     (root_of spot.far) = cc (f.at_high, ap n high_is) in
     let parent_is : above.parent ≡ holder spot.context =
-    ap (λ v. v.parent) above_is ∙ knot_parent s (holder spot.context) (Some low) spot.high_rank
+    ap (λ v. v.parent) above_is ∙ node_parent s (holder spot.context) (Some low) spot.high_rank
     (root_of spot.far) in
     let side_is : t ≡ s = side spot in
     let middle_is : middle ≡ root_of spot.inner =
     em ∙ ap (λ z. child_of (other_side z) below) side_is ∙ ap
-    (λ v. child_of (other_side s) v) below_is ∙ knot_other s (Some spot.high)
+    (λ v. child_of (other_side s) v) below_is ∙ node_other s (Some spot.high)
     (root_of spot.outer) spot.low_rank (root_of spot.inner) in
     let lowered_is : lowered
     ≡ with_child s (root_of spot.inner)
-    (knot s (holder spot.context) (Some low) spot.high_rank (root_of spot.far)) = cc in
+    (node_view s (holder spot.context) (Some low) spot.high_rank (root_of spot.far)) = cc in
     let raised_is : raised ≡ with_child (other_side s) (Some spot.high)
-    (knot s (Some spot.high) (root_of spot.outer) spot.low_rank (root_of spot.inner)) = cc in
+    (node_view s (Some spot.high) (root_of spot.outer) spot.low_rank (root_of spot.inner)) = cc in
     let v1 : record lowered { parent = Some low; rank = jy }
-    ≡ knot s (Some low) (root_of spot.inner) jy (root_of spot.far) =
-    ap (placed (Some low) jy) lowered_is ∙ knot_near_with s _ _ _ _ _ _ _ in
+    ≡ node_view s (Some low) (root_of spot.inner) jy (root_of spot.far) =
+    ap (placed (Some low) jy) lowered_is ∙ node_near_with s _ _ _ _ _ _ _ in
     let v3 : record raised { parent = above.parent; rank = jx }
-    ≡ knot s (holder spot.context) (root_of spot.outer) jx (Some spot.high) =
-    ap (placed above.parent jx) raised_is ∙ knot_far_with s _ _ _ _ _ _ _ ∙ ap
-    (λ p. knot s p (root_of spot.outer) jx (Some spot.high)) parent_is in
+    ≡ node_view s (holder spot.context) (root_of spot.outer) jx (Some spot.high) =
+    ap (placed above.parent jx) raised_is ∙ node_far_with s _ _ _ _ _ _ _ ∙ ap
+    (λ p. node_view s p (root_of spot.outer) jx (Some spot.high)) parent_is in
     let at_high = written_same n n1 high spot.high _ _ high_is v1 w1 in
     let moved = reparented_same n1 n2 middle (root_of spot.inner) high spot.high middle_is
     high_is w2 in
@@ -223,16 +226,16 @@ turn_works n n1 n2 n3 n4 root new_root low jx jy below above high t middle lower
 pub spot_low : (n : Store) (root : Option ℕ) (low : ℕ) → Spot n root low → IsSome (n low)
 spot_low n root low spot = is_some (n low) _ (spotted n root low spot).at_low
 
-pub spot_parent : (n : Store) (root : Option ℕ) (low : ℕ) (below : Knot) → n low ≡ Some below
+pub spot_parent : (n : Store) (root : Option ℕ) (low : ℕ) (below : NodeView) → n low ≡ Some below
     → (spot : Spot n root low) → below.parent ≡ Some spot.high
 spot_parent n root low below e spot =
     let f = spotted n root low spot in
-    let is : below ≡ knot spot.side (Some spot.high) (root_of spot.outer) spot.low_rank
+    let is : below ≡ node_view spot.side (Some spot.high) (root_of spot.outer) spot.low_rank
     (root_of spot.inner) = cc f.at_low in
-    ap (λ v. v.parent) is ∙ knot_parent spot.side (Some spot.high)
+    ap (λ v. v.parent) is ∙ node_parent spot.side (Some spot.high)
     (root_of spot.outer) spot.low_rank (root_of spot.inner)
 
-pub spot_high : (n : Store) (root : Option ℕ) (low : ℕ) (below : Knot) (high : ℕ)
+pub spot_high : (n : Store) (root : Option ℕ) (low : ℕ) (below : NodeView) (high : ℕ)
     → n low ≡ Some below → below.parent ≡ Some high → Spot n root low → IsSome (n high)
 spot_high n root low below high e p spot =
     let f = spotted n root low spot in
@@ -240,17 +243,17 @@ spot_high n root low below high e p spot =
     rw is (is_some (n spot.high) _ f.at_high)
 
 pub spot_child_of : (s z : Side) (p a : Option ℕ) (k : ℕ) (b : Option ℕ) (i : ℕ)
-    → child_of z (knot s p a k b) ≡ Some i → (a ≡ Some i) ⊎ (b ≡ Some i)
+    → child_of z (node_view s p a k b) ≡ Some i → (a ≡ Some i) ⊎ (b ≡ Some i)
 spot_child_of Left Left p a k b i e = inl e
 spot_child_of Left Right p a k b i e = inr e
 spot_child_of Right Left p a k b i e = inr e
 spot_child_of Right Right p a k b i e = inl e
 
-pub spot_child : (n : Store) (root : Option ℕ) (low : ℕ) (below : Knot) (z : Side)
+pub spot_child : (n : Store) (root : Option ℕ) (low : ℕ) (below : NodeView) (z : Side)
     → n low ≡ Some below → Spot n root low → (i : ℕ) → child_of z below ≡ Some i → IsSome (n i)
 spot_child n root low below z e spot i g =
     let f = spotted n root low spot in
-    let is : below ≡ knot spot.side (Some spot.high) (root_of spot.outer) spot.low_rank
+    let is : below ≡ node_view spot.side (Some spot.high) (root_of spot.outer) spot.low_rank
     (root_of spot.inner) = cc f.at_low in
     elim (spot_child_of spot.side z (Some spot.high) (root_of spot.outer) spot.low_rank
     (root_of spot.inner) i (subst (λ v. child_of z v ≡ Some i) is g)) [
@@ -258,22 +261,22 @@ spot_child n root low below z e spot i g =
       | inr h ↦ f.inner_lives i h
     ]
 
-pub spot_holder : (n : Store) (root : Option ℕ) (low : ℕ) (below above : Knot) (high : ℕ)
+pub spot_holder : (n : Store) (root : Option ℕ) (low : ℕ) (below above : NodeView) (high : ℕ)
     → n low ≡ Some below → below.parent ≡ Some high → n high ≡ Some above
     → Spot n root low → (i : ℕ) → above.parent ≡ Some i → IsSome (n i)
 spot_holder n root low below above high e p g spot i h =
     let f = spotted n root low spot in
     let high_is : high ≡ spot.high = cc (spot_parent n root low below e spot) in
-    let above_is : above ≡ knot spot.side (holder spot.context) (Some low) spot.high_rank
+    let above_is : above ≡ node_view spot.side (holder spot.context) (Some low) spot.high_rank
     (root_of spot.far) = cc (f.at_high, ap n high_is) in
     let parent_is : above.parent ≡ holder spot.context =
-    ap (λ v. v.parent) above_is ∙ knot_parent spot.side (holder spot.context)
+    ap (λ v. v.parent) above_is ∙ node_parent spot.side (holder spot.context)
     (Some low) spot.high_rank (root_of spot.far) in
     f.holder_lives i (sym parent_is ∙ h)
 
-pub knot_rank : (s : Side) (p a : Option ℕ) (k : ℕ) (b : Option ℕ) → (knot s p a k b).rank ≡ k
-knot_rank Left p a k b = refl
-knot_rank Right p a k b = refl
+pub node_rank : (s : Side) (p a : Option ℕ) (k : ℕ) (b : Option ℕ) → (node_view s p a k b).rank ≡ k
+node_rank Left p a k b = refl
+node_rank Right p a k b = refl
 
 -- what `rank_at` answers at a tree
 pub rank_read : (n : Store) (p : Option ℕ) (t : Tree) (link : Option ℕ) (r : ℕ) → link ≡ root_of t
@@ -288,25 +291,26 @@ pub record BothRanks (l r a b : ℕ) : Type 0 where
   pub lower : min l r ≡ min a b
   pub higher : max l r ≡ max a b
 
-pub both_ranks : (s : Side) (n : Store) (p : Option ℕ) (t : Tree) (i k : ℕ) (far : Tree) (v : Knot)
+pub both_ranks : (s : Side) (n : Store) (p : Option ℕ) (t : Tree) (i k : ℕ) (far : Tree)
+    (v : NodeView)
     (l r : ℕ) → n i ≡ Some v
     → ((j : ℕ) → v.left ≡ Some j → IfSome (n j) (λ x. l ≡ x.rank)) → (v.left ≡ None → l ≡ 0)
     → ((j : ℕ) → v.right ≡ Some j → IfSome (n j) (λ x. r ≡ x.rank)) → (v.right ≡ None → r ≡ 0)
     → Represents n p (make s t i k far) → BothRanks l r (rank_of t) (rank_of far)
 both_ranks Left n p t i k far v l r e ls ln rs rn h =
-    let is : v ≡ knot Left p (root_of t) k (root_of far) = cc h.0 in
+    let is : v ≡ node_view Left p (root_of t) k (root_of far) = cc h.0 in
     let f = rank_read n (Some i) t v.left l (ap (λ x. x.left) is) h.1 ls ln in
     let g = rank_read n (Some i) far v.right r (ap (λ x. x.right) is) h.2 rs rn in
     record { lower = omega arith; higher = omega arith }
 both_ranks Right n p t i k far v l r e ls ln rs rn h =
-    let is : v ≡ knot Right p (root_of t) k (root_of far) = cc h.0 in
+    let is : v ≡ node_view Right p (root_of t) k (root_of far) = cc h.0 in
     let f = rank_read n (Some i) far v.left l (ap (λ x. x.left) is) h.1 ls ln in
     let g = rank_read n (Some i) t v.right r (ap (λ x. x.right) is) h.2 rs rn in
     record { lower = omega arith; higher = omega arith }
 
 -- what the code reads round a node and its parent
 pub record Reads (n : Store) (root : Option ℕ) (low : ℕ) (spot : Spot n root low)
-    (below above : Knot) (high : ℕ) (t : Side) : Type 0 where
+    (below above : NodeView) (high : ℕ) (t : Side) : Type 0 where
   pub high_is : high ≡ spot.high
   pub side_is : t ≡ spot.side
   pub low_rank_is : below.rank ≡ spot.low_rank
@@ -316,7 +320,8 @@ pub record Reads (n : Store) (root : Option ℕ) (low : ℕ) (spot : Spot n root
   pub far_is : child_of (other_side t) above ≡ root_of spot.far
   pub holder_is : above.parent ≡ holder spot.context
 
-pub reads : (n : Store) (root : Option ℕ) (low : ℕ) (spot : Spot n root low) (below above : Knot)
+pub reads : (n : Store) (root : Option ℕ) (low : ℕ) (spot : Spot n root low)
+    (below above : NodeView)
     (high : ℕ) (t : Side)
     → n low ≡ Some below → below.parent ≡ Some high → n high ≡ Some above
     → (above.left ≡ Some low → t ≡ Left) → (above.left ≢ Some low → t ≡ Right)
@@ -324,14 +329,14 @@ pub reads : (n : Store) (root : Option ℕ) (low : ℕ) (spot : Spot n root low)
 reads n root low spot below above high t eb eh ea left right =
     let f = spotted n root low spot in
     let s = spot.side in
-    let below_is : below ≡ knot s (Some spot.high) (root_of spot.outer) spot.low_rank
+    let below_is : below ≡ node_view s (Some spot.high) (root_of spot.outer) spot.low_rank
     (root_of spot.inner) = cc f.at_low in
     let high_is : high ≡ spot.high =
     cc (
       ap (λ v. v.parent) below_is,
-      knot_parent s (Some spot.high) (root_of spot.outer) spot.low_rank (root_of spot.inner),
+      node_parent s (Some spot.high) (root_of spot.outer) spot.low_rank (root_of spot.inner),
     ) in
-    let above_is : above ≡ knot s (holder spot.context) (Some low) spot.high_rank
+    let above_is : above ≡ node_view s (holder spot.context) (Some low) spot.high_rank
     (root_of spot.far) = cc (f.at_high, ap n high_is) in
     let side_is : t ≡ s = side_found s t (holder spot.context) low spot.high_rank
     (root_of spot.far) f.far_other (subst (λ v. v.left ≡ Some low → t ≡ Left) above_is left)
@@ -339,21 +344,22 @@ reads n root low spot below above high t eb eh ea left right =
     record {
       high_is = high_is;
       side_is = side_is;
-      low_rank_is = ap (λ v. v.rank) below_is ∙ knot_rank s _ _ _ _;
-      high_rank_is = ap (λ v. v.rank) above_is ∙ knot_rank s _ _ _ _;
-      outer_is = ap (λ z. child_of z below) side_is ∙ ap (λ v. child_of s v) below_is ∙ knot_near s
+      low_rank_is = ap (λ v. v.rank) below_is ∙ node_rank s _ _ _ _;
+      high_rank_is = ap (λ v. v.rank) above_is ∙ node_rank s _ _ _ _;
+      outer_is = ap (λ z. child_of z below) side_is ∙ ap (λ v. child_of s v) below_is ∙ node_near s
           (Some spot.high) (root_of spot.outer) spot.low_rank (root_of spot.inner);
       inner_is = ap (λ z. child_of (other_side z) below) side_is ∙ ap
-          (λ v. child_of (other_side s) v) below_is ∙ knot_other s (Some spot.high)
+          (λ v. child_of (other_side s) v) below_is ∙ node_other s (Some spot.high)
           (root_of spot.outer) spot.low_rank (root_of spot.inner);
       far_is = ap (λ z. child_of (other_side z) above) side_is ∙ ap
-          (λ v. child_of (other_side s) v) above_is ∙ knot_other s (holder spot.context)
+          (λ v. child_of (other_side s) v) above_is ∙ node_other s (holder spot.context)
           (Some low) spot.high_rank (root_of spot.far);
-      holder_is = ap (λ v. v.parent) above_is ∙ knot_parent s (holder spot.context)
+      holder_is = ap (λ v. v.parent) above_is ∙ node_parent s (holder spot.context)
           (Some low) spot.high_rank (root_of spot.far);
     }
 
-pub spot_far : (n : Store) (root : Option ℕ) (low : ℕ) (spot : Spot n root low) (below above : Knot)
+pub spot_far : (n : Store) (root : Option ℕ) (low : ℕ) (spot : Spot n root low)
+    (below above : NodeView)
     (high : ℕ) (t : Side)
     → Reads n root low spot below above high t → (i : ℕ) → child_of (other_side t) above ≡ Some i
     → IsSome (n i)

@@ -3,10 +3,10 @@ use Rattle.std.proofs.Common.{◌≡◌, ℕ, ◌+◌, ◌≤◌, ◌∷◌, Opt
 use Rattle.std.proofs.Common.{append_assoc}
 use Rattle.rank_tree.specs.declared.side.Side.{Side}
 use Rattle.rank_tree.specs.declared.side.Side.TheVariants.{Left, Right}
-use Rattle.rank_tree.specs.Knot.{Knot}
+use Rattle.rank_tree.specs.NodeView.{NodeView}
 use Rattle.rank_tree.specs.Store.{Store, Written, Reparented, Relinked}
 use Rattle.rank_tree.specs.Tree.{Tree, walk}
-use Rattle.rank_tree.specs.Shape.{make, knot, root_of, Context, plug, holder, Hangs, Stands, one}
+use Rattle.rank_tree.specs.Shape.{make, node_view, root_of, Context, plug, holder, Hangs, RepresentsTree, one}
 use Rattle.rank_tree.specs.Shape.{count, count_round, IsDistinct}
 use Rattle.rank_tree.specs.Repair.{KeptOff}
 use Rattle.rank_tree.specs.FrameLaws.{one-same, Represents-keep, Hangs-keep, make-count, make-root}
@@ -17,13 +17,13 @@ use Rattle.rank_tree.specs.FrameLaws.{Hangs-relink, write-elsewhere, count-walk}
 -- the writes of a turn, one after another; both nodes may get other ranks
 pub turned_stands : (n n1 n2 n3 n4 : Store) (root new_root : Option ℕ) (c : Context) (s : Side)
     (a : Tree) (x kx : ℕ) (b : Tree) (y ky : ℕ) (d : Tree) (jx jy : ℕ)
-    → Written n n1 y (knot s (Some x) (root_of b) jy (root_of d))
+    → Written n n1 y (node_view s (Some x) (root_of b) jy (root_of d))
     → Reparented n1 n2 (root_of b) (Some y)
-    → Written n2 n3 x (knot s (holder c) (root_of a) jx (Some y))
+    → Written n2 n3 x (node_view s (holder c) (root_of a) jx (Some y))
     → Relinked n3 n4 root new_root (holder c) y (Some x)
     → IsDistinct (plug c (make s (make s a x kx b) y ky d))
-    → Stands n root (plug c (make s (make s a x kx b) y ky d))
-    → Stands n4 new_root (plug c (make s a x jx (make s b y jy d)))
+    → RepresentsTree n root (plug c (make s (make s a x kx b) y ky d))
+    → RepresentsTree n4 new_root (plug c (make s a x jx (make s b y jy d)))
 turned_stands n n1 n2 n3 n4 root new_root c s a x kx b y ky d jx jy w1 w2 w3 w4 distinct h =
     let e0 = plug-opens n root c (make s (make s a x kx b) y ky d) h in
     let e1 = make-opens s n (holder c) (make s a x kx b) y ky d e0.1 in
@@ -60,23 +60,23 @@ turned_stands n n1 n2 n3 n4 root new_root c s a x kx b y ky d jx jy w1 w2 w3 w4 
     (record { once = λ j. let o = once j in omega arith }) w2 b_1 in
     let b_4 = Represents-keep n2 n4 (Some y) b
     (λ j z. let o = once j in late j (omega arith) (omega arith)) b_2 in
-    let at_y : n4 y ≡ Some (knot s (Some x) (root_of b) jy (root_of d)) =
+    let at_y : n4 y ≡ Some (node_view s (Some x) (root_of b) jy (root_of d)) =
     let o = once y in let f =
     one-same y in still y (omega arith) (omega arith) (omega arith) ∙ w1.here in
-    let at_x : n4 x ≡ Some (knot s (holder c) (root_of a) jx (Some y)) =
+    let at_x : n4 x ≡ Some (node_view s (holder c) (root_of a) jx (Some y)) =
     let o = once x in let f = one-same x in relink-elsewhere n3 n4 root new_root c y (Some x) w4 x
     (omega arith) ∙ w3.here in
     let low = make-closes s n4 (Some x) b y jy d at_y b_4 same_d in
     let link : Some y ≡ root_of (make s b y jy d) = sym (make-root s b y jy d) in
     let high = make-closes s n4 (holder c) a x jx (make s b y jy d)
-    (at_x ∙ ap (λ z. Some (knot s (holder c) (root_of a) jx z)) link) same_a low in
+    (at_x ∙ ap (λ z. Some (node_view s (holder c) (root_of a) jx z)) link) same_a low in
     plug-closes n4 new_root c (make s a x jx (make s b y jy d))
     (subst (λ z. Hangs n4 new_root c z) (sym (make-root s a x jx (make s b y jy d)))
     round_4) high
 
 -- they change nothing beside the tree
 pub turned_kept : (n n1 n2 n3 n4 : Store) (root new_root : Option ℕ) (c : Context) (s : Side)
-    (a : Tree) (x : ℕ) (b : Tree) (y : ℕ) (d : Tree) (jx jy : ℕ) (u v : Knot)
+    (a : Tree) (x : ℕ) (b : Tree) (y : ℕ) (d : Tree) (jx jy : ℕ) (u v : NodeView)
     → Written n n1 y u → Reparented n1 n2 (root_of b) (Some y) → Written n2 n3 x v
     → Relinked n3 n4 root new_root (holder c) y (Some x)
     → KeptOff (walk (plug c (make s a x jx (make s b y jy d)))) n n4

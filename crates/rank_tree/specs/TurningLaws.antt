@@ -5,7 +5,7 @@ use Rattle.rank_tree.specs.declared.side.Side.{Side}
 use Rattle.rank_tree.specs.declared.side.Side.TheVariants.{Left, Right}
 use Rattle.rank_tree.specs.Store.{Store, other_side}
 use Rattle.rank_tree.specs.Tree.{Tree, leaf, node, walk, rank_of, IsRanked, Fits}
-use Rattle.rank_tree.specs.Shape.{make, root_of, Context, top, under, plug, Stands, IsDistinct}
+use Rattle.rank_tree.specs.Shape.{make, root_of, Context, top, under, plug, RepresentsTree, IsDistinct}
 use Rattle.rank_tree.specs.Repair.{Spot, turned, IsRankedRound, Restored, KeptOff}
 use Rattle.rank_tree.specs.FrameLaws.{make-rank, make-walk, plug-walk, IsDistinct-walk}
 use Rattle.rank_tree.specs.TurnLaws.{turn-walk}
@@ -27,7 +27,7 @@ plug-ranked (under c s i k far) t r h =
 
 -- what is in a hole is exchanged for what has the same walk and the same rank
 pub restored : (n : Store) (root : Option ℕ) (c : Context) (t : Tree) (old : Tree) (w : List ℕ)
-    → Stands n root (plug c t)
+    → RepresentsTree n root (plug c t)
     → IsRankedRound c (rank_of t) → IsRanked t → walk t ≡ walk old → walk (plug c old) ≡ w
     → Restored n root w
 restored n root c t old w h r k e q = record {
@@ -42,7 +42,7 @@ pub record Turns (n : Store) (root : Option ℕ) (low j k : ℕ) (w : List ℕ) 
     → Type 0) : Type 0 where
   pub spot : Spot n root low
   pub is_walk : walk (turned spot j k) ≡ w
-  pub after : (m : Store) (new_root : Option ℕ) → Stands m new_root (turned spot j k)
+  pub after : (m : Store) (new_root : Option ℕ) → RepresentsTree m new_root (turned spot j k)
       → After m new_root
 
 -- one node turns up twice, and the rules hold
@@ -154,7 +154,7 @@ turn_twice n root low middle j k w h ready is ej low_fits high_fits =
       far = h.outer;
       distinct = subst (λ t. IsDistinct (plug c (make s t h.high h.high_rank h.far)))
           old_is h.distinct;
-      stands = subst (λ t. Stands n root (plug c (make s t h.high h.high_rank h.far)))
+      stands = subst (λ t. RepresentsTree n root (plug c (make s t h.high h.high_rank h.far)))
           old_is h.stands;
     } in
     let lowered = make o v.far low k h.outer in
@@ -184,7 +184,7 @@ turn_twice n root low middle j k w h ready is ej low_fits high_fits =
           far = h.far;
           distinct = subst (λ t. IsDistinct (plug c (make s t h.high h.high_rank h.far))) half_is
               (turned-distinct n root middle first j k);
-          stands = subst (λ t. Stands m r (plug c (make s t h.high h.high_rank h.far)))
+          stands = subst (λ t. RepresentsTree m r (plug c (make s t h.high h.high_rank h.far)))
               half_is stands;
         };
         is_walk = plug-walk c _ _ last_walk ∙ ready.is_walk;

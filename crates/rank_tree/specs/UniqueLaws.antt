@@ -7,7 +7,7 @@ use Rattle.rank_tree.specs.Whole.{read_tree, tree_of}
 use Rattle.rank_tree.specs.BoundLaws.{height-le-rank}
 use Rattle.rank_tree.specs.SpotLaws.{rank_link}
 use Rattle.rank_tree.specs.Tree.{Tree, leaf, node, walk, height, IsRanked}
-use Rattle.rank_tree.specs.Shape.{knot, make, root_of, Represents, Stands, Context, top, under}
+use Rattle.rank_tree.specs.Shape.{node_view, make, root_of, Represents, RepresentsTree, Context, top, under}
 use Rattle.rank_tree.specs.Shape.{plug}
 
 pub unique : (n : Store) (p q : Option ℕ) (t u : Tree) → Represents n p t → Represents n q u
@@ -17,15 +17,16 @@ unique n p q leaf (node l i k r) h g e = absurd (cc)
 unique n p q (node l i k r) leaf h g e = absurd (cc)
 unique n p q (node l i k r) (node l' i' k' r') h g e =
     let ei : i ≡ i' = cc in
-    let same : knot Left p (root_of l) k (root_of r) ≡ knot Left q (root_of l') k' (root_of r') =
+    let same : node_view Left p (root_of l) k (root_of r)
+    ≡ node_view Left q (root_of l') k' (root_of r') =
     cc (h.0, g.0, ap n ei) in
     let el = unique n (Some i) (Some i') l l' h.1 g.1 (ap (λ v. v.left) same) in
     let er = unique n (Some i) (Some i') r r' h.2 g.2 (ap (λ v. v.right) same) in
     let ek = ap (λ v. v.rank) same in
     cc
 
-pub whole_unique : (n : Store) (root : Option ℕ) (t u : Tree) → Stands n root t
-    → Stands n root u → t ≡ u
+pub whole_unique : (n : Store) (root : Option ℕ) (t u : Tree) → RepresentsTree n root t
+    → RepresentsTree n root u → t ≡ u
 whole_unique n root t u h g = unique n None None t u h.1 g.1 (sym h.0 ∙ g.0)
 
 pub read_back : (fuel : ℕ) (n : Store) (p : Option ℕ) (t : Tree) → Represents n p t
@@ -41,7 +42,7 @@ read_back (suc fuel) n p (node l i k r) h e =
     ) refl
 
 -- the tree that is read from the links is the one that stands there
-pub tree_is : (n : Store) (root : Option ℕ) (t : Tree) → Stands n root t → IsRanked t
+pub tree_is : (n : Store) (root : Option ℕ) (t : Tree) → RepresentsTree n root t → IsRanked t
     → tree_of n root ≡ t
 tree_is n root t h r = rw h.0
     (read_back (rank_or_link n (root_of t)) n None t h.1

@@ -3,10 +3,10 @@ ghost use Rattle.std.specs.Prelude.{ℕ, ◌<◌, Option, ⊤};
 ghost use Rattle.std.specs.Option.{option_map};
 ghost use Rattle.rank_tree.specs.Repair.{Spot, IsAround};
 
-use crate::knots::rank_at;
-use crate::{Knots, side_of};
+use crate::node_store::rank_at;
+use crate::{NodeStore, side_of};
+use proof_marks::unreached;
 use triple_arena_ptr::PtrCore;
-use unreached::unreached;
 
 // A node `low` with its parent `high`: `outer` and `inner` are the children of `low`, `far` is its
 // sibling.
@@ -22,19 +22,22 @@ pub(crate) struct Around<I> {
 }
 
 // Reads what stands round `low`, which has a parent.
-pub(crate) fn look_around<N, P: PtrCore, K: Knots<N, P>>(knots: &K, low: P::Inx) -> Around<P::Inx>
-    requires spot { (root : Option ℕ) × Spot (K.knots knots.now) root (P.Inx.number low) }
+pub(crate) fn look_around<N, P: PtrCore, K: NodeStore<N, P>>(
+    nodes: &K,
+    low: P::Inx,
+) -> Around<P::Inx>
+    requires spot { (root : Option ℕ) × Spot (K.nodes nodes.now) root (P.Inx.number low) }
     requires no_more { ⊤ }
-    ensures { (root : Option ℕ) → (spot : Spot (K.knots knots.now) root (P.Inx.number low))
-        → IsAround (K.knots knots.now) root (P.Inx.number low) spot (P.Inx.number result.high)
+    ensures { (root : Option ℕ) → (spot : Spot (K.nodes nodes.now) root (P.Inx.number low))
+        → IsAround (K.nodes nodes.now) root (P.Inx.number low) spot (P.Inx.number result.high)
         (option_map P.Inx.number result.inner)
         result.low_rank result.high_rank result.outer_rank result.inner_rank result.far_rank }
 {
-    let below = knots.read(low);
+    let below = nodes.read(low);
     let Some(high) = below.parent else {
         unreached!()
     };
-    let above = knots.read(high);
+    let above = nodes.read(high);
     let side = side_of(above, low);
     let away = side.other();
     let outer = below.child(side);
@@ -45,8 +48,8 @@ pub(crate) fn look_around<N, P: PtrCore, K: Knots<N, P>>(knots: &K, low: P::Inx)
         inner,
         low_rank: below.rank,
         high_rank: above.rank,
-        outer_rank: rank_at(knots, outer),
-        inner_rank: rank_at(knots, inner),
-        far_rank: rank_at(knots, far),
+        outer_rank: rank_at(nodes, outer),
+        inner_rank: rank_at(nodes, inner),
+        far_rank: rank_at(nodes, far),
     }
 }

@@ -3,101 +3,99 @@
 ghost use Rattle.std.specs.Prelude.{◌≡◌, ℕ, Some, None, IsSome};
 ghost use Rattle.std.specs.Option.{option_map};
 ghost use Rattle.rank_tree.specs.Tree.{node, walk};
-ghost use Rattle.rank_tree.specs.Shape.{plug, Stands};
-ghost use Rattle.rank_tree.specs.Repair.{Replacement, Gap, filled, new_below, Grown, Loose};
+ghost use Rattle.rank_tree.specs.Shape.{plug, RepresentsTree};
+ghost use Rattle.rank_tree.specs.Repair.{Replacement, FreeSide, filled, new_below, Grown, Loose};
 ghost use Rattle.rank_tree.specs.Repair.{Pending, KeptOff};
 
-use crate::knots::{relink, reparent};
-use crate::{Knots, Side, TreeLinks};
+use crate::node_store::{relink, reparent};
+use crate::{NodeLinks, NodeStore, Side};
 use triple_arena_ptr::{PtrCore, PtrInxCore};
 
 /// A new leaf, which names the node as its parent, below that node.
-pub(crate) fn attach<N, P: PtrCore, K: Knots<N, P>>(
-    knots: &mut K,
+pub(crate) fn attach<N, P: PtrCore, K: NodeStore<N, P>>(
+    nodes: &mut K,
     root: Option<P::Inx>,
     holder: P::Inx,
     side: Side,
     new: P::Inx,
 )
-    requires gap { Gap (K.knots knots.old) (option_map P.Inx.number root) (P.Inx.number holder) side
-        (P.Inx.number new) }
-    requires slot { K.knots knots.old (P.Inx.number new)
-        ≡ Some (new_below (P.Inx.number holder)) }
-    ensures does { (gap : Gap (K.knots knots.old) (option_map P.Inx.number root)
+    requires free { FreeSide (K.nodes nodes.old) (option_map P.Inx.number root)
+        (P.Inx.number holder) side (P.Inx.number new) }
+    requires slot { K.nodes nodes.old (P.Inx.number new) ≡ Some (new_below (P.Inx.number holder)) }
+    ensures does { (free : FreeSide (K.nodes nodes.old) (option_map P.Inx.number root)
         (P.Inx.number holder) side (P.Inx.number new))
-        → Grown (K.knots knots.new) (option_map P.Inx.number root) (P.Inx.number new)
-        (walk (filled gap)) }
-    ensures elsewhere { (gap : Gap (K.knots knots.old) (option_map P.Inx.number root)
+        → Grown (K.nodes nodes.new) (option_map P.Inx.number root) (P.Inx.number new)
+        (walk (filled free)) }
+    ensures elsewhere { (free : FreeSide (K.nodes nodes.old) (option_map P.Inx.number root)
         (P.Inx.number holder) side (P.Inx.number new))
-        → KeptOff (walk (filled gap)) (K.knots knots.old) (K.knots knots.new) }
-    ensures slot { K.knots knots.new (P.Inx.number new)
-        ≡ Some (new_below (P.Inx.number holder)) }
-    ensures keeps { K.rest knots.new ≡ K.rest knots.old }
+        → KeptOff (walk (filled free)) (K.nodes nodes.old) (K.nodes nodes.new) }
+    ensures slot { K.nodes nodes.new (P.Inx.number new) ≡ Some (new_below (P.Inx.number holder)) }
+    ensures keeps { K.rest nodes.new ≡ K.rest nodes.old }
 {
-    knots.set_child(holder, side, &Some(new));
+    nodes.set_child(holder, side, &Some(new));
 }
 
 /// A node with at most one child leaves the tree; the answer is where the rules may be broken, and
 /// the child there that may be too low.
-pub(crate) fn detach<N, P: PtrCore, K: Knots<N, P>>(
-    knots: &mut K,
+pub(crate) fn detach<N, P: PtrCore, K: NodeStore<N, P>>(
+    nodes: &mut K,
     root: &mut Option<P::Inx>,
     gone: P::Inx,
 ) -> (Option<P::Inx>, Option<P::Inx>)
-    requires { Loose (K.knots knots.old) (option_map P.Inx.number root.old) (P.Inx.number gone) }
-    ensures does { (loose : Loose (K.knots knots.old) (option_map P.Inx.number root.old)
+    requires { Loose (K.nodes nodes.old) (option_map P.Inx.number root.old) (P.Inx.number gone) }
+    ensures does { (loose : Loose (K.nodes nodes.old) (option_map P.Inx.number root.old)
         (P.Inx.number gone))
-        → Pending (K.knots knots.new) (option_map P.Inx.number root.new)
+        → Pending (K.nodes nodes.new) (option_map P.Inx.number root.new)
         (option_map P.Inx.number result.0) (option_map P.Inx.number result.1)
         (walk (plug loose.context loose.sub)) }
-    ensures elsewhere { (loose : Loose (K.knots knots.old) (option_map P.Inx.number root.old)
+    ensures elsewhere { (loose : Loose (K.nodes nodes.old) (option_map P.Inx.number root.old)
         (P.Inx.number gone))
-        → KeptOff (walk (plug loose.context loose.sub)) (K.knots knots.old) (K.knots knots.new) }
-    ensures keeps { K.rest knots.new ≡ K.rest knots.old }
+        → KeptOff (walk (plug loose.context loose.sub)) (K.nodes nodes.old) (K.nodes nodes.new) }
+    ensures keeps { K.rest nodes.new ≡ K.rest nodes.old }
 {
-    let knot = knots.read(gone);
-    let child = first_child(knot);
-    reparent(knots, child, knot.parent);
-    relink(knots, root, knot.parent, gone, child);
-    (knot.parent, child)
+    let links = nodes.read(gone);
+    let child = first_child(links);
+    reparent(nodes, child, links.parent);
+    relink(nodes, root, links.parent, gone, child);
+    (links.parent, child)
 }
 
 /// `new`, which is not in the tree, takes the place and the rank of `old`.
-pub fn replace<N, P: PtrCore, K: Knots<N, P>>(
-    knots: &mut K,
+pub fn replace<N, P: PtrCore, K: NodeStore<N, P>>(
+    nodes: &mut K,
     root: &mut Option<P::Inx>,
     old: P::Inx,
     new: P::Inx,
 )
-    requires place { Replacement (K.knots knots.old) (option_map P.Inx.number root.old)
+    requires place { Replacement (K.nodes nodes.old) (option_map P.Inx.number root.old)
         (P.Inx.number old) (P.Inx.number new) }
-    requires slot { IsSome (K.knots knots.old (P.Inx.number new)) }
-    ensures does { (place : Replacement (K.knots knots.old) (option_map P.Inx.number root.old)
+    requires slot { IsSome (K.nodes nodes.old (P.Inx.number new)) }
+    ensures does { (place : Replacement (K.nodes nodes.old) (option_map P.Inx.number root.old)
         (P.Inx.number old) (P.Inx.number new))
-        → Stands (K.knots knots.new) (option_map P.Inx.number root.new)
+        → RepresentsTree (K.nodes nodes.new) (option_map P.Inx.number root.new)
         (plug place.context (node place.left (P.Inx.number new) place.rank place.right)) }
-    ensures elsewhere { (place : Replacement (K.knots knots.old) (option_map P.Inx.number root.old)
+    ensures elsewhere { (place : Replacement (K.nodes nodes.old) (option_map P.Inx.number root.old)
         (P.Inx.number old) (P.Inx.number new))
         → KeptOff (walk (plug place.context
-        (node place.left (P.Inx.number new) place.rank place.right))) (K.knots knots.old)
-        (K.knots knots.new) }
-    ensures keeps { K.rest knots.new ≡ K.rest knots.old }
+        (node place.left (P.Inx.number new) place.rank place.right))) (K.nodes nodes.old)
+        (K.nodes nodes.new) }
+    ensures keeps { K.rest nodes.new ≡ K.rest nodes.old }
 {
-    let knot = knots.read(old);
-    knots.write(new, &knot);
-    reparent(knots, knot.left, Some(new));
-    reparent(knots, knot.right, Some(new));
-    relink(knots, root, knot.parent, old, Some(new));
+    let links = nodes.read(old);
+    nodes.write(new, &links);
+    reparent(nodes, links.left, Some(new));
+    reparent(nodes, links.right, Some(new));
+    relink(nodes, root, links.parent, old, Some(new));
 }
 
-fn first_child<I: PtrInxCore>(knot: TreeLinks<I>) -> Option<I>
-    ensures left { (i : ℕ) → option_map I.number knot.left ≡ Some i
+fn first_child<I: PtrInxCore>(links: NodeLinks<I>) -> Option<I>
+    ensures left { (i : ℕ) → option_map I.number links.left ≡ Some i
         → option_map I.number result ≡ Some i }
-    ensures right { option_map I.number knot.left ≡ None
-        → option_map I.number result ≡ option_map I.number knot.right }
+    ensures right { option_map I.number links.left ≡ None
+        → option_map I.number result ≡ option_map I.number links.right }
 {
-    match knot.left {
+    match links.left {
         Some(i) => Some(i),
-        None => knot.right,
+        None => links.right,
     }
 }

@@ -3,59 +3,59 @@ ghost use Rattle.std.specs.Prelude.{◌≡◌, ℕ, ◌+◌, ◌<◌, List, Some
 ghost use Rattle.std.specs.Option.{option_map};
 ghost use Rattle.rank_tree.specs.Tree.{walk, rank_of};
 ghost use Rattle.rank_tree.specs.Named.{named};
-ghost use Rattle.rank_tree.specs.Repair.{Leaning, Grown, Restored, Gap, filled, new_below, KeptOff};
+ghost use Rattle.rank_tree.specs.Repair.{Leaning, Grown, Restored, FreeSide, filled, new_below, KeptOff};
 ghost use Rattle.rank_tree.specs.ClimbLaws.{Climbing, IsLevel};
 
 use crate::edges::attach;
-use crate::knots::rank_at;
+use crate::node_store::rank_at;
 use crate::turn::turn;
-use crate::{Knots, Side, TreeLinks, side_of};
+use crate::{NodeLinks, NodeStore, Side, side_of};
+use proof_marks::unreached;
 use triple_arena_ptr::PtrCore;
-use unreached::unreached;
 
 /// `low` turns up over its parent of the same rank, or its inner child does, twice.
-fn lean<N, P: PtrCore, K: Knots<N, P>>(knots: &mut K, root: &mut Option<P::Inx>, low: P::Inx)
+fn lean<N, P: PtrCore, K: NodeStore<N, P>>(nodes: &mut K, root: &mut Option<P::Inx>, low: P::Inx)
     requires leaning { (w : List ℕ)
-        × Leaning (K.knots knots.old) (option_map P.Inx.number root.old) (P.Inx.number low) w }
+        × Leaning (K.nodes nodes.old) (option_map P.Inx.number root.old) (P.Inx.number low) w }
     requires no_more { ⊤ }
     ensures does { (w : List ℕ)
-        → Leaning (K.knots knots.old) (option_map P.Inx.number root.old) (P.Inx.number low) w
-        → Restored (K.knots knots.new) (option_map P.Inx.number root.new) w }
+        → Leaning (K.nodes nodes.old) (option_map P.Inx.number root.old) (P.Inx.number low) w
+        → Restored (K.nodes nodes.new) (option_map P.Inx.number root.new) w }
     ensures elsewhere { (w : List ℕ)
-        → Leaning (K.knots knots.old) (option_map P.Inx.number root.old) (P.Inx.number low) w
-        → KeptOff w (K.knots knots.old) (K.knots knots.new) }
-    ensures keeps { K.rest knots.new ≡ K.rest knots.old }
+        → Leaning (K.nodes nodes.old) (option_map P.Inx.number root.old) (P.Inx.number low) w
+        → KeptOff w (K.nodes nodes.old) (K.nodes nodes.new) }
+    ensures keeps { K.rest nodes.new ≡ K.rest nodes.old }
 {
-    let below = knots.read(low);
+    let below = nodes.read(low);
     let Some(high) = below.parent else {
         unreached!()
     };
-    let above = knots.read(high);
+    let above = nodes.read(high);
     let side = side_of(above, low);
     let inner = below.child(side.other());
     let rank = below.rank;
-    if rank_at(knots, inner) + 1 < rank {
-        turn(knots, root, low, rank, rank - 1);
+    if rank_at(nodes, inner) + 1 < rank {
+        turn(nodes, root, low, rank, rank - 1);
     } else {
         let Some(middle) = inner else { unreached!() };
-        turn(knots, root, middle, rank, rank - 1);
-        turn(knots, root, middle, rank, rank - 1);
+        turn(nodes, root, middle, rank, rank - 1);
+        turn(nodes, root, middle, rank, rank - 1);
     }
 }
 
 /// Whether the sibling of the node that has grown to this rank, which is its parent's, has two
 /// ranks less. At rank 2 a sibling that is there has one less, and is not read.
-fn is_two_lower<N, P: PtrCore, K: Knots<N, P>>(
-    knots: &K,
-    above: TreeLinks<P::Inx>,
+fn is_two_lower<N, P: PtrCore, K: NodeStore<N, P>>(
+    nodes: &K,
+    above: NodeLinks<P::Inx>,
     rank: u8,
 ) -> bool
     requires level { (root : Option ℕ) × (low : ℕ) × (w : List ℕ) × (high : ℕ)
-        × (h : Climbing (K.knots knots.now) root low w high)
+        × (h : Climbing (K.nodes nodes.now) root low w high)
         × IsLevel _ _ _ _ _ h (named P.Inx.number above) rank }
     requires no_more { ⊤ }
     ensures { (root : Option ℕ) (low : ℕ) (w : List ℕ) (high : ℕ)
-        (h : Climbing (K.knots knots.now) root low w high)
+        (h : Climbing (K.nodes nodes.now) root low w high)
         → IsLevel _ _ _ _ _ h (named P.Inx.number above) rank
         → (IsTrue result ↔ (rank_of h.far + 1 < rank)) }
 {
@@ -63,41 +63,41 @@ fn is_two_lower<N, P: PtrCore, K: Knots<N, P>>(
         return above.left.is_none() || above.right.is_none();
     }
     // One of these is that rank: which of them does not matter.
-    let left = rank_at(knots, above.left);
-    let right = rank_at(knots, above.right);
+    let left = rank_at(nodes, above.left);
+    let right = rank_at(nodes, above.right);
     left.min(right) + 1 < rank
 }
 
 /// From one subtree that has grown in rank to a tree that keeps the rules.
-pub(crate) fn repair_inserted<N, P: PtrCore, K: Knots<N, P>>(
-    knots: &mut K,
+pub(crate) fn repair_inserted<N, P: PtrCore, K: NodeStore<N, P>>(
+    nodes: &mut K,
     root: &mut Option<P::Inx>,
     start: P::Inx,
 )
     requires grown { (w : List ℕ)
-        × Grown (K.knots knots.old) (option_map P.Inx.number root.old) (P.Inx.number start) w }
+        × Grown (K.nodes nodes.old) (option_map P.Inx.number root.old) (P.Inx.number start) w }
     requires no_more { ⊤ }
     ensures does { (w : List ℕ)
-        → Grown (K.knots knots.old) (option_map P.Inx.number root.old) (P.Inx.number start) w
-        → Restored (K.knots knots.new) (option_map P.Inx.number root.new) w }
+        → Grown (K.nodes nodes.old) (option_map P.Inx.number root.old) (P.Inx.number start) w
+        → Restored (K.nodes nodes.new) (option_map P.Inx.number root.new) w }
     ensures elsewhere { (w : List ℕ)
-        → Grown (K.knots knots.old) (option_map P.Inx.number root.old) (P.Inx.number start) w
-        → KeptOff w (K.knots knots.old) (K.knots knots.new) }
-    ensures keeps { K.rest knots.new ≡ K.rest knots.old }
+        → Grown (K.nodes nodes.old) (option_map P.Inx.number root.old) (P.Inx.number start) w
+        → KeptOff w (K.nodes nodes.old) (K.nodes nodes.new) }
+    ensures keeps { K.rest nodes.new ≡ K.rest nodes.old }
 {
     let mut low = start;
     'climb: loop {
-        let below = knots.read(low);
+        let below = nodes.read(low);
         let Some(high) = below.parent else { return };
-        let above = knots.read(high);
+        let above = nodes.read(high);
         if below.rank < above.rank {
             return;
         }
-        if is_two_lower(knots, above, below.rank) {
-            lean(knots, root, low);
+        if is_two_lower(nodes, above, below.rank) {
+            lean(nodes, root, low);
             return;
         }
-        knots.set_rank(high, above.rank + 1);
+        nodes.set_rank(high, above.rank + 1);
         low = high;
     }
 }
@@ -105,30 +105,29 @@ pub(crate) fn repair_inserted<N, P: PtrCore, K: Knots<N, P>>(
 /// Hangs the node at `new` below `holder`, on a side on which that has no child. It is not in the
 /// tree, and was written as a leaf of rank 1 that has `holder` as its parent. After it the rules
 /// hold.
-pub fn bring_in<N, P: PtrCore, K: Knots<N, P>>(
-    knots: &mut K,
+pub fn bring_in<N, P: PtrCore, K: NodeStore<N, P>>(
+    nodes: &mut K,
     root: &mut Option<P::Inx>,
     holder: P::Inx,
     side: Side,
     new: P::Inx,
 )
-    requires gap { Gap (K.knots knots.old) (option_map P.Inx.number root.old)
+    requires free { FreeSide (K.nodes nodes.old) (option_map P.Inx.number root.old)
         (P.Inx.number holder) side (P.Inx.number new) }
-    requires slot { K.knots knots.old (P.Inx.number new)
-        ≡ Some (new_below (P.Inx.number holder)) }
-    ensures does { (gap : Gap (K.knots knots.old) (option_map P.Inx.number root.old)
+    requires slot { K.nodes nodes.old (P.Inx.number new) ≡ Some (new_below (P.Inx.number holder)) }
+    ensures does { (free : FreeSide (K.nodes nodes.old) (option_map P.Inx.number root.old)
         (P.Inx.number holder) side (P.Inx.number new))
-        → Restored (K.knots knots.new) (option_map P.Inx.number root.new) (walk (filled gap)) }
-    ensures elsewhere { (gap : Gap (K.knots knots.old) (option_map P.Inx.number root.old)
+        → Restored (K.nodes nodes.new) (option_map P.Inx.number root.new) (walk (filled free)) }
+    ensures elsewhere { (free : FreeSide (K.nodes nodes.old) (option_map P.Inx.number root.old)
         (P.Inx.number holder) side (P.Inx.number new))
-        → KeptOff (walk (filled gap)) (K.knots knots.old) (K.knots knots.new) }
-    ensures keeps { K.rest knots.new ≡ K.rest knots.old }
+        → KeptOff (walk (filled free)) (K.nodes nodes.old) (K.nodes nodes.new) }
+    ensures keeps { K.rest nodes.new ≡ K.rest nodes.old }
 {
-    attach(knots, *root, holder, side, new);
+    attach(nodes, *root, holder, side, new);
     // Only a holder that was a leaf rises, and then it has no other child.
-    let above = knots.read(holder);
+    let above = nodes.read(holder);
     if above.rank == 1 {
-        knots.set_rank(holder, above.rank + 1);
-        repair_inserted(knots, root, holder);
+        nodes.set_rank(holder, above.rank + 1);
+        repair_inserted(nodes, root, holder);
     }
 }

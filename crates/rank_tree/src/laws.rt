@@ -4,7 +4,7 @@ ghost use Rattle.rank_tree.specs.Comparisons.{most_comparisons};
 ghost use Rattle.rank_tree.specs.Halving.{IsHalvingOf};
 ghost use Rattle.rank_tree.specs.Store.{Store};
 ghost use Rattle.rank_tree.specs.Tree.{Tree, IsRanked, height, rank_of, size};
-ghost use Rattle.rank_tree.specs.Shape.{Stands};
+ghost use Rattle.rank_tree.specs.Shape.{RepresentsTree};
 
 /// No path in a tree that keeps the rules has more nodes than the rank r of its root. A tree of n
 /// nodes, if n is not 0, has `2^(r+1) <= (n+1)^2`.
@@ -24,8 +24,8 @@ pub fn the_bound_is_the_greatest()
 
 /// The nodes determine the tree that hangs from a root.
 pub fn nodes_determine_the_tree()
-    ensures { (nodes : Store) (root : Option ℕ) (t u : Tree) → Stands nodes root t
-        → Stands nodes root u → t ≡ u }
+    ensures { (nodes : Store) (root : Option ℕ) (t u : Tree) → RepresentsTree nodes root t
+        → RepresentsTree nodes root u → t ≡ u }
 {}
 
 /// The halving tree of a list keeps the rules, and a list has no more than one.

@@ -10,35 +10,35 @@ ghost use Rattle.rank_tree.specs.Repair.{IsFitAbove};
 
 use crate::around::look_around;
 use crate::edges::detach;
-use crate::knots::rank_at;
+use crate::node_store::rank_at;
 use crate::turn::turn;
-use crate::{Knots, Side, TreeLinks};
+use crate::{NodeLinks, NodeStore, Side};
+use proof_marks::unreached;
 use triple_arena_ptr::{PtrCore, PtrInxCore};
-use unreached::unreached;
 
 /// The higher child `low` turns up, or its inner child does, twice.
-fn shorten<N, P: PtrCore, K: Knots<N, P>>(knots: &mut K, root: &mut Option<P::Inx>, low: P::Inx)
+fn shorten<N, P: PtrCore, K: NodeStore<N, P>>(nodes: &mut K, root: &mut Option<P::Inx>, low: P::Inx)
     requires short { (w : List ℕ)
-        × Short (K.knots knots.old) (option_map P.Inx.number root.old) (P.Inx.number low) w }
+        × Short (K.nodes nodes.old) (option_map P.Inx.number root.old) (P.Inx.number low) w }
     requires no_more { ⊤ }
     ensures does { (w : List ℕ)
-        → Short (K.knots knots.old) (option_map P.Inx.number root.old) (P.Inx.number low) w
-        → Restored (K.knots knots.new) (option_map P.Inx.number root.new) w }
+        → Short (K.nodes nodes.old) (option_map P.Inx.number root.old) (P.Inx.number low) w
+        → Restored (K.nodes nodes.new) (option_map P.Inx.number root.new) w }
     ensures elsewhere { (w : List ℕ)
-        → Short (K.knots knots.old) (option_map P.Inx.number root.old) (P.Inx.number low) w
-        → KeptOff w (K.knots knots.old) (K.knots knots.new) }
-    ensures keeps { K.rest knots.new ≡ K.rest knots.old }
+        → Short (K.nodes nodes.old) (option_map P.Inx.number root.old) (P.Inx.number low) w
+        → KeptOff w (K.nodes nodes.old) (K.nodes nodes.new) }
+    ensures keeps { K.rest nodes.new ≡ K.rest nodes.old }
 {
-    let near = look_around(knots, low);
+    let near = look_around(nodes, low);
     let rank = near.high_rank;
     if near.low_rank <= near.outer_rank + 1 {
-        turn(knots, root, low, rank, near.inner_rank + 1);
+        turn(nodes, root, low, rank, near.inner_rank + 1);
     } else {
         let Some(middle) = near.inner else {
             unreached!()
         };
-        turn(knots, root, middle, rank, rank - 2);
-        turn(knots, root, middle, rank, rank - 2);
+        turn(nodes, root, middle, rank, rank - 2);
+        turn(nodes, root, middle, rank, rank - 2);
     }
 }
 
@@ -55,7 +55,7 @@ fn higher(left: u8, right: u8) -> Side
 
 /// Whether the rule of a node holds, of which one child has this rank, and the other keeps the
 /// rule.
-fn is_fit_above<I: PtrInxCore>(above: TreeLinks<I>, near_rank: u8) -> bool
+fn is_fit_above<I: PtrInxCore>(above: NodeLinks<I>, near_rank: u8) -> bool
     requires { near_rank ≤ 127 }
     ensures { IsTrue result ↔ IsFitAbove (named I.number above) near_rank }
 {
@@ -64,104 +64,104 @@ fn is_fit_above<I: PtrInxCore>(above: TreeLinks<I>, near_rank: u8) -> bool
 }
 
 /// One step: the rules are restored, or are broken at most at the parent.
-fn mend<N, P: PtrCore, K: Knots<N, P>>(
-    knots: &mut K,
+fn mend<N, P: PtrCore, K: NodeStore<N, P>>(
+    nodes: &mut K,
     root: &mut Option<P::Inx>,
     high: P::Inx,
     near: Option<P::Inx>,
 ) -> Option<P::Inx>
     requires { (w : List ℕ)
-        × Broken (K.knots knots.old) (option_map P.Inx.number root.old) (P.Inx.number high)
+        × Broken (K.nodes nodes.old) (option_map P.Inx.number root.old) (P.Inx.number high)
         (option_map P.Inx.number near) w }
     ensures pending { (w : List ℕ)
-        → Broken (K.knots knots.old) (option_map P.Inx.number root.old) (P.Inx.number high)
+        → Broken (K.nodes nodes.old) (option_map P.Inx.number root.old) (P.Inx.number high)
         (option_map P.Inx.number near) w
-        → Pending (K.knots knots.new) (option_map P.Inx.number root.new)
+        → Pending (K.nodes nodes.new) (option_map P.Inx.number root.new)
         (option_map P.Inx.number result) (Some (P.Inx.number high)) w }
-    ensures rises { IfSome result (λ i. rank_in (K.knots knots.old) (P.Inx.number high)
-        < rank_in (K.knots knots.new) (P.Inx.number i)) }
+    ensures rises { IfSome result (λ i. rank_in (K.nodes nodes.old) (P.Inx.number high)
+        < rank_in (K.nodes nodes.new) (P.Inx.number i)) }
     ensures elsewhere { (w : List ℕ)
-        → Broken (K.knots knots.old) (option_map P.Inx.number root.old) (P.Inx.number high)
+        → Broken (K.nodes nodes.old) (option_map P.Inx.number root.old) (P.Inx.number high)
         (option_map P.Inx.number near) w
-        → KeptOff w (K.knots knots.old) (K.knots knots.new) }
-    ensures keeps { K.rest knots.new ≡ K.rest knots.old }
+        → KeptOff w (K.nodes nodes.old) (K.nodes nodes.new) }
+    ensures keeps { K.rest nodes.new ≡ K.rest nodes.old }
 {
-    let above = knots.read(high);
+    let above = nodes.read(high);
     let rank = above.rank;
-    let near_rank = rank_at(knots, near);
+    let near_rank = rank_at(nodes, near);
     // The other child keeps the rule, and is not read if this one does too.
     if is_fit_above(above, near_rank) {
         return None;
     }
-    let left = rank_at(knots, above.left);
-    let right = rank_at(knots, above.right);
+    let left = rank_at(nodes, above.left);
+    let right = rank_at(nodes, above.right);
     if left.max(right) + 2 <= rank {
-        knots.set_rank(high, rank - 1);
+        nodes.set_rank(high, rank - 1);
         return above.parent;
     }
     let Some(low) = above.child(higher(left, right)) else {
         unreached!()
     };
-    let below = knots.read(low);
-    let low_left = rank_at(knots, below.left);
-    let low_right = rank_at(knots, below.right);
+    let below = nodes.read(low);
+    let low_left = rank_at(nodes, below.left);
+    let low_right = rank_at(nodes, below.right);
     if below.rank <= low_left.max(low_right) + 1 {
-        shorten(knots, root, low);
+        shorten(nodes, root, low);
         return None;
     }
-    knots.set_rank(low, below.rank - 1);
-    knots.set_rank(high, rank - 1);
+    nodes.set_rank(low, below.rank - 1);
+    nodes.set_rank(high, rank - 1);
     above.parent
 }
 
 /// From a tree with one child too low to a tree that keeps the rules.
-pub(crate) fn repair_removed<N, P: PtrCore, K: Knots<N, P>>(
-    knots: &mut K,
+pub(crate) fn repair_removed<N, P: PtrCore, K: NodeStore<N, P>>(
+    nodes: &mut K,
     root: &mut Option<P::Inx>,
     start: Option<P::Inx>,
     child: Option<P::Inx>,
 )
     requires pending { (w : List ℕ)
-        × Pending (K.knots knots.old) (option_map P.Inx.number root.old)
+        × Pending (K.nodes nodes.old) (option_map P.Inx.number root.old)
         (option_map P.Inx.number start) (option_map P.Inx.number child) w }
     requires no_more { ⊤ }
     ensures does { (w : List ℕ)
-        → Pending (K.knots knots.old) (option_map P.Inx.number root.old)
+        → Pending (K.nodes nodes.old) (option_map P.Inx.number root.old)
         (option_map P.Inx.number start) (option_map P.Inx.number child) w
-        → Restored (K.knots knots.new) (option_map P.Inx.number root.new) w }
+        → Restored (K.nodes nodes.new) (option_map P.Inx.number root.new) w }
     ensures elsewhere { (w : List ℕ)
-        → Pending (K.knots knots.old) (option_map P.Inx.number root.old)
+        → Pending (K.nodes nodes.old) (option_map P.Inx.number root.old)
         (option_map P.Inx.number start) (option_map P.Inx.number child) w
-        → KeptOff w (K.knots knots.old) (K.knots knots.new) }
-    ensures keeps { K.rest knots.new ≡ K.rest knots.old }
+        → KeptOff w (K.nodes nodes.old) (K.nodes nodes.new) }
+    ensures keeps { K.rest nodes.new ≡ K.rest nodes.old }
 {
     let mut at = start;
     let mut near = child;
     'climb: while let Some(high) = at {
-        at = mend(knots, root, high, near);
+        at = mend(nodes, root, high, near);
         near = Some(high);
     }
 }
 
 /// Takes the node at `gone`, which has no child on one side, out of the tree. After it the rules
 /// hold.
-pub fn bring_out<N, P: PtrCore, K: Knots<N, P>>(
-    knots: &mut K,
+pub fn bring_out<N, P: PtrCore, K: NodeStore<N, P>>(
+    nodes: &mut K,
     root: &mut Option<P::Inx>,
     gone: P::Inx,
 )
-    requires loose { Loose (K.knots knots.old) (option_map P.Inx.number root.old)
+    requires loose { Loose (K.nodes nodes.old) (option_map P.Inx.number root.old)
         (P.Inx.number gone) }
     requires no_more { ⊤ }
-    ensures does { (loose : Loose (K.knots knots.old) (option_map P.Inx.number root.old)
+    ensures does { (loose : Loose (K.nodes nodes.old) (option_map P.Inx.number root.old)
         (P.Inx.number gone))
-        → Restored (K.knots knots.new) (option_map P.Inx.number root.new)
+        → Restored (K.nodes nodes.new) (option_map P.Inx.number root.new)
         (walk (plug loose.context loose.sub)) }
-    ensures elsewhere { (loose : Loose (K.knots knots.old) (option_map P.Inx.number root.old)
+    ensures elsewhere { (loose : Loose (K.nodes nodes.old) (option_map P.Inx.number root.old)
         (P.Inx.number gone))
-        → KeptOff (walk (plug loose.context loose.sub)) (K.knots knots.old) (K.knots knots.new) }
-    ensures keeps { K.rest knots.new ≡ K.rest knots.old }
+        → KeptOff (walk (plug loose.context loose.sub)) (K.nodes nodes.old) (K.nodes nodes.new) }
+    ensures keeps { K.rest nodes.new ≡ K.rest nodes.old }
 {
-    let (pending, child) = detach(knots, root, gone);
-    repair_removed(knots, root, pending, child);
+    let (pending, child) = detach(nodes, root, gone);
+    repair_removed(nodes, root, pending, child);
 }

@@ -7,12 +7,12 @@ ghost use Rattle.rank_tree.specs.Store.{other_side};
 pub enum Side {
     /// Before the node in the order.
     Left,
-    /// After it.
+    /// After the node in the order.
     Right,
 }
 
 impl Side {
-    /// The other one.
+    /// The other side.
     pub fn other(self) -> Side
         ensures { result ≡ other_side self }
     {

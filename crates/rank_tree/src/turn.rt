@@ -2,100 +2,100 @@
 ghost use Rattle.std.specs.Prelude.{◌≡◌, ℕ, Option, ⊤};
 ghost use Rattle.std.specs.Option.{option_map};
 ghost use Rattle.rank_tree.specs.Tree.{walk};
-ghost use Rattle.rank_tree.specs.Shape.{Stands};
+ghost use Rattle.rank_tree.specs.Shape.{RepresentsTree};
 ghost use Rattle.rank_tree.specs.Repair.{Spot, turned, KeptOff};
 
-use crate::knots::{relink, reparent};
-use crate::{Knots, Side, TreeLinks, side_of};
+use crate::node_store::{relink, reparent};
+use crate::{NodeLinks, NodeStore, Side, side_of};
+use proof_marks::unreached;
 use triple_arena_ptr::PtrCore;
-use unreached::unreached;
 
 /// `low` takes the place of its parent, which becomes its child; both get new ranks.
-pub(crate) fn turn<N, P: PtrCore, K: Knots<N, P>>(
-    knots: &mut K,
+pub(crate) fn turn<N, P: PtrCore, K: NodeStore<N, P>>(
+    nodes: &mut K,
     root: &mut Option<P::Inx>,
     low: P::Inx,
     low_rank: u8,
     high_rank: u8,
 )
-    requires spot { Spot (K.knots knots.old) (option_map P.Inx.number root.old) (P.Inx.number low) }
+    requires spot { Spot (K.nodes nodes.old) (option_map P.Inx.number root.old) (P.Inx.number low) }
     requires no_more { ⊤ }
-    ensures does { (spot : Spot (K.knots knots.old) (option_map P.Inx.number root.old)
+    ensures does { (spot : Spot (K.nodes nodes.old) (option_map P.Inx.number root.old)
         (P.Inx.number low))
-        → Stands (K.knots knots.new) (option_map P.Inx.number root.new)
+        → RepresentsTree (K.nodes nodes.new) (option_map P.Inx.number root.new)
         (turned spot low_rank high_rank) }
-    ensures elsewhere { (spot : Spot (K.knots knots.old) (option_map P.Inx.number root.old)
+    ensures elsewhere { (spot : Spot (K.nodes nodes.old) (option_map P.Inx.number root.old)
         (P.Inx.number low))
-        → KeptOff (walk (turned spot low_rank high_rank)) (K.knots knots.old) (K.knots knots.new) }
-    ensures keeps { K.rest knots.new ≡ K.rest knots.old }
+        → KeptOff (walk (turned spot low_rank high_rank)) (K.nodes nodes.old) (K.nodes nodes.new) }
+    ensures keeps { K.rest nodes.new ≡ K.rest nodes.old }
 {
-    match side_below(knots, low) {
-        Side::Left => turn_on(knots, root, low, Side::Left, low_rank, high_rank),
-        Side::Right => turn_on(knots, root, low, Side::Right, low_rank, high_rank),
+    match side_below(nodes, low) {
+        Side::Left => turn_on(nodes, root, low, Side::Left, low_rank, high_rank),
+        Side::Right => turn_on(nodes, root, low, Side::Right, low_rank, high_rank),
     }
 }
 
 // The side of its parent on which a node stands.
-fn side_below<N, P: PtrCore, K: Knots<N, P>>(knots: &K, low: P::Inx) -> Side
-    requires spot { (root : Option ℕ) × Spot (K.knots knots.now) root (P.Inx.number low) }
+fn side_below<N, P: PtrCore, K: NodeStore<N, P>>(nodes: &K, low: P::Inx) -> Side
+    requires spot { (root : Option ℕ) × Spot (K.nodes nodes.now) root (P.Inx.number low) }
     requires no_more { ⊤ }
-    ensures { (root : Option ℕ) (spot : Spot (K.knots knots.now) root (P.Inx.number low))
+    ensures { (root : Option ℕ) (spot : Spot (K.nodes nodes.now) root (P.Inx.number low))
         → result ≡ spot.side }
 {
-    let below = knots.read(low);
+    let below = nodes.read(low);
     let Some(high) = below.parent else {
         unreached!()
     };
-    let above = knots.read(high);
+    let above = nodes.read(high);
     side_of(above, low)
 }
 
 // The same turn of a node on this side of its parent. It is inlined, since the side is known at
 // each call.
 #[inline(always)]
-fn turn_on<N, P: PtrCore, K: Knots<N, P>>(
-    knots: &mut K,
+fn turn_on<N, P: PtrCore, K: NodeStore<N, P>>(
+    nodes: &mut K,
     root: &mut Option<P::Inx>,
     low: P::Inx,
     side: Side,
     low_rank: u8,
     high_rank: u8,
 )
-    requires spot { Spot (K.knots knots.old) (option_map P.Inx.number root.old) (P.Inx.number low) }
-    requires side { (spot : Spot (K.knots knots.old) (option_map P.Inx.number root.old)
+    requires spot { Spot (K.nodes nodes.old) (option_map P.Inx.number root.old) (P.Inx.number low) }
+    requires side { (spot : Spot (K.nodes nodes.old) (option_map P.Inx.number root.old)
         (P.Inx.number low)) → side ≡ spot.side }
-    ensures does { (spot : Spot (K.knots knots.old) (option_map P.Inx.number root.old)
-        (P.Inx.number low)) → Stands (K.knots knots.new) (option_map P.Inx.number root.new)
+    ensures does { (spot : Spot (K.nodes nodes.old) (option_map P.Inx.number root.old)
+        (P.Inx.number low)) → RepresentsTree (K.nodes nodes.new) (option_map P.Inx.number root.new)
         (turned spot low_rank high_rank) }
-    ensures elsewhere { (spot : Spot (K.knots knots.old) (option_map P.Inx.number root.old)
-        (P.Inx.number low)) → KeptOff (walk (turned spot low_rank high_rank)) (K.knots knots.old)
-        (K.knots knots.new) }
-    ensures keeps { K.rest knots.new ≡ K.rest knots.old }
+    ensures elsewhere { (spot : Spot (K.nodes nodes.old) (option_map P.Inx.number root.old)
+        (P.Inx.number low)) → KeptOff (walk (turned spot low_rank high_rank)) (K.nodes nodes.old)
+        (K.nodes nodes.new) }
+    ensures keeps { K.rest nodes.new ≡ K.rest nodes.old }
 {
-    let below = knots.read(low);
+    let below = nodes.read(low);
     let Some(high) = below.parent else {
         unreached!()
     };
-    let above = knots.read(high);
+    let above = nodes.read(high);
     let middle = below.child(side.other());
     let lowered = above.with_child(side, middle);
-    knots.write(
+    nodes.write(
         high,
-        &TreeLinks {
+        &NodeLinks {
             parent: Some(low),
             rank: high_rank,
             ..lowered
         },
     );
-    reparent(knots, middle, Some(high));
+    reparent(nodes, middle, Some(high));
     let raised = below.with_child(side.other(), Some(high));
-    knots.write(
+    nodes.write(
         low,
-        &TreeLinks {
+        &NodeLinks {
             parent: above.parent,
             rank: low_rank,
             ..raised
         },
     );
-    relink(knots, root, above.parent, high, Some(low));
+    relink(nodes, root, above.parent, high, Some(low));
 }

@@ -83,17 +83,17 @@ length_map f [] = refl
 length_map f (x ∷ xs) = ap suc (length_map f xs)
 
 -- the places in order
-module _ {I : Type 0} (number : I → ℕ) (last : Option ℕ) (places places' : Ordered I Place)
-    (laid : IsLaidInOrder number last true places places')
-    (stand : (i : ℕ) → IsSome (entry_in places i) → On (order_in number places) i)
-    (stand' : (i : ℕ) → IsSome (entry_in places' i) → On (order_in number places') i) where
+module _ (last : Option ℕ) (places places' : Ordered Place)
+    (laid : IsLaidInOrder last true places places')
+    (stand : (i : ℕ) → IsSome (entry_in places i) → On (order_in places) i)
+    (stand' : (i : ℕ) → IsSome (entry_in places' i) → On (order_in places') i) where
   pub places_moved : IsMoved laid.to (second_generation last) (entry_in places) (entry_in places')
   places_moved = record {
     into = λ i h p is. laid.entries i (stand i (ap is_some is))
         ∙ ap (option_map (λ (e : ℕ × Place). (let z : ℕ × Place = (second_generation last, e.1) in
         z))) is;
     onto = λ k h p is.
-        let w = on_mapped laid.to (order_in number places) k
+        let w = on_mapped laid.to (order_in places) k
         (subst (λ l. On l k) laid.order (stand' k (ap is_some is))) in
         let there : option_map
         (λ (e : ℕ × Place). (let z : ℕ × Place = (second_generation last, e.1) in z))
@@ -113,17 +113,17 @@ module _ {I : Type 0} (number : I → ℕ) (last : Option ℕ) (places places' :
         );
   }
 
-  along_same : entries_along (entry_in places') (order_in number places')
+  along_same : entries_along (entry_in places') (order_in places')
       ≡ map (shift laid.to (second_generation last) (entry_in places) (entry_in places'))
-      (entries_along (entry_in places) (order_in number places))
+      (entries_along (entry_in places) (order_in places))
   along_same =
       ap (entries_along (entry_in places')) laid.order
       ∙ along_moved laid.to (second_generation last) (entry_in places) (entry_in places')
-      (order_in number places) laid.entries
+      (order_in places) laid.entries
 
-  pub order_same : in_order number places' ≡ in_order number places
+  pub order_same : in_order places' ≡ in_order places
   order_same = ap (map (λ x. x.1.1)) along_same
-      ∙ by (entries_along (entry_in places) (order_in number places))
+      ∙ by (entries_along (entry_in places) (order_in places))
     where
       by : (l : List (ℕ × (ℕ × Place)))
           → map (λ (x : ℕ × (ℕ × Place)). x.1.1)
@@ -134,15 +134,15 @@ module _ {I : Type 0} (number : I → ℕ) (last : Option ℕ) (places places' :
       by (x ∷ l) = ap (λ t. x.1.1 ∷ t) (by l)
 
 -- the stops in runs
-module _ {I T : Type 0} (number : I → ℕ) where
-  pub stops_moved : (last : Option ℕ) (old new : Content (IndexLink I T))
-      (c : IsCanonical number last true old new)
+module _ {T : Type 0} where
+  pub stops_moved : (last : Option ℕ) (old new : Content (IndexLink T))
+      (c : IsCanonical last true old new)
       → IsMoved c.to (second_generation last) (values_in old) (values_in new)
   stops_moved last old new c = record {
-    into = λ i h t is. c.values i (live_ends number old i (ap is_some is))
+    into = λ i h t is. c.values i (live_ends old i (ap is_some is))
         ∙ ap (option_map (λ (e : ℕ × T). (let z : ℕ × T = (second_generation last, e.1) in z))) is;
     onto = λ k h t is.
-        let w = c.renamed.onto k (live_ends number new k (ap is_some is)) in
+        let w = c.renamed.onto k (live_ends new k (ap is_some is)) in
         let there : option_map (λ (e : ℕ × T). (let z : ℕ × T = (second_generation last, e.1) in z))
         (values_in old w.0) ≡ Some (h, t) =
         sym (c.values w.0 w.1) ∙ ap (values_in new) w.2 ∙ is in
@@ -175,14 +175,14 @@ module _ (last : Option ℕ) (old new : Content MarkView)
       (live_entries-increase old) (live_entries-increase new) values compressed.generations
 
 -- all that ties a store's parts
-module _ {I : Type 0} (number : I → ℕ) (last : Option ℕ) (rooms : Rooms) (given : ℕ) (s : State)
-    (places places' : Ordered I Place)
-    (stops stops1 stops' : Content (IndexLink I StopView)) (marks marks1 marks' : Content MarkView)
-    (book : List Entry) (b : IsBook number rooms given s places stops marks book)
-    (laid : IsLaidInOrder number last true places places')
-    (stand : (i : ℕ) → IsSome (entry_in places i) → On (order_in number places) i)
-    (stand' : (i : ℕ) → IsSome (entry_in places' i) → On (order_in number places') i)
-    (chained : IsChained number stops) (canon : IsCanonical number last true stops stops1)
+module _ (last : Option ℕ) (rooms : Rooms) (given : ℕ) (s : State)
+    (places places' : Ordered Place)
+    (stops stops1 stops' : Content (IndexLink StopView)) (marks marks1 marks' : Content MarkView)
+    (book : List Entry) (b : IsBook rooms given s places stops marks book)
+    (laid : IsLaidInOrder last true places places')
+    (stand : (i : ℕ) → IsSome (entry_in places i) → On (order_in places) i)
+    (stand' : (i : ℕ) → IsSome (entry_in places' i) → On (order_in places') i)
+    (chained : IsChained stops) (canon : IsCanonical last true stops stops1)
     (values : map value_of (live_entries marks1) ≡ map value_of (live_entries marks))
     (compressed : IsCompressed entry_at live_count some_counter (λ (c : Content MarkView). c.room)
     last live_entries true marks marks1) where
@@ -190,10 +190,10 @@ module _ {I : Type 0} (number : I → ℕ) (last : Option ℕ) (rooms : Rooms) (
   g = second_generation last
 
   moved_p : IsMoved laid.to g (entry_in places) (entry_in places')
-  moved_p = places_moved number last places places' laid stand stand'
+  moved_p = places_moved last places places' laid stand stand'
 
   moved_s : IsMoved canon.to g (values_in stops) (values_in stops1)
-  moved_s = stops_moved number last stops stops1 canon
+  moved_s = stops_moved last stops stops1 canon
 
   abbrev to_m : ℕ → ℕ
   to_m = marks_to last marks marks1 values compressed
@@ -228,7 +228,7 @@ module _ {I : Type 0} (number : I → ℕ) (last : Option ℕ) (rooms : Rooms) (
       ≡ option_map (λ e. (e.0, recast_stop m e.1)) (values_in stops1 k))
       (recast_m : (k : ℕ) → entry_at marks' k
       ≡ option_map (λ e. (e.0, recast_mark m n e.1)) (entry_at marks1 k))
-      (ends : (k : ℕ) → ends_in number stops' k ≡ ends_in number stops1 k)
+      (ends : (k : ℕ) → ends_in stops' k ≡ ends_in stops1 k)
       (stops_counter : stops'.counter ≡ stops1.counter)
       (stops_live : live_count stops' ≡ live_count stops1)
       (stops_room : stops'.room ≡ stops1.room)
@@ -248,36 +248,36 @@ module _ {I : Type 0} (number : I → ℕ) (last : Option ℕ) (rooms : Rooms) (
 
       -- what follows a link follows it under the new indexes
       next_kept : (i : ℕ) → IsSome (values_in stops i)
-          → next_at (ends_in number stops') (canon.to i)
-          ≡ option_map canon.to (next_at (ends_in number stops) i)
+          → next_at (ends_in stops') (canon.to i)
+          ≡ option_map canon.to (next_at (ends_in stops) i)
       next_kept i some = ap next_in
-          (ends (canon.to i) ∙ canon.renamed.ends i (live_ends number stops i some))
-          ∙ by (ends_in number stops i)
+          (ends (canon.to i) ∙ canon.renamed.ends i (live_ends stops i some))
+          ∙ by (ends_in stops i)
         where
           by : (o : Option Ends)
               → next_in (option_map (ends_renamed canon.to) o) ≡ option_map canon.to (next_in o)
           by None = refl
           by (Some e) = refl
 
-      live_kept : (i k : ℕ) → IsSome (values_in stops i) → next_at (ends_in number stops) i ≡ Some k
+      live_kept : (i k : ℕ) → IsSome (values_in stops i) → next_at (ends_in stops) i ≡ Some k
           → IsSome (values_in stops k)
       live_kept i k some is =
-          live_values number stops k
-          (live_prev_in (ends_in number stops k) i (chained.agreed.forward i k is))
+          live_values stops k
+          (live_prev_in (ends_in stops k) i (chained.agreed.forward i k is))
 
       abbrev f : Found
       f = found_in places stops marks
 
       abbrev now : Found
-      now = packed_found s f (in_order number places) (ends_in number stops) (ends_in number stops')
+      now = packed_found s f (in_order places) (ends_in stops) (ends_in stops')
           book b.held laid.to canon.to to_m g g g (entry_in places') (values_in stops1)
           (entry_at marks1)
           m n o moved_p moved_s moved_m mirror_p mirror_s mirror_m (values_in stops')
           (entry_at marks') recast_s recast_m
 
-      held_now : IsHeld s now (in_order number places) (ends_in number stops')
+      held_now : IsHeld s now (in_order places) (ends_in stops')
           (map (renewed_entry m n o) book)
-      held_now = packed s f (in_order number places) (ends_in number stops) (ends_in number stops')
+      held_now = packed s f (in_order places) (ends_in stops) (ends_in stops')
           book b.held laid.to canon.to to_m g g g (entry_in places') (values_in stops1)
           (entry_at marks1)
           m n o moved_p moved_s moved_m mirror_p mirror_s mirror_m (values_in stops')
@@ -289,12 +289,12 @@ module _ {I : Type 0} (number : I → ℕ) (last : Option ℕ) (rooms : Rooms) (
       pub counter_s : stops'.counter ≡ g
       counter_s = stops_counter ∙ canon.counter
 
-      held : IsHeld s (found_in places' stops' marks') (in_order number places')
-          (ends_in number stops') (map (renewed_entry m n o) book)
+      held : IsHeld s (found_in places' stops' marks') (in_order places')
+          (ends_in stops') (map (renewed_entry m n o) book)
       held =
-          subst (λ w. IsHeld s (found_in places' stops' marks') w (ends_in number stops')
+          subst (λ w. IsHeld s (found_in places' stops' marks') w (ends_in stops')
           (map (renewed_entry m n o) book))
-          (sym (order_same number last places places' laid stand stand'))
+          (sym (order_same last places places' laid stand stand'))
           (subst (λ c. IsHeld s
           (record {
             places = entry_in places';
@@ -303,7 +303,7 @@ module _ {I : Type 0} (number : I → ℕ) (last : Option ℕ) (rooms : Rooms) (
             place_counter = c;
             stop_counter = stops'.counter;
           })
-          (in_order number places) (ends_in number stops') (map (renewed_entry m n o) book))
+          (in_order places) (ends_in stops') (map (renewed_entry m n o) book))
           (sym counter_p)
           (subst (λ c. IsHeld s
           (record {
@@ -313,10 +313,10 @@ module _ {I : Type 0} (number : I → ℕ) (last : Option ℕ) (rooms : Rooms) (
             place_counter = g;
             stop_counter = c;
           })
-          (in_order number places) (ends_in number stops') (map (renewed_entry m n o) book))
+          (in_order places) (ends_in stops') (map (renewed_entry m n o) book))
           (sym counter_s) held_now))
 
-      pub pack_kept : IsBook number rooms given s places' stops' marks'
+      pub pack_kept : IsBook rooms given s places' stops' marks'
           (map (renewed_entry m n o) book)
       pack_kept = record {
         held = held;
@@ -350,8 +350,8 @@ module _ {I : Type 0} (number : I → ℕ) (last : Option ℕ) (rooms : Rooms) (
       -- no stored reference is dead
       pub no_dead_stop : (k h : ℕ) (v : StopView) → values_in stops' k ≡ Some (h, v)
           → IsLive (entry_in places') v.place
-      no_dead_stop = stop_live s f (in_order number places) (ends_in number stops)
-          (ends_in number stops') book b.held laid.to canon.to to_m g g g (entry_in places')
+      no_dead_stop = stop_live s f (in_order places) (ends_in stops)
+          (ends_in stops') book b.held laid.to canon.to to_m g g g (entry_in places')
           (values_in stops1) (entry_at marks1)
           m n o moved_p moved_s moved_m mirror_p mirror_s mirror_m (values_in stops')
           (entry_at marks') recast_s recast_m next_kept live_kept
@@ -359,12 +359,12 @@ module _ {I : Type 0} (number : I → ℕ) (last : Option ℕ) (rooms : Rooms) (
       pub no_dead_mark : (k h : ℕ) (v : MarkView) → entry_at marks' k ≡ Some (h, v)
           → IsLive (entry_in places') v.place × IsLive (values_in stops') v.stop
       no_dead_mark k h v is = (
-        mark_live s f (in_order number places) (ends_in number stops) (ends_in number stops') book
+        mark_live s f (in_order places) (ends_in stops) (ends_in stops') book
             b.held laid.to canon.to to_m g g g (entry_in places') (values_in stops1)
             (entry_at marks1)
             m n o moved_p moved_s moved_m mirror_p mirror_s mirror_m (values_in stops')
             (entry_at marks') recast_s recast_m next_kept live_kept k h v is,
-        mark_stop_live s f (in_order number places) (ends_in number stops) (ends_in number stops')
+        mark_stop_live s f (in_order places) (ends_in stops) (ends_in stops')
             book b.held laid.to canon.to to_m g g g (entry_in places') (values_in stops1)
             (entry_at marks1)
             m n o moved_p moved_s moved_m mirror_p mirror_s mirror_m (values_in stops')

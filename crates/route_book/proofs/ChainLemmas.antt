@@ -6,7 +6,7 @@ use Rattle.std.specs.List.{AllByRecursion}
 use Rattle.std.specs.Option.{option_map, option_to_list}
 use Rattle.std.proofs.lemmas.Bool.{eq-eqb}
 use Rattle.triple_arena_chain.specs.Chains.{Ends, IsAgreed, next_in, prev_in, next_at, prev_at}
-use Rattle.triple_arena_chain.specs.Chains.{first_or, last_or, Stands, Off, Apart, IsLinear, IsRing}
+use Rattle.triple_arena_chain.specs.Chains.{first_or, last_or, IsSegment, Off, Apart, IsLinear, IsRing}
 use Rattle.triple_arena_chain.specs.ListLaws.{live_next_in, live_prev_in}
 use Rattle.triple_arena_chain.specs.Lists.{Linear, Cyclic, IsChainOf}
 use Rattle.route_lines.specs.Cuts.{first_item}
@@ -42,7 +42,8 @@ first_some [] after j e = absurd (let never : ◌≡◌ {A = Option ℕ} None (S
 first_some (x ∷ xs) after j e = e
 
 -- the last index of a list leads to what follows the list
-last_leads : (ends : ℕ → Option Ends) (b a : Option ℕ) (xs : List ℕ) → Stands ends b xs a → (l : ℕ)
+last_leads : (ends : ℕ → Option Ends) (b a : Option ℕ) (xs : List ℕ) → IsSegment ends b xs a
+    → (l : ℕ)
     → last_or None xs ≡ Some l → next_at ends l ≡ a
 last_leads ends b a [] h l e = absurd (let never : ◌≡◌ {A = Option ℕ} None (Some l) = e in cc)
 last_leads ends b a (x ∷ []) h l e = let same : x ≡ l = cc in ap (next_at ends) (sym same)
@@ -122,7 +123,7 @@ module _ (at : ℕ → Option Stop) (ends : ℕ → Option Ends) (next previous 
   stand : (before after : Option ℕ) (ts : List Stop) (h : AllByRecursion Known ts)
       → IfSome after (λ j. IsSome (at j)) → Leads next (ticket_by at after) ts
       → ((i : ℕ) → first_or (chain_of ts h) None ≡ Some i → prev_at ends i ≡ before)
-      → Stands ends before (chain_of ts h) after
+      → IsSegment ends before (chain_of ts h) after
   unfolding chain_of
   stand before after [] h there leads first = tt
   stand before after (t ∷ ts) h there leads first = (
@@ -205,8 +206,9 @@ module _ (at : ℕ → Option Stop) (ends : ℕ → Option Ends) (next previous 
       closing : Leads next (ticket_by at (first_or chain None)) ts
       closing = subst (λ c. Leads next c ts) (heads None ts h) leads
 
-      by : (xs : List ℕ) → chain ≡ xs → Stands ends (last_or None chain) chain (first_or chain None)
-      by [] is = subst (λ ys. Stands ends (last_or None ys) ys (first_or ys None)) (sym is) tt
+      by : (xs : List ℕ) → chain ≡ xs
+          → IsSegment ends (last_or None chain) chain (first_or chain None)
+      by [] is = subst (λ ys. IsSegment ends (last_or None ys) ys (first_or ys None)) (sym is) tt
       by (x ∷ xs) is =
           let first : first_or chain None ≡ Some x = ap (λ ys. first_or ys None) is in
           let stood = stand (prev_at ends x) (first_or chain None) ts h (first_live None ts h tt)
@@ -218,7 +220,7 @@ module _ (at : ℕ → Option Stop) (ends : ℕ → Option Ends) (next previous 
           let leads_on : next_at ends last.0 ≡ Some x =
           last_leads ends (prev_at ends x) (first_or chain None) chain stood last.0 ending
           ∙ first in
-          subst (λ b. Stands ends b chain (first_or chain None))
+          subst (λ b. IsSegment ends b chain (first_or chain None))
           (agreed.forward last.0 x leads_on ∙ sym ending) stood
 
   pub routes_are_chains : (rs : List Route)

@@ -148,10 +148,10 @@ pub record IsMarkGone (s s' : State) (t : ℕ) : Type 0 where
   pub marks : (u : ℕ) → mark_of s'.marks u ≡ (if u == t then None else mark_of s.marks u)
   pub mark_count : length s'.marks + 1 ≡ length s.marks
 
-module _ {I : Type 0} (number : I → ℕ) (rooms : Rooms) (last : ℕ) (s : State)
-    (places : Ordered I Place) (stops : Content (IndexLink I StopView))
+module _ (rooms : Rooms) (last : ℕ) (s : State)
+    (places : Ordered Place) (stops : Content (IndexLink StopView))
     (marks marks' : Content MarkView)
-    (book : List Entry) (b : IsBook number rooms last s places stops marks book)
+    (book : List Entry) (b : IsBook rooms last s places stops marks book)
     (i g : ℕ) (v : MarkView) (found : value_if g (entry_at marks i) ≡ Some v)
     (final : Option ℕ) (removed : IsRemoved entry_at live_count some_counter
     (λ (c : Content MarkView). c.room) final i marks marks') where
@@ -160,7 +160,7 @@ module _ {I : Type 0} (number : I → ℕ) (rooms : Rooms) (last : ℕ) (s : Sta
       ∙ ap (λ w. Some (g, w)) (some_same (sym st.1.0 ∙ found))
 
   own : (j k : ℕ) (w : MarkView) → entry_at marks j ≡ Some (k, w) → w.ticket ≡ v.ticket → j ≡ i
-  own = own_mark s s (found_in places stops marks) (in_order number places) (ends_in number stops)
+  own = own_mark s s (found_in places stops marks) (in_order places) (ends_in stops)
       book b.held i g v stood (entry_at marks') removed.entries
 
   -- the other marks keep their pointers
@@ -170,14 +170,14 @@ module _ {I : Type 0} (number : I → ℕ) (rooms : Rooms) (last : ℕ) (s : Sta
       stood removed.entries own
 
   module _ (s' : State) (laws : IsMarkGone s s' v.ticket) (sound : IsSound s') where
-    held : IsHeld s' (found_in places stops marks') (in_order number places) (ends_in number stops)
+    held : IsHeld s' (found_in places stops marks') (in_order places) (ends_in stops)
         (without_ticket v.ticket book)
-    held = mark_ended s s' (found_in places stops marks) (in_order number places)
-        (ends_in number stops) book b.held i g v stood (entry_at marks') removed.entries
+    held = mark_ended s s' (found_in places stops marks) (in_order places)
+        (ends_in stops) book b.held i g v stood (entry_at marks') removed.entries
         (ap (λ (x : State). x.last) laws.is) (ap (λ (x : State). x.places) laws.is)
         (ap (λ (x : State). x.routes) laws.is) laws.marks
 
-    pub mark_leaves : IsBook number rooms last s' places stops marks' (without_ticket v.ticket book)
+    pub mark_leaves : IsBook rooms last s' places stops marks' (without_ticket v.ticket book)
     mark_leaves = record {
       held = held;
       places_rise = sound.order;

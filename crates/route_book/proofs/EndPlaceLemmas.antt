@@ -224,15 +224,15 @@ pub record IsPlaceGone (s s' : State) (t : ℕ) : Type 0 where
   pub stop_count : length (stop_list s'.routes) ≡ length (stop_list s.routes)
   pub mark_count : length s'.marks ≡ length s.marks
 
-module _ {I : Type 0} (number : I → ℕ) (rooms : Rooms) (last : ℕ) (s : State)
-    (places places' : Ordered I Place) (stops : Content (IndexLink I StopView))
+module _ (rooms : Rooms) (last : ℕ) (s : State)
+    (places places' : Ordered Place) (stops : Content (IndexLink StopView))
     (marks : Content MarkView)
-    (book : List Entry) (b : IsBook number rooms last s places stops marks book)
+    (book : List Entry) (b : IsBook rooms last s places stops marks book)
     (i g : ℕ) (p : Place) (found : value_if g (entry_in places i) ≡ Some p)
-    (ordered : IsOrdered number places)
+    (ordered : IsOrdered places)
     (final : Option ℕ) (top : ℕ) (counts : final ≡ Some top)
     (calm : next_wraps final places.chains.counter ≡ false)
-    (removed : IsEntryRemoved number final i places places') where
+    (removed : IsEntryRemoved final i places places') where
   stood : entry_in places i ≡ Some (g, p)
   stood = let st = stands_under (entry_in places) i g (ap is_some found) in st.1.1
       ∙ ap (λ q. Some (g, q)) (some_same (sym st.1.0 ∙ found))
@@ -241,18 +241,18 @@ module _ {I : Type 0} (number : I → ℕ) (rooms : Rooms) (last : ℕ) (s : Sta
   place_steps = removed.counter ∙ one_up final places.chains.counter top counts calm
 
   own : (j k : ℕ) (q : Place) → entry_in places j ≡ Some (k, q) → q.ticket ≡ p.ticket → j ≡ i
-  own = own_place s s (found_in places stops marks) (in_order number places)
-      (in_order number places) (ends_in number stops) book b.held i g p stood (entry_in places')
+  own = own_place s s (found_in places stops marks) (in_order places)
+      (in_order places) (ends_in stops) book b.held i g p stood (entry_in places')
       removed.entries
       places'.chains.counter place_steps
 
   apart : Off removed.order.before i × Off removed.order.after i
   apart = Apart-split removed.order.before removed.order.after i
       (subst Apart removed.order.was
-      (linear_apart (ends_in number places.chains) None (order_in number places) ordered.linear))
+      (linear_apart (ends_in places.chains) None (order_in places) ordered.linear))
 
-  order_is : in_order number places'
-      ≡ filter (λ (q : Place). not (q.ticket == p.ticket)) (in_order number places)
+  order_is : in_order places'
+      ≡ filter (λ (q : Place). not (q.ticket == p.ticket)) (in_order places)
   order_is =
       ap (along (entry_in places')) removed.order.is
       ∙ along_left (entry_in places) (entry_in places') i g p stood removed.entries own
@@ -267,17 +267,17 @@ module _ {I : Type 0} (number : I → ℕ) (rooms : Rooms) (last : ℕ) (s : Sta
       stood removed.entries own
 
   module _ (s' : State) (laws : IsPlaceGone s s' p.ticket) (sound : IsSound s') where
-    held : IsHeld s' (found_in places' stops marks) (in_order number places') (ends_in number stops)
+    held : IsHeld s' (found_in places' stops marks) (in_order places') (ends_in stops)
         (without_ticket p.ticket book)
-    held = place_ended s s' (found_in places stops marks) (in_order number places)
-        (in_order number places') (ends_in number stops) book b.held
+    held = place_ended s s' (found_in places stops marks) (in_order places)
+        (in_order places') (ends_in stops) book b.held
         i g p stood (entry_in places') removed.entries places'.chains.counter place_steps
         (ap (λ (x : State). x.last) laws.is)
         (order_is ∙ ap (filter (λ (q : Place). not (q.ticket == p.ticket))) (sym b.held.in_order)
         ∙ sym (ap (λ (x : State). x.places) laws.is))
         laws.places laws.stops laws.marks laws.next
 
-    pub place_leaves : IsBook number rooms last s' places' stops marks
+    pub place_leaves : IsBook rooms last s' places' stops marks
         (without_ticket p.ticket book)
     place_leaves = record {
       held = held;

@@ -312,15 +312,15 @@ pub record IsStopGone (s s' : State) (t : ℕ) : Type 0 where
   pub stop_count : length (stop_list s'.routes) + 1 ≡ length (stop_list s.routes)
   pub mark_count : length s'.marks ≡ length s.marks
 
-module _ {I : Type 0} (number : I → ℕ) (rooms : Rooms) (last : ℕ) (s : State)
-    (places : Ordered I Place) (stops stops' : Content (IndexLink I StopView))
+module _ (rooms : Rooms) (last : ℕ) (s : State)
+    (places : Ordered Place) (stops stops' : Content (IndexLink StopView))
     (marks : Content MarkView)
-    (book : List Entry) (b : IsBook number rooms last s places stops marks book)
+    (book : List Entry) (b : IsBook rooms last s places stops marks book)
     (i g : ℕ) (v : StopView) (found : value_if g (values_in stops i) ≡ Some v)
-    (chained : IsChained number stops)
+    (chained : IsChained stops)
     (final : Option ℕ) (top : ℕ) (counts : final ≡ Some top)
     (calm : next_wraps final stops.counter ≡ false)
-    (taken : IsTakenOut number final i stops stops') where
+    (taken : IsTakenOut final i stops stops') where
   stood : values_in stops i ≡ Some (g, v)
   stood = let st = stands_under (values_in stops) i g (ap is_some found) in st.1.1
       ∙ ap (λ w. Some (g, w)) (some_same (sym st.1.0 ∙ found))
@@ -329,8 +329,8 @@ module _ {I : Type 0} (number : I → ℕ) (rooms : Rooms) (last : ℕ) (s : Sta
   stop_steps = taken.counter ∙ one_up final stops.counter top counts calm
 
   own : (j k : ℕ) (w : StopView) → values_in stops j ≡ Some (k, w) → w.ticket ≡ v.ticket → j ≡ i
-  own = own_stop s s (found_in places stops marks) (in_order number places) (ends_in number stops)
-      (ends_in number stops') book b.held i g v stood (values_in stops') taken.values
+  own = own_stop s s (found_in places stops marks) (in_order places) (ends_in stops)
+      (ends_in stops') book b.held i g v stood (values_in stops') taken.values
       stops'.counter stop_steps
 
   -- the other stops keep their pointers
@@ -340,16 +340,16 @@ module _ {I : Type 0} (number : I → ℕ) (rooms : Rooms) (last : ℕ) (s : Sta
       stood taken.values own
 
   module _ (s' : State) (laws : IsStopGone s s' v.ticket) (sound : IsSound s') where
-    held : IsHeld s' (found_in places stops' marks) (in_order number places) (ends_in number stops')
+    held : IsHeld s' (found_in places stops' marks) (in_order places) (ends_in stops')
         (without_ticket v.ticket book)
-    held = stop_ended s s' (found_in places stops marks) (in_order number places)
-        (ends_in number stops) (ends_in number stops') book b.held
+    held = stop_ended s s' (found_in places stops marks) (in_order places)
+        (ends_in stops) (ends_in stops') book b.held
         i g v stood (values_in stops') taken.values stops'.counter stop_steps chained.agreed
-        (live_ends number stops) taken.ends laws.next
+        (live_ends stops) taken.ends laws.next
         (ap (λ (x : State). x.last) laws.is) (ap (λ (x : State). x.places) laws.is) laws.stops
         laws.marks
 
-    pub stop_leaves : IsBook number rooms last s' places stops' marks (without_ticket v.ticket book)
+    pub stop_leaves : IsBook rooms last s' places stops' marks (without_ticket v.ticket book)
     stop_leaves = record {
       held = held;
       places_rise = sound.order;

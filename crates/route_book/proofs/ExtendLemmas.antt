@@ -37,18 +37,6 @@ use Rattle.route_book.proofs.OptionLemmas.{found_has}
 -- ---- what it answers
 
 module _ (s : State) (t at : ℕ) where
-  pub extended_no_stop : (e : Refusal) → stop_holder s t ≡ Err e
-      → (extended s t at ≡ Err e) × (after_extend s t at ≡ s)
-  extended_no_stop e refused = (rw refused refl, rw refused refl)
-
-  pub extended_no_place : (x : Stop) (e : Refusal) → stop_holder s t ≡ Ok x
-      → place_holder s at ≡ Err e → (extended s t at ≡ Err e) × (after_extend s t at ≡ s)
-  extended_no_place x e held refused = (rw (held, refused) refl, rw (held, refused) refl)
-
-  pub extended_full : (x : Stop) (p : Place) → stop_holder s t ≡ Ok x → place_holder s at ≡ Ok p
-      → is_full_of_stops s ≡ true → (extended s t at ≡ Err Full) × (after_extend s t at ≡ s)
-  extended_full x p stop place full = (rw (stop, place, full) refl, rw (stop, place, full) refl)
-
   pub extended_new : (x : Stop) (p : Place) → stop_holder s t ≡ Ok x → place_holder s at ≡ Ok p
       → is_full_of_stops s ≡ false
       → (extended s t at ≡ Ok (s.last + 1))
@@ -62,15 +50,15 @@ module _ (s : State) (t at : ℕ) where
 -- ---- where there is room
 
 -- a stop directly behind one that a pointer finds
-behind_is : {I T : Type 0} (number : I → ℕ) (c : Content (IndexLink I T)) (i g : ℕ) (v : T)
-    → IsAt number c i g v
-    → after_link i (ends_found number c i g)
-    ≡ Some (Between (Some i) (next_at (ends_in number c) i))
-behind_is number c i g v at = by (ends_in number c i) refl at.live
+behind_is : {T : Type 0} (c : Content (IndexLink T)) (i g : ℕ) (v : T)
+    → IsAt c i g v
+    → after_link i (ends_found c i g)
+    ≡ Some (Between (Some i) (next_at (ends_in c) i))
+behind_is c i g v at = by (ends_in c i) refl at.live
   where
-    by : (o : Option Ends) → ends_in number c i ≡ o → IsSome o
-        → after_link i (ends_found number c i g)
-        ≡ Some (Between (Some i) (next_at (ends_in number c) i))
+    by : (o : Option Ends) → ends_in c i ≡ o → IsSome o
+        → after_link i (ends_found c i g)
+        ≡ Some (Between (Some i) (next_at (ends_in c) i))
     by None none some = absurd (let never : false ≡ true = some in cc)
     by (Some e) is some = ap (after_link i) (at.ends ∙ is)
         ∙ sym (ap (λ o. Some (Between (Some i) (next_of o))) is)
@@ -78,43 +66,33 @@ behind_is number c i g v at = by (ends_in number c i) refl at.live
         next_of : Option Ends → Option ℕ
         next_of o = next_at (λ k. o) i
 
-module _ {I : Type 0} (number : I → ℕ) (rooms : Rooms) (last : ℕ) (s : State)
-    (places : Ordered I Place) (stops : Content (IndexLink I StopView)) (marks : Content MarkView)
-    (book : List Entry) (b : IsBook number rooms last s places stops marks book) (t i g : ℕ)
+module _ (rooms : Rooms) (last : ℕ) (s : State)
+    (places : Ordered Place) (stops : Content (IndexLink StopView)) (marks : Content MarkView)
+    (book : List Entry) (b : IsBook rooms last s places stops marks book) (t i g : ℕ)
     (v : StopView) (found : value_if g (values_in stops i) ≡ Some v)
     (held : stop_holder s t ≡ Ok (state_stop (found_in places stops marks) v)) (pt : ℕ) (p : Place)
     (place : place_holder s pt ≡ Ok p) (free : is_full_of_stops s ≡ false) where
-  own_at : IsAt number stops i g v
-  own_at = is_at number stops i g v found
+  own_at : IsAt stops i g v
+  own_at = is_at stops i g v found
 
-  -- there is room
-  pub extend_fits : IsSome (after_link i (ends_found number stops i g))
-      × (live_count stops < arena_capacity stops)
-  extend_fits = (
-    subst IsSome (sym (behind_is number stops i g v own_at)) refl,
-    (let n = b.within.stop_count in let r = ap (λ (r : Rooms). r.stops) b.within.rooms_are in
-        let less = stops_not_full s free in let room = b.within.stop_room in
-        omega (arith, less, n, r, room)),
-  )
-
-  module _ (agreed : IsAgreed (ends_in number stops)) (pi pg : ℕ)
+  module _ (agreed : IsAgreed (ends_in stops)) (pi pg : ℕ)
       (at_place : value_if pg (entry_in places pi) ≡ Some p) (w : StopView) (n h : ℕ)
       (ticket : w.ticket ≡ last + 1)
       (to : w.place ≡ Some (pi, pg))
-      (stops' : Content (IndexLink I StopView))
-      (placed : IfSome (after_link i (ends_found number stops i g))
-      (λ gap. IsLinkInserted number gap n h w stops stops'))
+      (stops' : Content (IndexLink StopView))
+      (placed : IfSome (after_link i (ends_found stops i g))
+      (λ gap. IsLinkInserted gap n h w stops stops'))
       (same_room : stops'.room ≡ stops.room) where
-    put : IsLinkInserted number (Between (Some i) (next_at (ends_in number stops) i)) n h w
+    put : IsLinkInserted (Between (Some i) (next_at (ends_in stops) i)) n h w
         stops stops'
-    put = subst (λ o. IfSome o (λ (gap : Gap ℕ). IsLinkInserted number gap n h w stops stops'))
-        (behind_is number stops i g v own_at) placed
+    put = subst (λ o. IfSome o (λ (gap : Gap ℕ). IsLinkInserted gap n h w stops stops'))
+        (behind_is stops i g v own_at) placed
 
     vacant : values_in stops n ≡ None
     vacant = ap (option_map valued) put.vacant
 
-    absent : ends_in number stops n ≡ None
-    absent = ap (option_map (entry_ends number)) put.vacant
+    absent : ends_in stops n ≡ None
+    absent = ap (option_map entry_ends) put.vacant
 
     next : w.ticket ≡ s.last + 1
     next = ticket ∙ ap (λ k. k + 1) (sym b.last_is)
@@ -148,10 +126,10 @@ module _ {I : Type 0} (number : I → ℕ) (rooms : Rooms) (last : ℕ) (s : Sta
         → stop_of later k ≡ stop_of s.routes k)
         → (extended s t pt ≡ Ok (s.last + 1)
         → length (stop_list later) ≡ length (stop_list s.routes) + 1)
-        → IsBook number rooms (last + 1) (after_extend s t pt) places stops' marks
+        → IsBook rooms (last + 1) (after_extend s t pt) places stops' marks
         (book ++ entry w.ticket OfStop n h ∷ [])
     extend_kept leads through leads_others own others count =
-        subst (λ z. IsBook number rooms (last + 1) z places stops' marks
+        subst (λ z. IsBook rooms (last + 1) z places stops' marks
         (book ++ entry w.ticket OfStop n h ∷ [])) (sym whole) (record {
           held = subst (λ (c : ℕ). IsHeld now
               (record {
@@ -161,7 +139,7 @@ module _ {I : Type 0} (number : I → ℕ) (rooms : Rooms) (last : ℕ) (s : Sta
                 place_counter = places.chains.counter;
                 stop_counter = c;
               })
-              (in_order number places) (ends_in number stops')
+              (in_order places) (ends_in stops')
               (book ++ entry w.ticket OfStop n h ∷ []))
               (sym put.counter) held_now;
           places_rise = b.places_rise;
@@ -193,16 +171,16 @@ module _ {I : Type 0} (number : I → ℕ) (rooms : Rooms) (last : ℕ) (s : Sta
         whole = let e = (extended_new s t pt _ p held place free).1 in e
             ∙ sym (ap (λ (z : State). record s { last = s.last + 1; routes = z.routes }) e)
 
-        lead : LeadAs (λ (x : StopView). x.ticket) (values_in stops') (ends_in number stops')
+        lead : LeadAs (λ (x : StopView). x.ticket) (values_in stops') (ends_in stops')
             (next_stop later)
         lead =
-            lead_extended (λ (x : StopView). x.ticket) (values_in stops) (ends_in number stops)
-            (ends_in number stops') (next_stop s.routes) (next_stop later) b.held.routes
-            (values_in stops') n h w agreed (live_ends number stops) absent
-            (unknown s (found_in places stops marks) (in_order number places)
-            (ends_in number stops) book b.held w next) put.values
-            (distinct s (found_in places stops marks) (in_order number places)
-            (ends_in number stops) book b.held) i g v own_at.here
+            lead_extended (λ (x : StopView). x.ticket) (values_in stops) (ends_in stops)
+            (ends_in stops') (next_stop s.routes) (next_stop later) b.held.routes
+            (values_in stops') n h w agreed (live_ends stops) absent
+            (unknown s (found_in places stops marks) (in_order places)
+            (ends_in stops) book b.held w next) put.values
+            (distinct s (found_in places stops marks) (in_order places)
+            (ends_in stops) book b.held) i g v own_at.here
             (ap (next_stop later) own_ticket ∙ leads answer ∙ ap Some (sym next))
             (ap (next_stop later) next ∙ through answer
             ∙ ap (next_stop s.routes) (sym own_ticket))
@@ -217,11 +195,11 @@ module _ {I : Type 0} (number : I → ℕ) (rooms : Rooms) (last : ℕ) (s : Sta
               place_counter = places.chains.counter;
               stop_counter = stops.counter;
             })
-            (in_order number places) (ends_in number stops')
+            (in_order places) (ends_in stops')
             (book ++ entry w.ticket OfStop n h ∷ [])
         held_now =
-            stop_added s (found_in places stops marks) (in_order number places)
-            (ends_in number stops) (ends_in number stops') book b.held w n h (values_in stops')
+            stop_added s (found_in places stops marks) (in_order places)
+            (ends_in stops) (ends_in stops') book b.held w n h (values_in stops')
             vacant put.values next
             put.generation live later
             (λ k other. others k answer other)
@@ -229,25 +207,25 @@ module _ {I : Type 0} (number : I → ℕ) (rooms : Rooms) (last : ℕ) (s : Sta
 
     -- each item keeps its pointer
     pub extend_keeps : (s' : State)
-        → KeepsItems {I = I} (record { state = s; places = places; stops = stops; marks = marks })
+        → KeepsItems (record { state = s; places = places; stops = stops; marks = marks })
         (record { state = s'; places = places; stops = stops'; marks = marks })
     extend_keeps s' =
-        kept_stop number s s' places stops stops' marks w n h
+        kept_stop s s' places stops stops' marks w n h
         put.values vacant put.generation put.counter same_room
 
 -- ---- the same of the store that the calls see
 
 -- the next ticket is above those of the book
-pub next_above : {I : Type 0} (number : I → ℕ) (rooms : Rooms) (last : ℕ) (s : State)
-    (places : Ordered I Place) (stops : Content (IndexLink I StopView)) (marks : Content MarkView)
-    (book : List Entry) → IsBook number rooms last s places stops marks book
+pub next_above : (rooms : Rooms) (last : ℕ) (s : State)
+    (places : Ordered Place) (stops : Content (IndexLink StopView)) (marks : Content MarkView)
+    (book : List Entry) → IsBook rooms last s places stops marks book
     → AreBelow book (last + 1)
-next_above number rooms last s places stops marks book b =
+next_above rooms last s places stops marks book b =
     subst (λ n. AreBelow book (n + 1)) b.last_is (below_next book 0 s.last b.held.rise)
 
-module _ {I : Type 0} (number : I → ℕ) (rooms : Rooms) (last : ℕ) (s : State)
-    (places : Ordered I Place) (stops : Content (IndexLink I StopView)) (marks : Content MarkView)
-    (book : List Entry) (b : IsBook number rooms last s places stops marks book) (k : Book I)
+module _ (rooms : Rooms) (last : ℕ) (s : State)
+    (places : Ordered Place) (stops : Content (IndexLink StopView)) (marks : Content MarkView)
+    (book : List Entry) (b : IsBook rooms last s places stops marks book) (k : Book)
     (view : record { state = s; places = places; stops = stops; marks = marks } ≡ k)
     (t i g : ℕ) (from : (v : StopView) × (value_if g (values_in k.stops i) ≡ Some v)
     × (stop_holder k.state t ≡ Ok (state_stop (found_of k) v)))
@@ -255,30 +233,25 @@ module _ {I : Type 0} (number : I → ℕ) (rooms : Rooms) (last : ℕ) (s : Sta
     × (place_holder k.state pt ≡ Ok p)) (free : false ≡ is_full_of_stops k.state) where
   abbrev stop : (v : StopView) × (value_if g (values_in stops i) ≡ Some v)
       × (stop_holder s t ≡ Ok (state_stop (found_in places stops marks) v))
-  stop = subst (λ (x : Book I). (v : StopView) × (value_if g (values_in x.stops i) ≡ Some v)
+  stop = subst (λ (x : Book). (v : StopView) × (value_if g (values_in x.stops i) ≡ Some v)
       × (stop_holder x.state t ≡ Ok (state_stop (found_of x) v))) (sym view) from
 
   abbrev place : (p : Place) × (value_if pg (entry_in places pi) ≡ Some p)
       × (place_holder s pt ≡ Ok p)
-  place = subst (λ (x : Book I). (p : Place) × (value_if pg (entry_in x.places pi) ≡ Some p)
+  place = subst (λ (x : Book). (p : Place) × (value_if pg (entry_in x.places pi) ≡ Some p)
       × (place_holder x.state pt ≡ Ok p)) (sym view) at
 
   abbrev room : is_full_of_stops s ≡ false
-  room = ap (λ (x : Book I). is_full_of_stops x.state) view ∙ sym free
+  room = ap (λ (x : Book). is_full_of_stops x.state) view ∙ sym free
 
-  pub extend_has_room : IsSome (after_link i (ends_found number stops i g))
-      × (live_count stops < arena_capacity stops)
-  extend_has_room = extend_fits number rooms last s places stops marks book b t i g stop.0 stop.1
-      stop.2 pt place.0 place.2 room
-
-  module _ (chained : IsChained number k.stops) (w : StopView) (n h : ℕ)
+  module _ (chained : IsChained k.stops) (w : StopView) (n h : ℕ)
       (ticket : w.ticket ≡ last + 1) (to : w.place ≡ Some (pi, pg))
-      (stops' : Content (IndexLink I StopView))
-      (placed : IfSome (after_link i (ends_found number stops i g))
-      (λ gap. IsLinkInserted number gap n h w stops stops'))
+      (stops' : Content (IndexLink StopView))
+      (placed : IfSome (after_link i (ends_found stops i g))
+      (λ gap. IsLinkInserted gap n h w stops stops'))
       (same_room : stops'.room ≡ stops.room) where
-    abbrev agreed : IsAgreed (ends_in number stops)
-    agreed = (subst (λ (x : Book I). IsChained number x.stops) (sym view) chained).agreed
+    abbrev agreed : IsAgreed (ends_in stops)
+    agreed = (subst (λ (x : Book). IsChained x.stops) (sym view) chained).agreed
 
     pub extend_leaves : (z : State) (book' : List Entry) → z ≡ after_extend s t pt
         → book' ≡ book ++ entry (last + 1) OfStop n h ∷ []
@@ -294,13 +267,13 @@ module _ {I : Type 0} (number : I → ℕ) (rooms : Rooms) (last : ℕ) (s : Sta
         → stop_of (after_extend s t pt).routes x ≡ stop_of s.routes x)
         → ((m : ℕ) → extended s t pt ≡ Ok m
         → length (stop_list (after_extend s t pt).routes) ≡ length (stop_list s.routes) + 1)
-        → IsBook number rooms (last + 1) z places stops' marks book'
+        → IsBook rooms (last + 1) z places stops' marks book'
     extend_leaves z book' is more leads through leads_others own others count =
-        subst (λ l. IsBook number rooms (last + 1) z places stops' marks l)
+        subst (λ l. IsBook rooms (last + 1) z places stops' marks l)
         (ap (λ m. book ++ entry m OfStop n h ∷ []) ticket ∙ sym more)
-        (subst (λ x. IsBook number rooms (last + 1) x places stops' marks
+        (subst (λ x. IsBook rooms (last + 1) x places stops' marks
         (book ++ entry w.ticket OfStop n h ∷ [])) (sym is)
-        (extend_kept number rooms last s places stops marks book b t i g stop.0 stop.1 stop.2 pt
+        (extend_kept rooms last s places stops marks book b t i g stop.0 stop.1 stop.2 pt
         place.0 place.2 room agreed pi pg place.1 w n h ticket to stops' placed same_room
         (leads (s.last + 1)) (through (s.last + 1)) (λ x. leads_others (s.last + 1) x)
         (own (s.last + 1)) (λ x. others (s.last + 1) x) (count (s.last + 1))))
@@ -310,5 +283,5 @@ module _ {I : Type 0} (number : I → ℕ) (rooms : Rooms) (last : ℕ) (s : Sta
     extend_keeps_in s' =
         subst (λ x. KeepsItems x
         (record { state = s'; places = places; stops = stops'; marks = marks })) view
-        (extend_keeps number rooms last s places stops marks book b t i g stop.0 stop.1 stop.2 pt
+        (extend_keeps rooms last s places stops marks book b t i g stop.0 stop.1 stop.2 pt
         place.0 place.2 room agreed pi pg place.1 w n h ticket to stops' placed same_room s')

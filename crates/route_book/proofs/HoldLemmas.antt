@@ -88,9 +88,6 @@ module _ (s : State) (f : Found) (order : List Place) (ends : ℕ → Option End
     known : ((t == 0) || nat_lt s.last t) ≡ false
     known = rw (ne_eqb t 0 positive) (le-ltb s.last t given)
 
-    pub holder_missing : lookup book t ≡ None → holder s t ≡ Err Gone
-    holder_missing none = let l = living_missing none in rw (known, l) refl
-
     pub holder_found : (e : Entry) → lookup book t ≡ Some e
         → (item : Item) × ((holder s t ≡ Ok item)
         × (item_under f e.kind e.index e.generation ≡ Some item))
@@ -132,11 +129,6 @@ module _ (s : State) (f : Found) (order : List Place) (ends : ℕ → Option End
       → stop_of s.routes v.ticket ≡ Some (state_stop f v)
   stop_listed i g v is = h.stops v.ticket ∙ ap (stop_at f) (h.stops_in i g v is)
       ∙ ap (λ o. option_map (state_stop f) (value_if g o)) is ∙ rw (eq-eqb g g refl) refl
-
-  pub mark_listed : (i g : ℕ) (v : MarkView) → f.marks i ≡ Some (g, v)
-      → mark_of s.marks v.ticket ≡ Some (state_mark f v)
-  mark_listed i g v is = h.marks v.ticket ∙ ap (mark_at f) (h.marks_in i g v is)
-      ∙ ap (λ o. option_map (state_mark f) (value_if g o)) is ∙ rw (eq-eqb g g refl) refl
 
 -- the book
 pub lookup_given : (book : List Entry) (low last t : ℕ) (e : Entry) → Rise low book last

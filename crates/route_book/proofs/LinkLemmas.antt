@@ -32,19 +32,19 @@ use Rattle.route_book.proofs.OptionLemmas.{found_has, some_same, none_new}
 
 -- ---- live indexes
 
-module _ {I T : Type 0} (number : I → ℕ) (c : Content (IndexLink I T)) where
-  pub live_ends : (i : ℕ) → IsSome (values_in c i) → IsSome (ends_in number c i)
+module _ {T : Type 0} (c : Content (IndexLink T)) where
+  pub live_ends : (i : ℕ) → IsSome (values_in c i) → IsSome (ends_in c i)
   live_ends i = by (entry_at c i)
     where
-      by : (o : Option (ℕ × IndexLink I T)) → IsSome (option_map valued o)
-          → IsSome (option_map (entry_ends number) o)
+      by : (o : Option (ℕ × IndexLink T)) → IsSome (option_map valued o)
+          → IsSome (option_map entry_ends o)
       by None some = some
       by (Some e) some = refl
 
-  pub live_values : (i : ℕ) → IsSome (ends_in number c i) → IsSome (values_in c i)
+  pub live_values : (i : ℕ) → IsSome (ends_in c i) → IsSome (values_in c i)
   live_values i = by (entry_at c i)
     where
-      by : (o : Option (ℕ × IndexLink I T)) → IsSome (option_map (entry_ends number) o)
+      by : (o : Option (ℕ × IndexLink T)) → IsSome (option_map entry_ends o)
           → IsSome (option_map valued o)
       by None some = some
       by (Some e) some = refl
@@ -52,13 +52,13 @@ module _ {I T : Type 0} (number : I → ℕ) (c : Content (IndexLink I T)) where
   -- what a pointer finds stands at its index
   pub record IsAt (i g : ℕ) (v : T) : Type 0 where
     pub here : values_in c i ≡ Some (g, v)
-    pub ends : ends_found number c i g ≡ ends_in number c i
-    pub live : IsSome (ends_in number c i)
+    pub ends : ends_found c i g ≡ ends_in c i
+    pub live : IsSome (ends_in c i)
 
   pub is_at : (i g : ℕ) (v : T) → value_if g (values_in c i) ≡ Some v → IsAt i g v
   is_at i g v found = by (entry_at c i) refl
     where
-      by : (o : Option (ℕ × IndexLink I T)) → entry_at c i ≡ o → IsAt i g v
+      by : (o : Option (ℕ × IndexLink T)) → entry_at c i ≡ o → IsAt i g v
       by None none = absurd
           (let no : ◌≡◌ {A = Option T} None (Some v) =
           sym (ap (λ o. value_if g (option_map valued o)) none) ∙ found in cc)
@@ -71,9 +71,9 @@ module _ {I T : Type 0} (number : I → ℕ) (c : Content (IndexLink I T)) where
             record {
               here = ap (option_map valued) some ∙ ap (λ n. Some (n, e.1.t)) own.1
                   ∙ ap (λ x. Some (g, x)) same;
-              ends = ap (option_map (link_ends number)) there
-                  ∙ sym (ap (option_map (entry_ends number)) some);
-              live = subst IsSome (sym (ap (option_map (entry_ends number)) some)) refl;
+              ends = ap (option_map link_ends) there
+                  ∙ sym (ap (option_map entry_ends) some);
+              live = subst IsSome (sym (ap (option_map entry_ends) some)) refl;
             }
         | inr other ↦ absurd (let none : value_if g (values_in c i) ≡ None =
             ap (λ o. value_if g (option_map valued o)) some ∙ rw other.0 refl in
@@ -162,17 +162,17 @@ held_ticket s t q held =
 equal_if_alike : {T : Type 0} (at at' : ℕ → T) → ((k : ℕ) → at k ≡ at' k) → at ≡ at'
 equal_if_alike at at' same = λ i k. same k i
 
-module _ {I : Type 0} (number : I → ℕ) (rooms : Rooms) (last : ℕ) (s : State)
-    (places : Ordered I Place) (stops stops' : Content (IndexLink I StopView))
+module _ (rooms : Rooms) (last : ℕ) (s : State)
+    (places : Ordered Place) (stops stops' : Content (IndexLink StopView))
     (marks : Content MarkView)
-    (book : List Entry) (b : IsBook number rooms last s places stops marks book)
+    (book : List Entry) (b : IsBook rooms last s places stops marks book)
     (same : (k : ℕ) → values_in stops' k ≡ values_in stops k) (kept : IsKept stops stops')
     (routes : List Route) where
   pub relinked_kept : ((k : ℕ) → stop_of routes k ≡ stop_of s.routes k)
       → length (stop_list routes) ≡ length (stop_list s.routes)
-      → LeadAs (λ (x : StopView). x.ticket) (values_in stops) (ends_in number stops')
+      → LeadAs (λ (x : StopView). x.ticket) (values_in stops) (ends_in stops')
       (next_stop routes)
-      → IsBook number rooms last (record s { routes = routes }) places stops' marks book
+      → IsBook rooms last (record s { routes = routes }) places stops' marks book
   relinked_kept stay count lead = record {
     held = subst (λ (c : ℕ). IsHeld now
         (record {
@@ -182,7 +182,7 @@ module _ {I : Type 0} (number : I → ℕ) (rooms : Rooms) (last : ℕ) (s : Sta
           place_counter = places.chains.counter;
           stop_counter = c;
         })
-        (in_order number places) (ends_in number stops') book) (sym kept.counter)
+        (in_order places) (ends_in stops') book) (sym kept.counter)
         (subst (λ (at : ℕ → Option (ℕ × StopView)). IsHeld now
         (record {
           places = entry_in places;
@@ -190,8 +190,8 @@ module _ {I : Type 0} (number : I → ℕ) (rooms : Rooms) (last : ℕ) (s : Sta
           marks = entry_at marks;
           place_counter = places.chains.counter;
           stop_counter = stops.counter;
-        }) (in_order number places)
-        (ends_in number stops') book)
+        }) (in_order places)
+        (ends_in stops') book)
         (sym (equal_if_alike (values_in stops') (values_in stops) same)) held);
     places_rise = b.places_rise;
     within = record {
@@ -214,8 +214,8 @@ module _ {I : Type 0} (number : I → ℕ) (rooms : Rooms) (last : ℕ) (s : Sta
       now : State
       now = record s { routes = routes }
 
-      held : IsHeld now (found_in places stops marks) (in_order number places)
-          (ends_in number stops') book
+      held : IsHeld now (found_in places stops marks) (in_order places)
+          (ends_in stops') book
       held = record {
         rise = b.held.rise;
         filled = b.held.filled;
@@ -235,10 +235,10 @@ module _ {I : Type 0} (number : I → ℕ) (rooms : Rooms) (last : ℕ) (s : Sta
       }
 
 -- each item keeps its pointer where interlinks change
-pub kept_links : {I : Type 0} (s s' : State) (places : Ordered I Place)
-    (stops stops' : Content (IndexLink I StopView)) (marks : Content MarkView)
+pub kept_links : (s s' : State) (places : Ordered Place)
+    (stops stops' : Content (IndexLink StopView)) (marks : Content MarkView)
     → ((k : ℕ) → values_in stops' k ≡ values_in stops k) → IsKept stops stops'
-    → KeepsItems {I = I} (record { state = s; places = places; stops = stops; marks = marks })
+    → KeepsItems (record { state = s; places = places; stops = stops; marks = marks })
     (record { state = s'; places = places; stops = stops'; marks = marks })
 kept_links s s' places stops stops' marks same kept = record {
   places = λ j n p is. (p, (is, (refl, refl)));

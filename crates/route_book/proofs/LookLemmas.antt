@@ -21,27 +21,27 @@ no_look before after most same = record { rise = omega (arith, same); few = omeg
 so_many : (before after most : ℕ) → after ≡ before + most → LooksWithin before after most
 so_many before after most sum = record { rise = omega (arith, sum); few = omega (arith, sum) }
 
-module _ {I : Type 0} (number : I → ℕ) (last : Option ℕ) (before after : ℕ) (old new : Book I) where
+module _ (last : Option ℕ) (before after : ℕ) (old new : Book) where
   abbrev Few : Type 0
   Few = LooksWithin before after (references_in old.state)
 
   removal : (kind : Kind) (t : ℕ) (b : Bool) → removal_wraps last old kind ≡ b
-      → IsRemoved number last kind t before after old new → Few
+      → IsRemoved last kind t before after old new → Few
   removal kind t false is h =
       let ended : (after ≡ before) × IsEnded last kind t old new = rw is at h in
       no_look before after _ ended.0
   removal kind t true is h =
-      let ended : (packed : Book I) × ((packed.state ≡ old.state)
-      × (IsPacked number last before after old packed × IsEnded last kind t packed new)) =
+      let ended : (packed : Book) × ((packed.state ≡ old.state)
+      × (IsPacked last before after old packed × IsEnded last kind t packed new)) =
       rw is at h in
       let pack = ended.1.1.0 in
       so_many before after _ pack.looks
 
-  removes : (t : ℕ) (r : Result Item Refusal) → Removes number last t before after old new r → Few
+  removes : (t : ℕ) (r : Result Item Refusal) → Removes last t before after old new r → Few
   removes t (Ok item) h = removal (kind_of item) t (removal_wraps last old (kind_of item)) refl h
   removes t (Err refusal) h = no_look before after _ h.1
 
-  pub line_looks : (command : Option Command) → Steps number last command before after old new
+  pub line_looks : (command : Option Command) → Steps last command before after old new
       → LooksWithin before after (most_looks old.state command)
   line_looks None h = no_look before after 0 h.1
   line_looks (Some (Remove t)) h = removes t (holder old.state t) h

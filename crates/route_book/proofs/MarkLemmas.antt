@@ -239,10 +239,6 @@ pub marks_not_full : (s : State) → is_full_of_marks s ≡ false → length s.m
 marks_not_full s is = leb-false s.rooms.marks (length s.marks) (left_false _ _ is)
 
 module _ (s : State) (at t : ℕ) where
-  pub marked_full : (p : Place) (x : Stop) → place_holder s at ≡ Ok p → stop_holder s t ≡ Ok x
-      → is_full_of_marks s ≡ true → (marked s at t ≡ Err Full) × (after_mark s at t ≡ s)
-  marked_full p x place stop full = (rw (place, stop, full) refl, rw (place, stop, full) refl)
-
   pub marked_new : (p : Place) (x : Stop) → place_holder s at ≡ Ok p → stop_holder s t ≡ Ok x
       → is_full_of_marks s ≡ false
       → (marked s at t ≡ Ok (s.last + 1))
@@ -294,10 +290,10 @@ module _ (s : State) (t : ℕ) (x : Stop) (held : stop_holder s t ≡ Ok x) wher
   stop_ticket = has_stop (stop_list s.routes) t x held_stop
 
 -- a mark where there is room
-module _ {I : Type 0} (number : I → ℕ) (rooms : Rooms) (last : ℕ) (s : State)
-    (places : Ordered I Place) (stops : Content (IndexLink I StopView))
+module _ (rooms : Rooms) (last : ℕ) (s : State)
+    (places : Ordered Place) (stops : Content (IndexLink StopView))
     (marks marks' : Content MarkView)
-    (book : List Entry) (b : IsBook number rooms last s places stops marks book)
+    (book : List Entry) (b : IsBook rooms last s places stops marks book)
     (pt st : ℕ) (p : Place) (x : Stop) (place : place_holder s pt ≡ Ok p)
     (stop : stop_holder s st ≡ Ok x) (free : is_full_of_marks s ≡ false)
     (v : MarkView) (i g : ℕ) (ticket : v.ticket ≡ last + 1)
@@ -315,13 +311,13 @@ module _ {I : Type 0} (number : I → ℕ) (rooms : Rooms) (last : ℕ) (s : Sta
   next : v.ticket ≡ s.last + 1
   next = ticket ∙ ap (λ n. n + 1) (sym b.last_is)
 
-  pub mark_made : IsBook number rooms (last + 1) (after_mark s pt st) places stops marks'
+  pub mark_made : IsBook rooms (last + 1) (after_mark s pt st) places stops marks'
       (book ++ entry v.ticket OfMark i g ∷ [])
-  mark_made = subst (λ z. IsBook number rooms (last + 1) z places stops marks'
+  mark_made = subst (λ z. IsBook rooms (last + 1) z places stops marks'
       (book ++ entry v.ticket OfMark i g ∷ [])) (sym (marked_new s pt st p x place stop free).1)
       (record {
-        held = mark_added s (found_in places stops marks) (in_order number places)
-            (ends_in number stops) book b.held v i g (entry_at marks') vacant entries next
+        held = mark_added s (found_in places stops marks) (in_order places)
+            (ends_in stops) book b.held v i g (entry_at marks') vacant entries next
             live_place
             live_stop m named;
         places_rise = b.places_rise;
@@ -345,19 +341,19 @@ module _ {I : Type 0} (number : I → ℕ) (rooms : Rooms) (last : ℕ) (s : Sta
             b.entries in
             let l = live in omega (arith, a, n, l));
         marks_differ = MarksDiffer-behind s.marks m b.marks_differ
-            (no_mark_yet s (found_in places stops marks) (in_order number places)
-            (ends_in number stops)
+            (no_mark_yet s (found_in places stops marks) (in_order places)
+            (ends_in stops)
             book b.held v i g (entry_at marks') vacant entries next live_place live_stop m named);
       })
 
 -- each item keeps its pointer where a mark is added
-pub kept_mark : {I : Type 0} (s s' : State) (places : Ordered I Place)
-    (stops : Content (IndexLink I StopView)) (marks marks' : Content MarkView) (v : MarkView)
+pub kept_mark : (s s' : State) (places : Ordered Place)
+    (stops : Content (IndexLink StopView)) (marks marks' : Content MarkView) (v : MarkView)
     (i g : ℕ)
     → entry_at marks i ≡ None
     → ((k : ℕ) → entry_at marks' k ≡ with_entry (entry_at marks) i (g, v) k)
     → g ≡ marks.counter → marks'.counter ≡ marks.counter → marks'.room ≡ marks.room
-    → KeepsItems {I = I} (record { state = s; places = places; stops = stops; marks = marks })
+    → KeepsItems (record { state = s; places = places; stops = stops; marks = marks })
     (record { state = s'; places = places; stops = stops; marks = marks' })
 kept_mark s s' places stops marks marks' v i g vacant entries own counter room = record {
   places = λ j n p is. (p, (is, (refl, refl)));

@@ -152,21 +152,21 @@ held_in rooms s f order ends book h = record {
 
 -- ---- the store
 
-module _ {I J : Type 0} (number : I → ℕ) (number' : J → ℕ) (greatest g : ℕ)
+module _ (greatest g : ℕ)
     (rooms rooms' : Rooms) (given : ℕ) (s : State)
-    (places : Ordered I Place) (stops : Content (IndexLink I StopView)) (marks : Content MarkView)
-    (book : List Entry) (b : IsBook number rooms given s places stops marks book)
-    (places' : Ordered J Place) (stops' : Content (IndexLink J StopView))
+    (places : Ordered Place) (stops : Content (IndexLink StopView)) (marks : Content MarkView)
+    (book : List Entry) (b : IsBook rooms given s places stops marks book)
+    (places' : Ordered Place) (stops' : Content (IndexLink StopView))
     (marks' : Content MarkView)
     (at_p : (k : ℕ) → entry_in places' k ≡ option_map (λ e. (g, e.1)) (entry_in places k))
     (at_s : (k : ℕ) → values_in stops' k
     ≡ option_map (λ e. (g, stop_over greatest g e.1)) (values_in stops k))
     (at_m : (k : ℕ) → entry_at marks' k
     ≡ option_map (λ e. (g, mark_over greatest g e.1)) (entry_at marks k))
-    (order : in_order number' places' ≡ in_order number places)
+    (order : in_order places' ≡ in_order places)
     (next : (k : ℕ) → IsSome (values_in stops k)
-    → next_at (ends_in number' stops') k ≡ next_at (ends_in number stops) k)
-    (on : (i k : ℕ) → next_at (ends_in number stops) i ≡ Some k → IsSome (values_in stops k))
+    → next_at (ends_in stops') k ≡ next_at (ends_in stops) k)
+    (on : (i k : ℕ) → next_at (ends_in stops) i ≡ Some k → IsSome (values_in stops k))
     (live_s : (i h : ℕ) (v : StopView) → values_in stops i ≡ Some (h, v)
     → IsLive (entry_in places) v.place)
     (live_m : (i h : ℕ) (m : MarkView) → entry_at marks i ≡ Some (h, m)
@@ -225,16 +225,16 @@ module _ {I J : Type 0} (number : I → ℕ) (number' : J → ℕ) (greatest g :
           (over_found g (values_in stops) greatest within_s e.1.stop live.1)
 
   next_kept : (i : ℕ) → IsSome (values_in stops i)
-      → next_at (ends_in number' stops') i ≡ option_map (λ j. j) (next_at (ends_in number stops) i)
-  next_kept i some = next i some ∙ by (next_at (ends_in number stops) i)
+      → next_at (ends_in stops') i ≡ option_map (λ j. j) (next_at (ends_in stops) i)
+  next_kept i some = next i some ∙ by (next_at (ends_in stops) i)
     where
       by : (x : Option ℕ) → x ≡ option_map (λ (j : ℕ). j) x
       by None = refl
       by (Some k) = refl
 
   abbrev now : Found
-  now = packed_found s f (in_order number places) (ends_in number stops)
-      (ends_in number' stops') book b.held (λ i. i) (λ i. i) (λ i. i) g g g
+  now = packed_found s f (in_order places) (ends_in stops)
+      (ends_in stops') book b.held (λ i. i) (λ i. i) (λ i. i) g g g
       (entry_in places') mid_s mid_m m n o
       (moved_over g (entry_in places) (entry_in places') at_p)
       (moved_over g (values_in stops) mid_s (λ k. refl))
@@ -242,10 +242,10 @@ module _ {I J : Type 0} (number : I → ℕ) (number' : J → ℕ) (greatest g :
       (mirrored_over g (entry_in places)) (mirrored_over g (values_in stops))
       (mirrored_over g (entry_at marks)) (values_in stops') (entry_at marks') recast_s recast_m
 
-  held_now : IsHeld s now (in_order number places) (ends_in number' stops')
+  held_now : IsHeld s now (in_order places) (ends_in stops')
       (map (renewed_entry m n o) book)
-  held_now = packed s f (in_order number places) (ends_in number stops)
-      (ends_in number' stops') book b.held (λ i. i) (λ i. i) (λ i. i) g g g
+  held_now = packed s f (in_order places) (ends_in stops)
+      (ends_in stops') book b.held (λ i. i) (λ i. i) (λ i. i) g g g
       (entry_in places') mid_s mid_m m n o
       (moved_over g (entry_in places) (entry_in places') at_p)
       (moved_over g (values_in stops) mid_s (λ k. refl))
@@ -266,15 +266,15 @@ module _ {I J : Type 0} (number : I → ℕ) (number' : J → ℕ) (greatest g :
   abbrev renewed : List Entry
   renewed = map (renewed_entry m n o) book
 
-  held : IsHeld s (found_in places' stops' marks') (in_order number' places')
-      (ends_in number' stops') renewed
+  held : IsHeld s (found_in places' stops' marks') (in_order places')
+      (ends_in stops') renewed
   held =
-      subst (λ w. IsHeld s (found_in places' stops' marks') w (ends_in number' stops') renewed)
+      subst (λ w. IsHeld s (found_in places' stops' marks') w (ends_in stops') renewed)
       (sym order)
-      (subst (λ c. IsHeld s (found_under c stops'.counter) (in_order number places)
-      (ends_in number' stops') renewed) (sym counter_p)
-      (subst (λ c. IsHeld s (found_under g c) (in_order number places)
-      (ends_in number' stops') renewed) (sym counter_s) held_now))
+      (subst (λ c. IsHeld s (found_under c stops'.counter) (in_order places)
+      (ends_in stops') renewed) (sym counter_p)
+      (subst (λ c. IsHeld s (found_under g c) (in_order places)
+      (ends_in stops') renewed) (sym counter_s) held_now))
 
   module _ (size : size_in places' ≡ size_in places) (live : live_count stops' ≡ live_count stops)
       (many : live_count marks' ≡ live_count marks)
@@ -283,13 +283,13 @@ module _ {I J : Type 0} (number : I → ℕ) (number' : J → ℕ) (greatest g :
       (room_p : rooms'.places ≤ arena_capacity places'.chains)
       (room_s : rooms'.stops ≤ arena_capacity stops')
       (room_m : rooms'.marks ≤ arena_capacity marks') where
-    pub store_kept : IsBook number' rooms' given (in_rooms rooms' s) places' stops' marks'
+    pub store_kept : IsBook rooms' given (in_rooms rooms' s) places' stops' marks'
         (map (entry_over greatest g) book)
     store_kept = record {
-      held = held_in rooms' s (found_in places' stops' marks') (in_order number' places')
-          (ends_in number' stops') (map (entry_over greatest g) book)
-          (subst (IsHeld s (found_in places' stops' marks') (in_order number' places')
-          (ends_in number' stops'))
+      held = held_in rooms' s (found_in places' stops' marks') (in_order places')
+          (ends_in stops') (map (entry_over greatest g) book)
+          (subst (IsHeld s (found_in places' stops' marks') (in_order places')
+          (ends_in stops'))
           (sym (book_same greatest g f within_p within_s within_m book 0 s.last b.held.rise
           b.held.filled)) held);
       places_rise = b.places_rise;
@@ -315,8 +315,8 @@ module _ {I J : Type 0} (number : I → ℕ) (number' : J → ℕ) (greatest g :
   -- no reference is dead
   pub store_stop : (k h : ℕ) (v : StopView) → values_in stops' k ≡ Some (h, v)
       → IsLive (entry_in places') v.place
-  store_stop = stop_live s f (in_order number places) (ends_in number stops)
-      (ends_in number' stops') book b.held (λ i. i) (λ i. i) (λ i. i) g g g
+  store_stop = stop_live s f (in_order places) (ends_in stops)
+      (ends_in stops') book b.held (λ i. i) (λ i. i) (λ i. i) g g g
       (entry_in places') mid_s mid_m m n o
       (moved_over g (entry_in places) (entry_in places') at_p)
       (moved_over g (values_in stops) mid_s (λ k. refl))
@@ -328,8 +328,8 @@ module _ {I J : Type 0} (number : I → ℕ) (number' : J → ℕ) (greatest g :
   pub store_mark : (k h : ℕ) (v : MarkView) → entry_at marks' k ≡ Some (h, v)
       → IsLive (entry_in places') v.place × IsLive (values_in stops') v.stop
   store_mark k h v is = (
-    mark_live s f (in_order number places) (ends_in number stops)
-        (ends_in number' stops') book b.held (λ i. i) (λ i. i) (λ i. i) g g g
+    mark_live s f (in_order places) (ends_in stops)
+        (ends_in stops') book b.held (λ i. i) (λ i. i) (λ i. i) g g g
         (entry_in places') mid_s mid_m m n o
         (moved_over g (entry_in places) (entry_in places') at_p)
         (moved_over g (values_in stops) mid_s (λ k. refl))
@@ -337,8 +337,8 @@ module _ {I J : Type 0} (number : I → ℕ) (number' : J → ℕ) (greatest g :
         (mirrored_over g (entry_in places)) (mirrored_over g (values_in stops))
         (mirrored_over g (entry_at marks)) (values_in stops') (entry_at marks') recast_s recast_m
         next_kept (λ i k some is. on i k is) k h v is,
-    mark_stop_live s f (in_order number places) (ends_in number stops)
-        (ends_in number' stops') book b.held (λ i. i) (λ i. i) (λ i. i) g g g
+    mark_stop_live s f (in_order places) (ends_in stops)
+        (ends_in stops') book b.held (λ i. i) (λ i. i) (λ i. i) g g g
         (entry_in places') mid_s mid_m m n o
         (moved_over g (entry_in places) (entry_in places') at_p)
         (moved_over g (values_in stops) mid_s (λ k. refl))
@@ -350,45 +350,45 @@ module _ {I J : Type 0} (number : I → ℕ) (number' : J → ℕ) (greatest g :
 
 -- ---- the same of a store that was packed first, over what the moves of its arenas tell
 
-module _ {I J : Type 0} (number : I → ℕ) (number' : J → ℕ) (last : Option ℕ) (greatest g : ℕ)
+module _ (last : Option ℕ) (greatest g : ℕ)
     (rooms rooms' : Rooms) (given : ℕ) (s : State)
-    (places : Ordered I Place) (stops : Content (IndexLink I StopView)) (marks : Content MarkView)
-    (book : List Entry) (b : IsBook number rooms given s places stops marks book)
-    (places' : Ordered J Place) (stops' : Content (IndexLink J StopView))
-    (marks' : Content MarkView) (was : Book I) (looks : ℕ)
-    (packing : IsPacked number last 0 looks was
+    (places : Ordered Place) (stops : Content (IndexLink StopView)) (marks : Content MarkView)
+    (book : List Entry) (b : IsBook rooms given s places stops marks book)
+    (places' : Ordered Place) (stops' : Content (IndexLink StopView))
+    (marks' : Content MarkView) (was : Book) (looks : ℕ)
+    (packing : IsPacked last 0 looks was
     (record { state = s; places = places; stops = stops; marks = marks }))
-    (to_p : order_in number places ≡ range_with_len 1 (size_in places) → (k : ℕ)
+    (to_p : order_in places ≡ range_with_len 1 (size_in places) → (k : ℕ)
     → entry_in places' k ≡ option_map (λ e. (g, e.1)) (entry_in places k))
-    (in_p : order_in number places ≡ range_with_len 1 (size_in places) → (k : ℕ)
+    (in_p : order_in places ≡ range_with_len 1 (size_in places) → (k : ℕ)
     → IsSome (entry_in places k) → k ≤ greatest)
-    (order : in_order number' places' ≡ in_order number places)
-    (to_s : IsLaidOut (ends_in number stops) (live_count stops) → (k : ℕ)
+    (order : in_order places' ≡ in_order places)
+    (to_s : IsLaidOut (ends_in stops) (live_count stops) → (k : ℕ)
     → values_in stops' k ≡ option_map (λ e. (g, stop_over greatest g e.1)) (values_in stops k))
-    (in_s : IsLaidOut (ends_in number stops) (live_count stops) → (k : ℕ)
+    (in_s : IsLaidOut (ends_in stops) (live_count stops) → (k : ℕ)
     → IsSome (values_in stops k) → k ≤ greatest)
-    (on : (i k : ℕ) → next_at (ends_in number stops) i ≡ Some k → IsSome (values_in stops k))
-    (next : IsLaidOut (ends_in number stops) (live_count stops) → (k : ℕ)
+    (on : (i k : ℕ) → next_at (ends_in stops) i ≡ Some k → IsSome (values_in stops k))
+    (next : IsLaidOut (ends_in stops) (live_count stops) → (k : ℕ)
     → IsSome (values_in stops k)
-    → next_at (ends_in number' stops') k ≡ next_at (ends_in number stops) k)
+    → next_at (ends_in stops') k ≡ next_at (ends_in stops) k)
     (to_m : ((i : ℕ) → IsSome (entry_at marks i) ↔ ((1 ≤ i) × (i ≤ live_count marks))) → (k : ℕ)
     → entry_at marks' k ≡ option_map (λ e. (g, mark_over greatest g e.1)) (entry_at marks k))
     (in_m : ((i : ℕ) → IsSome (entry_at marks i) ↔ ((1 ≤ i) × (i ≤ live_count marks))) → (k : ℕ)
     → IsSome (entry_at marks k) → k ≤ greatest)
     (counter_p : places'.chains.counter ≡ g) (counter_s : stops'.counter ≡ g) where
-  run : order_in number places ≡ range_with_len 1 (size_in places)
+  run : order_in places ≡ range_with_len 1 (size_in places)
   run = packing.order ∙ ap (range_with_len 1) b.within.place_count
 
   pub moved_stop : (k h : ℕ) (v : StopView) → values_in stops' k ≡ Some (h, v)
       → IsLive (entry_in places') v.place
-  moved_stop = store_stop number number' greatest g rooms rooms' given s places stops marks book b
+  moved_stop = store_stop greatest g rooms rooms' given s places stops marks book b
       places' stops' marks' (to_p run) (to_s packing.stop_runs) (to_m packing.mark_run) order
       (next packing.stop_runs) on packing.stops packing.marks (in_p run) (in_s packing.stop_runs)
       (in_m packing.mark_run) counter_p counter_s
 
   pub moved_mark : (k h : ℕ) (v : MarkView) → entry_at marks' k ≡ Some (h, v)
       → IsLive (entry_in places') v.place × IsLive (values_in stops') v.stop
-  moved_mark = store_mark number number' greatest g rooms rooms' given s places stops marks book b
+  moved_mark = store_mark greatest g rooms rooms' given s places stops marks book b
       places' stops' marks' (to_p run) (to_s packing.stop_runs) (to_m packing.mark_run) order
       (next packing.stop_runs) on packing.stops packing.marks (in_p run) (in_s packing.stop_runs)
       (in_m packing.mark_run) counter_p counter_s
@@ -399,9 +399,9 @@ module _ {I J : Type 0} (number : I → ℕ) (number' : J → ℕ) (last : Optio
       → length s.marks ≤ rooms'.marks
       → rooms'.places ≤ arena_capacity places'.chains → rooms'.stops ≤ arena_capacity stops'
       → rooms'.marks ≤ arena_capacity marks'
-      → IsBook number' rooms' given (in_rooms rooms' s) places' stops' marks'
+      → IsBook rooms' given (in_rooms rooms' s) places' stops' marks'
       (map (entry_over greatest g) book)
-  moved_kept = store_kept number number' greatest g rooms rooms' given s places stops marks book b
+  moved_kept = store_kept greatest g rooms rooms' given s places stops marks book b
       places' stops' marks' (to_p run) (to_s packing.stop_runs) (to_m packing.mark_run) order
       (next packing.stop_runs) on packing.stops packing.marks (in_p run) (in_s packing.stop_runs)
       (in_m packing.mark_run) counter_p counter_s

@@ -8,7 +8,6 @@ use Rattle.std.specs.declared.cmp.Ordering.{Ordering}
 use Rattle.std.specs.declared.cmp.Ordering.TheVariants.{Less, Greater}
 use Rattle.std.proofs.lemmas.Bool.{and_parts, ltb-true, lt-ltb, le-ltb, ne_eqb}
 use Rattle.std.proofs.lemmas.Bool.Decides.{eqb_tells, leb_tells}
-use Rattle.rank_tree.specs.Search.{AllIn}
 use Rattle.triple_arena.specs.Content.{Content}
 use Rattle.triple_arena.specs.Entries.{value_if}
 use Rattle.triple_arena_chain.specs.Chains.{first_or, last_or}
@@ -58,7 +57,7 @@ near_if b i j none is = subst (λ c. (c || is_near i j) ≡ true) none is
 
 module _ (at : ℕ → Option (ℕ × Place)) where
   abbrev Live : List ℕ → Type 0
-  Live w = AllIn (λ j. IsSome (at j)) w
+  Live w = AllByRecursion (λ j. IsSome (at j)) w
 
   live_at : (j : ℕ) → IsSome (at j) → (e : ℕ × Place) × (at j ≡ Some e)
   live_at j some = by (at j) refl some
@@ -144,7 +143,7 @@ module _ (at : ℕ → Option (ℕ × Place)) where
       pub low : List ℕ
       pub high : List ℕ
       pub is : w ≡ low ++ high
-      pub greater : AllIn (λ j. ask j ≡ Greater) low
+      pub greater : AllByRecursion (λ j. ask j ≡ Greater) low
       pub up_to : places_before (λ p. nat_lt key p.key) (along at w) ≡ length low
       pub behind : (high ≡ []) ⊎ IsFrom high
 
@@ -183,7 +182,7 @@ module _ (at : ℕ → Option (ℕ × Place)) where
         ]
 
     less_above : (w : List ℕ) → Live w → AllByRecursion (λ (p : Place). key < p.key) (along at w)
-        → AllIn (λ j. ask j ≡ Less) w
+        → AllByRecursion (λ j. ask j ≡ Less) w
     less_above [] all above = tt
     less_above (j ∷ w) all above =
         let e = live_at j all.0 in
@@ -262,7 +261,7 @@ module _ (at : ℕ → Option (ℕ × Place)) where
           length_with [] j rest = omega arith
           length_with (x ∷ low) j rest = let more = length_with low j rest in omega (arith, more)
 
-      gap : AllIn (λ j. ask j ≡ Less) part.high
+      gap : AllByRecursion (λ j. ask j ≡ Less) part.high
           → ((j : ℕ) → first_or part.high None ≡ Some j → IsNear 7 w i j) → IsAtHand 7 ask w i
       gap less first = inr (record {
         low = part.low;
@@ -276,7 +275,7 @@ module _ (at : ℕ → Option (ℕ × Place)) where
 
       none_above : part.high ≡ [] → IsAtHand 7 ask w i
       none_above none =
-          gap (subst (AllIn (λ j. ask j ≡ Less)) (sym none) tt)
+          gap (subst (AllByRecursion (λ j. ask j ≡ Less)) (sym none) tt)
           (λ j is. absurd (let no : ◌≡◌ {A = Option ℕ} None (Some j) =
           sym (ap (λ l. first_or l None) none) ∙ is in cc))
 
@@ -332,10 +331,10 @@ module _ (at : ℕ → Option (ℕ × Place)) where
 
 -- ---- a store
 
-module _ {I : Type 0} (number : I → ℕ) (rooms : Rooms) (last : ℕ) (s : State)
-    (places : Ordered I Place) (stops : Content (IndexLink I StopView)) (marks : Content MarkView)
-    (book : List Entry) (b : IsBook number rooms last s places stops marks book)
-    (ordered : IsOrdered number places)
+module _ (rooms : Rooms) (last : ℕ) (s : State)
+    (places : Ordered Place) (stops : Content (IndexLink StopView)) (marks : Content MarkView)
+    (book : List Entry) (b : IsBook rooms last s places stops marks book)
+    (ordered : IsOrdered places)
     (k : PlaceKey) (newest : (j n : ℕ) (q : Place) → entry_in places j ≡ Some (n, q)
     → q.ticket < k.ticket) (near i g : ℕ) (p : Place)
     (value : value_if g (entry_in places i) ≡ Some p) (held : place_holder s near ≡ Ok p) where
@@ -347,21 +346,21 @@ module _ {I : Type 0} (number : I → ℕ) (rooms : Rooms) (last : ℕ) (s : Sta
   has : p.ticket ≡ near
   has = found_has (λ (q : Place). q.ticket) near s.places p (held_place s near p held)
 
-  rise : PlacesRise (in_order number places)
+  rise : PlacesRise (in_order places)
   rise = subst PlacesRise b.held.in_order b.places_rise
 
   -- a search for a key that begins at the place with a ticket makes no more comparisons with keys
   -- than it may
   pub hint_bound : is_full_of_places s ≡ false → (old new : ℕ)
       → new ≤ old + (7 + most_comparisons (size_in places))
-      → (IsAscending number key_cmp key_of places → IsSome (entry_in places i)
-      → IsAtHand 7 (asked_at key_cmp key_of k places) (order_in number places) i → new ≤ old + 7)
+      → (IsAscending key_cmp key_of places → IsSome (entry_in places i)
+      → IsAtHand 7 (asked_at key_cmp key_of k places) (order_in places) i → new ≤ old + 7)
       → new ≤ old + most_near s k.key near
   hint_bound free old new bound close =
       rw (held, free) (subst (λ l. new ≤ old + most_from l k.key near) (sym b.held.in_order)
       (near_bound (entry_in places) k.key (asked_at key_cmp key_of k places)
-      (newest_past places k newest) (order_in number places)
-      (live_along number places None (order_in number places) ordered.linear) rise near i g p
+      (newest_past places k newest) (order_in places)
+      (live_along places None (order_in places) ordered.linear) rise near i g p
       stands has
       (λ j k q is same. booked_once (λ (r : Place). r.ticket) OfPlace (entry_in places) book
       b.held.places_in j i k g q p is stands (same ∙ sym has))

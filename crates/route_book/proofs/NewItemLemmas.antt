@@ -23,36 +23,30 @@ use Rattle.route_book.proofs.NeighborLemmas.{held_place}
 use Rattle.route_book.proofs.StartLemmas.{kept_stop, start_kept, started_new, stops_not_full}
 use Rattle.route_book.proofs.OptionLemmas.{found_has}
 
-module _ {I : Type 0} (number : I → ℕ) (rooms : Rooms) (last : ℕ) (s : State)
-    (places : Ordered I Place) (stops : Content (IndexLink I StopView)) (marks : Content MarkView)
-    (book : List Entry) (b : IsBook number rooms last s places stops marks book) (k : Book I)
+module _ (rooms : Rooms) (last : ℕ) (s : State)
+    (places : Ordered Place) (stops : Content (IndexLink StopView)) (marks : Content MarkView)
+    (book : List Entry) (b : IsBook rooms last s places stops marks book) (k : Book)
     (view : record { state = s; places = places; stops = stops; marks = marks } ≡ k)
     (pt pi pg : ℕ) (at : (p : Place) × (value_if pg (entry_in k.places pi) ≡ Some p)
     × (place_holder k.state pt ≡ Ok p)) where
   abbrev place : (p : Place) × (value_if pg (entry_in places pi) ≡ Some p)
       × (place_holder s pt ≡ Ok p)
-  place = subst (λ (x : Book I). (p : Place) × (value_if pg (entry_in x.places pi) ≡ Some p)
+  place = subst (λ (x : Book). (p : Place) × (value_if pg (entry_in x.places pi) ≡ Some p)
       × (place_holder x.state pt ≡ Ok p)) (sym view) at
 
   -- ---- start
 
   module _ (free : false ≡ is_full_of_stops k.state) where
     abbrev room : is_full_of_stops s ≡ false
-    room = ap (λ (x : Book I). is_full_of_stops x.state) view ∙ sym free
+    room = ap (λ (x : Book). is_full_of_stops x.state) view ∙ sym free
 
-    pub start_has_room : live_count stops < arena_capacity stops
-    start_has_room =
-        let n = b.within.stop_count in let r = ap (λ (r : Rooms). r.stops) b.within.rooms_are in
-        let less = stops_not_full s room in let fits = b.within.stop_room in
-        omega (arith, less, n, r, fits)
-
-    module _ (chained : IsChained number k.stops) (w : StopView) (n h : ℕ)
+    module _ (chained : IsChained k.stops) (w : StopView) (n h : ℕ)
         (ticket : w.ticket ≡ last + 1) (to : w.place ≡ Some (pi, pg))
-        (stops' : Content (IndexLink I StopView))
-        (put : IsLinkInserted number (Between None None) n h w stops stops')
+        (stops' : Content (IndexLink StopView))
+        (put : IsLinkInserted (Between None None) n h w stops stops')
         (same_room : stops'.room ≡ stops.room) where
-      abbrev agreed : IsAgreed (ends_in number stops)
-      agreed = (subst (λ (x : Book I). IsChained number x.stops) (sym view) chained).agreed
+      abbrev agreed : IsAgreed (ends_in stops)
+      agreed = (subst (λ (x : Book). IsChained x.stops) (sym view) chained).agreed
 
       answer : started s pt ≡ Ok (s.last + 1)
       answer = (started_new s pt place.0 place.2 room).0
@@ -62,13 +56,13 @@ module _ {I : Type 0} (number : I → ℕ) (rooms : Rooms) (last : ℕ) (s : Sta
           → ((m : ℕ) → started s pt ≡ Ok m → next_stop (after_start s pt).routes m ≡ None)
           → ((m x : ℕ) → started s pt ≡ Ok m → x ≢ m
           → next_stop (after_start s pt).routes x ≡ next_stop s.routes x)
-          → IsBook number rooms (last + 1) z places stops' marks book'
+          → IsBook rooms (last + 1) z places stops' marks book'
       start_leaves z book' is more nowhere others =
-          subst (λ l. IsBook number rooms (last + 1) z places stops' marks l)
+          subst (λ l. IsBook rooms (last + 1) z places stops' marks l)
           (ap (λ m. book ++ entry m OfStop n h ∷ []) ticket ∙ sym more)
-          (subst (λ x. IsBook number rooms (last + 1) x places stops' marks
+          (subst (λ x. IsBook rooms (last + 1) x places stops' marks
           (book ++ entry w.ticket OfStop n h ∷ [])) (sym is)
-          (start_kept number rooms last s places stops stops' marks book b pt place.0 place.2 room
+          (start_kept rooms last s places stops stops' marks book b pt place.0 place.2 room
           pi pg place.1 w n h ticket to put same_room agreed (nowhere (s.last + 1) answer)
           (λ x. others (s.last + 1) x answer)))
 
@@ -77,7 +71,7 @@ module _ {I : Type 0} (number : I → ℕ) (rooms : Rooms) (last : ℕ) (s : Sta
       start_keeps s' =
           subst (λ x. KeepsItems x
           (record { state = s'; places = places; stops = stops'; marks = marks })) view
-          (kept_stop number s s' places stops stops' marks w n h put.values
+          (kept_stop s s' places stops stops' marks w n h put.values
           (ap (option_map valued) put.vacant) put.generation put.counter same_room)
 
   -- ---- mark
@@ -88,17 +82,11 @@ module _ {I : Type 0} (number : I → ℕ) (rooms : Rooms) (last : ℕ) (s : Sta
       (free : false ≡ is_full_of_marks k.state) where
     abbrev stop : (v : StopView) × (value_if sg (values_in stops si) ≡ Some v)
         × (stop_holder s st ≡ Ok (state_stop (found_in places stops marks) v))
-    stop = subst (λ (x : Book I). (v : StopView) × (value_if sg (values_in x.stops si) ≡ Some v)
+    stop = subst (λ (x : Book). (v : StopView) × (value_if sg (values_in x.stops si) ≡ Some v)
         × (stop_holder x.state st ≡ Ok (state_stop (found_of x) v))) (sym view) by
 
     abbrev mark_room : is_full_of_marks s ≡ false
-    mark_room = ap (λ (x : Book I). is_full_of_marks x.state) view ∙ sym free
-
-    pub mark_has_room : live_count marks < arena_capacity marks
-    mark_has_room =
-        let n = b.within.mark_count in let r = ap (λ (r : Rooms). r.marks) b.within.rooms_are in
-        let less = marks_not_full s mark_room in let fits = b.within.mark_room in
-        omega (arith, less, n, r, fits)
+    mark_room = ap (λ (x : Book). is_full_of_marks x.state) view ∙ sym free
 
     module _ (w : MarkView) (n h : ℕ) (ticket : w.ticket ≡ last + 1) (to : w.place ≡ Some (pi, pg))
         (of : w.stop ≡ Some (si, sg))
@@ -119,13 +107,13 @@ module _ {I : Type 0} (number : I → ℕ) (rooms : Rooms) (last : ℕ) (s : Sta
           → book' ≡ book ++ entry (last + 1) OfMark n h ∷ []
           → live_count marks' ≡ live_count marks + 1
           → marks'.room ≡ marks.room
-          → IsBook number rooms (last + 1) z places stops marks' book'
+          → IsBook rooms (last + 1) z places stops marks' book'
       mark_leaves z book' is more live same_room =
-          subst (λ l. IsBook number rooms (last + 1) z places stops marks' l)
+          subst (λ l. IsBook rooms (last + 1) z places stops marks' l)
           (ap (λ m. book ++ entry m OfMark n h ∷ []) ticket ∙ sym more)
-          (subst (λ x. IsBook number rooms (last + 1) x places stops marks'
+          (subst (λ x. IsBook rooms (last + 1) x places stops marks'
           (book ++ entry w.ticket OfMark n h ∷ [])) (sym is)
-          (mark_made number rooms last s places stops marks marks' book b pt st place.0
+          (mark_made rooms last s places stops marks marks' book b pt st place.0
           (state_stop (found_in places stops marks) stop.0) place.2 stop.2 mark_room w n h
           ticket
           (subst (λ r. IfSome r (λ q. IsSome (value_if q.1 (entry_in places q.0)))) (sym to)

@@ -28,11 +28,11 @@ no_items : (xs : List ℕ) → length xs ≡ 0 → xs ≡ []
 no_items [] is = refl
 no_items (x ∷ xs) is = absurd (omega (arith, is))
 
-module _ {I : Type 0} (number : I → ℕ) (rooms : Rooms) (last : ℕ) (places : Ordered I Place)
-    (stops : Content (IndexLink I StopView)) (marks : Content MarkView)
+module _ (rooms : Rooms) (last : ℕ) (places : Ordered Place)
+    (stops : Content (IndexLink StopView)) (marks : Content MarkView)
     (p q r : ℕ) (pr qr rr : Room) (no_places : places.chains ≡ empty p pr)
     (no_stops : stops ≡ empty q qr) (no_marks : marks ≡ empty r rr)
-    (ordered : IsOrdered number places)
+    (ordered : IsOrdered places)
     (place_room : rooms.places ≤ arena_capacity places.chains)
     (stop_room : rooms.stops ≤ arena_capacity stops)
     (mark_room : rooms.marks ≤ arena_capacity marks) where
@@ -46,13 +46,13 @@ module _ {I : Type 0} (number : I → ℕ) (rooms : Rooms) (last : ℕ) (places 
   none_marked : (i : ℕ) → entry_at marks i ≡ None
   none_marked i = no_entry marks r rr no_marks i
 
-  no_order : order_in number places ≡ []
-  no_order = no_items (order_in number places) (ordered.counted ∙ ap live_count no_places)
+  no_order : order_in places ≡ []
+  no_order = no_items (order_in places) (ordered.counted ∙ ap live_count no_places)
 
   never : {T : Type 0} {e : ℕ × T} (o : Option (ℕ × T)) → o ≡ None → o ≡ Some e → ⊥
   never o none some = absurd (let no : None ≡ Some _ = sym none ∙ some in cc)
 
-  pub new_kept : IsBook number rooms last (state.empty rooms last) places stops marks []
+  pub new_kept : IsBook rooms last (state.empty rooms last) places stops marks []
   new_kept = record {
     held = record {
       rise = omega arith;

@@ -15,22 +15,6 @@ module _ {P : Type 0} (index generation : P → ℕ) (at : ℕ → Option (ℕ �
   abbrev pair : P → ℕ × ℕ
   pair p = (index p, generation p)
 
-  -- a look at a pointer, as numbers
-  pub value_numbers : (i g : ℕ)
-      → value_if g (numbers index generation at i) ≡ option_map pair (value_if g (at i))
-  value_numbers i g = by (at i)
-    where
-      by : (o : Option (ℕ × P))
-          → value_if g (option_map (λ e. (e.0, (index e.1, generation e.1))) o)
-          ≡ option_map pair (value_if g o)
-      by None = refl
-      by (Some x) = at_test (x.0 == g)
-        where
-          at_test : (b : Bool) → (if b then Some (pair x.1) else None)
-              ≡ option_map pair (if b then Some x.1 else None)
-          at_test true = refl
-          at_test false = refl
-
   pub none_numbers : (i : ℕ) → numbers index generation at i ≡ None → at i ≡ None
   none_numbers i none = by (at i) none
     where
@@ -57,16 +41,6 @@ module _ {P : Type 0} (index generation : P → ℕ) (at : ℕ → Option (ℕ �
       by false = refl
 
 module _ {T : Type 0} (ticket : T → ℕ) (book : List Entry) (at : ℕ → Option (ℕ × T)) where
-  -- an empty mirror
-  pub mirrored_none : (m : Mirror) → at 0 ≡ None → ((k : ℕ) → m k ≡ None)
-      → IsMirrored ticket book at 1 m
-  mirrored_none m zero none = record {
-    filled = λ j h t e below is
-        known. (let is0 : j ≡ 0 = omega (arith, below) in
-        absurd (let no : None ≡ Some (h, t) = sym zero ∙ sym (ap at is0) ∙ is in cc));
-    only = λ i h q is. absurd (let no : None ≡ Some (h, q) = sym (none i) ∙ is in cc);
-  }
-
   -- where no item stands between two bounds
   pub mirrored_gap : (low high : ℕ) (m : Mirror) → low ≤ high
       → ((j : ℕ) → low ≤ j → j < high → at j ≡ None)

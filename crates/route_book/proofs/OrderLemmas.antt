@@ -1,4 +1,4 @@
--- Marks whose tickets rise, and counters that do not start again.
+-- Marks whose tickets rise, and counters that do not wrap.
 use Rattle.std.proofs.Common.{◌≡◌, ◌∙◌, sym, subst, refl, Bool, true, false, ◌==◌, ℕ, ◌+◌, ◌<◌}
 use Rattle.std.proofs.Common.{List, [], ◌∷◌, Option, Some, None, true≢false, arith}
 use Rattle.std.specs.List.{AllByRecursion}
@@ -20,7 +20,7 @@ differ_of_rise (m ∷ marks) rise = (none marks rise.0, differ_of_rise marks ris
     none (x ∷ xs) all = let less = all.0 in
         rw (ne_eqb x.ticket m.ticket (λ same. omega (arith, less, same))) (none xs all.1)
 
--- a step of a counter that does not start again goes one up
+-- a step of a counter that does not wrap goes one up
 pub one_up : (final : Option ℕ) (g top : ℕ) → final ≡ Some top → next_wraps final g ≡ false
     → next_generation final g ≡ g + 1
 one_up final g top is calm =

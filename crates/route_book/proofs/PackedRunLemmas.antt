@@ -35,16 +35,16 @@ use Rattle.triple_arena.specs.RiseLaws.{rise_from}
 
 -- ---- an ordered arena whose list is the indexes from 1 on
 
-module _ {I T : Type 0} (number : I → ℕ) (o : Ordered I T) (ordered : IsOrdered number o)
-    (stand : (i : ℕ) → IsSome (entry_in o i) → On (order_in number o) i)
-    (run : order_in number o ≡ range_with_len 1 (size_in o)) where
-  item_live : (i : ℕ) → IsSome (ends_in number o.chains i) → IsSome (entry_in o i)
+module _ {T : Type 0} (o : Ordered T) (ordered : IsOrdered o)
+    (stand : (i : ℕ) → IsSome (entry_in o i) → On (order_in o) i)
+    (run : order_in o ≡ range_with_len 1 (size_in o)) where
+  item_live : (i : ℕ) → IsSome (ends_in o.chains i) → IsSome (entry_in o i)
   item_live i = by (entry_at o.chains i)
     where
-      by : (e : Option (ℕ × IndexLink I (IndexNode I T)))
-          → IsSome (option_map (entry_ends number) e)
+      by : (e : Option (ℕ × IndexLink (IndexNode T)))
+          → IsSome (option_map entry_ends e)
           → IsSome (option_map itemed (option_map
-          (λ (l : ℕ × IndexLink I (IndexNode I T)). (let v : ℕ × IndexNode I T = (l.0, l.1.t) in
+          (λ (l : ℕ × IndexLink (IndexNode T)). (let v : ℕ × IndexNode T = (l.0, l.1.t) in
           v)) e))
       by None some = some
       by (Some e) some = refl
@@ -53,13 +53,13 @@ module _ {I T : Type 0} (number : I → ℕ) (o : Ordered I T) (ordered : IsOrde
   place_bound i some = let b = (on_run 1 (size_in o) i
       (subst (λ w. On w i) run (stand i some))).1 in omega (arith, b)
 
-  pub places_along : (k : ℕ) → slice_get (ordered_entries number o) k
+  pub places_along : (k : ℕ) → slice_get (ordered_entries o) k
       ≡ option_map (beside (k + 1)) (entry_in o (k + 1))
   places_along k =
       ap (λ w. slice_get (entries_along (entry_in o) w) k) run
       ∙ along_index (entry_in o) (size_in o)
-      (λ i up high. item_live i (live_on (ends_in number o.chains) None None
-      (order_in number o) i ordered.linear
+      (λ i up high. item_live i (live_on (ends_in o.chains) None None
+      (order_in o) i ordered.linear
       (subst (λ w. On w i) (sym run) (run_on 1 (size_in o) i up (omega (arith, high))))))
       place_bound k
 
@@ -95,33 +95,33 @@ module _ (e : ℕ → Option Ends) where
         rising_run cs (low + length (members c)) (n - length (members c)) are.1 split.1,
       )
 
-module _ {J I U T : Type 0} (old_number : J → ℕ) (number : I → ℕ) (order : List (ℕ × (ℕ × U)))
-    (old : Content (IndexLink J U)) (new : Content (IndexLink I T))
-    (m : IsMovedAlong old_number number order old new)
-    (laid : IsLaidOut (ends_in old_number old) (live_count old)) where
+module _ {U T : Type 0} (order : List (ℕ × (ℕ × U)))
+    (old : Content (IndexLink U)) (new : Content (IndexLink T))
+    (m : IsMovedAlong order old new)
+    (laid : IsLaidOut (ends_in old) (live_count old)) where
   -- the chains are in the order that they had
   run : all_members m.chains ≡ range_with_len 1 (live_count old)
   run =
-      ap all_members (in_order_once (ends_in old_number old) m.chains laid.chains m.in_order
+      ap all_members (in_order_once (ends_in old) m.chains laid.chains m.in_order
       (record {
         are = laid.are;
-        rising = rising_run (ends_in old_number old) laid.chains 1
+        rising = rising_run (ends_in old) laid.chains 1
             (live_count old) laid.are.chains laid.runs;
       }))
       ∙ laid.runs
 
-  bounds : (i : ℕ) → IsSome (ends_in old_number old i) → (1 ≤ i) × (i < 1 + live_count old)
+  bounds : (i : ℕ) → IsSome (ends_in old i) → (1 ≤ i) × (i < 1 + live_count old)
   bounds i some = on_run 1 (live_count old) i
       (subst (λ w. On w i) run (m.in_order.are.whole i some))
 
   live : (i : ℕ) → 1 ≤ i → i ≤ live_count old → IsSome (values_in old i)
   live i up high =
-      live_values old_number old i (all_live (ends_in old_number old) m.chains i
+      live_values old i (all_live (ends_in old) m.chains i
       m.in_order.are.chains
       (subst (λ w. On w i) (sym run) (run_on 1 (live_count old) i up (omega (arith, high)))))
 
   pub stop_bound : (i : ℕ) → IsSome (values_in old i) → i ≤ live_count old
-  stop_bound i some = let b = (bounds i (live_ends old_number old i some)).1 in omega (arith, b)
+  stop_bound i some = let b = (bounds i (live_ends old i some)).1 in omega (arith, b)
 
   pub stops_along : (k : ℕ) → slice_get order k
       ≡ option_map (beside (k + 1)) (values_in old (k + 1))
@@ -130,69 +130,69 @@ module _ {J I U T : Type 0} (old_number : J → ℕ) (number : I → ℕ) (order
       ∙ ap (entries_along (values_in old)) run)
       ∙ along_index (values_in old) (live_count old) live stop_bound k
 
-  fixed : (i : ℕ) → IsSome (ends_in old_number old i) → m.to i ≡ i
+  fixed : (i : ℕ) → IsSome (ends_in old i) → m.to i ≡ i
   fixed i some =
       let b = bounds i some in
       fixed_run m.to 1 (live_count old) (ap (map m.to) (sym run) ∙ m.runs) i b.0 b.1
 
   -- a link leads to what it led to
-  pub next_same : IsAgreed (ends_in old_number old) → (i : ℕ) → IsSome (values_in old i)
-      → next_at (ends_in number new) i ≡ next_at (ends_in old_number old) i
+  pub next_same : IsAgreed (ends_in old) → (i : ℕ) → IsSome (values_in old i)
+      → next_at (ends_in new) i ≡ next_at (ends_in old) i
   next_same agreed i some =
-      let here = live_ends old_number old i some in
-      ap (next_at (ends_in number new)) (sym (fixed i here)) ∙ ap next_in (m.renamed.ends i here)
-      ∙ by (ends_in old_number old i) refl
+      let here = live_ends old i some in
+      ap (next_at (ends_in new)) (sym (fixed i here)) ∙ ap next_in (m.renamed.ends i here)
+      ∙ by (ends_in old i) refl
     where
-      by : (o : Option Ends) → ends_in old_number old i ≡ o
+      by : (o : Option Ends) → ends_in old i ≡ o
           → next_in (option_map (ends_renamed m.to) o) ≡ next_in o
       by None is = refl
       by (Some v) is = by_next v.1 (ap next_in is)
         where
-          by_next : (o : Option ℕ) → next_at (ends_in old_number old) i ≡ o → option_map m.to o ≡ o
+          by_next : (o : Option ℕ) → next_at (ends_in old) i ≡ o → option_map m.to o ≡ o
           by_next None is = refl
           by_next (Some k) is = ap Some (fixed k
-              (live_prev_in (ends_in old_number old k) i (agreed.forward i k is)))
+              (live_prev_in (ends_in old k) i (agreed.forward i k is)))
 
   -- all links lead where they led, so the chains are the same runs
-  module _ (agreed : IsAgreed (ends_in old_number old)) where
-    kept : (i : ℕ) → IsSome (ends_in old_number old i)
-        → ends_in number new i ≡ ends_in old_number old i
+  module _ (agreed : IsAgreed (ends_in old)) where
+    kept : (i : ℕ) → IsSome (ends_in old i)
+        → ends_in new i ≡ ends_in old i
     kept i here =
-        ap (ends_in number new) (sym (fixed i here)) ∙ m.renamed.ends i here
-        ∙ by (ends_in old_number old i) refl
+        ap (ends_in new) (sym (fixed i here)) ∙ m.renamed.ends i here
+        ∙ by (ends_in old i) refl
       where
-        back : (o : Option ℕ) → prev_at (ends_in old_number old) i ≡ o → option_map m.to o ≡ o
+        back : (o : Option ℕ) → prev_at (ends_in old) i ≡ o → option_map m.to o ≡ o
         back None is = refl
         back (Some k) is = ap Some (fixed k
-            (live_next_in (ends_in old_number old k) i (agreed.backward k i is)))
+            (live_next_in (ends_in old k) i (agreed.backward k i is)))
 
-        on : (o : Option ℕ) → next_at (ends_in old_number old) i ≡ o → option_map m.to o ≡ o
+        on : (o : Option ℕ) → next_at (ends_in old) i ≡ o → option_map m.to o ≡ o
         on None is = refl
         on (Some k) is = ap Some (fixed k
-            (live_prev_in (ends_in old_number old k) i (agreed.forward i k is)))
+            (live_prev_in (ends_in old k) i (agreed.forward i k is)))
 
-        by : (o : Option Ends) → ends_in old_number old i ≡ o
+        by : (o : Option Ends) → ends_in old i ≡ o
             → option_map (ends_renamed m.to) o ≡ o
         by None is = refl
         by (Some v) is = rw (back v.0 (ap prev_in is), on v.1 (ap next_in is)) refl
 
-    live_before : (i : ℕ) → IsSome (ends_in number new i) → IsSome (ends_in old_number old i)
+    live_before : (i : ℕ) → IsSome (ends_in new i) → IsSome (ends_in old i)
     live_before i some =
         let was = m.renamed.onto i some in
-        subst (λ k. IsSome (ends_in old_number old k)) (sym (fixed was.0 was.1) ∙ was.2) was.1
+        subst (λ k. IsSome (ends_in old k)) (sym (fixed was.0 was.1) ∙ was.2) was.1
 
-    same : (i : ℕ) → ends_in number new i ≡ ends_in old_number old i
-    same i = by (ends_in old_number old i) refl (ends_in number new i) refl
+    same : (i : ℕ) → ends_in new i ≡ ends_in old i
+    same i = by (ends_in old i) refl (ends_in new i) refl
       where
-        by : (o : Option Ends) → ends_in old_number old i ≡ o → (n : Option Ends)
-            → ends_in number new i ≡ n → ends_in number new i ≡ ends_in old_number old i
+        by : (o : Option Ends) → ends_in old i ≡ o → (n : Option Ends)
+            → ends_in new i ≡ n → ends_in new i ≡ ends_in old i
         by (Some v) is n there = kept i (rw is refl)
         by None is None there = there ∙ sym is
         by None is (Some w) there = absurd (let no : false ≡ true =
             sym (ap is_some is) ∙ live_before i (rw there refl) in cc)
 
-    pub runs_stay : IsLaidOut (ends_in number new) (live_count old)
-    runs_stay = laid_same (ends_in old_number old) (ends_in number new) (live_count old) same laid
+    pub runs_stay : IsLaidOut (ends_in new) (live_count old)
+    runs_stay = laid_same (ends_in old) (ends_in new) (live_count old) same laid
 
 -- ---- entries at the indexes from 1 on
 

@@ -59,10 +59,6 @@ ticket_given s f order ends book h i g q is = let given =
 -- ---- what `place` answers
 
 module _ (s : State) (key : ℕ) (word : List ℕ) where
-  pub placed_full : is_full_of_places s ≡ true
-      → (placed s ≡ Err Full) × (after_place s key word ≡ s)
-  placed_full full = (rw full refl, rw full refl)
-
   pub placed_new : is_full_of_places s ≡ false
       → (placed s ≡ Ok (s.last + 1))
       × (after_place s key word
@@ -80,15 +76,15 @@ module _ (s : State) (t : ℕ) (word : List ℕ) (p : Place) (held : place_holde
 
 -- ---- what it leaves
 
-module _ {I : Type 0} (number : I → ℕ) (rooms : Rooms) (last : ℕ) (s : State)
-    (places places' : Ordered I Place) (stops : Content (IndexLink I StopView))
+module _ (rooms : Rooms) (last : ℕ) (s : State)
+    (places places' : Ordered Place) (stops : Content (IndexLink StopView))
     (marks : Content MarkView)
-    (book : List Entry) (b : IsBook number rooms last s places stops marks book) where
+    (book : List Entry) (b : IsBook rooms last s places stops marks book) where
   -- a new place
   module _ (p : Place) (ticket : p.ticket ≡ last + 1) (sound : IsSound (after_place s p.key p.word))
       (free : is_full_of_places s ≡ false)
-      (i g : ℕ) (added : IsAdded number i g p places places')
-      (order : in_order number places' ≡ put p (in_order number places))
+      (i g : ℕ) (added : IsAdded i g p places places')
+      (order : in_order places' ≡ put p (in_order places))
       (same_room : places'.chains.room ≡ places.chains.room)
       (same_counter : places'.chains.counter ≡ places.chains.counter) where
     abbrev now : State
@@ -102,9 +98,9 @@ module _ {I : Type 0} (number : I → ℕ) (rooms : Rooms) (last : ℕ) (s : Sta
     after_is = ap (λ q. record s { last = s.last + 1; places = put q s.places }) own
         ∙ sym (placed_new s p.key p.word free).1
 
-    pub place_kept : IsBook number rooms (last + 1) (after_place s p.key p.word) places' stops marks
+    pub place_kept : IsBook rooms (last + 1) (after_place s p.key p.word) places' stops marks
         (book ++ entry p.ticket OfPlace i g ∷ [])
-    place_kept = subst (λ z. IsBook number rooms (last + 1) z places' stops marks
+    place_kept = subst (λ z. IsBook rooms (last + 1) z places' stops marks
         (book ++ entry p.ticket OfPlace i g ∷ [])) after_is (record {
           held = subst (λ c. IsHeld now
               (record {
@@ -114,10 +110,10 @@ module _ {I : Type 0} (number : I → ℕ) (rooms : Rooms) (last : ℕ) (s : Sta
                 place_counter = c;
                 stop_counter = stops.counter;
               })
-              (in_order number places') (ends_in number stops)
+              (in_order places') (ends_in stops)
               (book ++ entry p.ticket OfPlace i g ∷ [])) (sym same_counter)
-              (place_added s (found_in places stops marks) (in_order number places)
-              (in_order number places') (ends_in number stops) book b.held p i g (entry_in places')
+              (place_added s (found_in places stops marks) (in_order places)
+              (in_order places') (ends_in stops) book b.held p i g (entry_in places')
               added.vacant added.entries (ticket ∙ ap (λ n. n + 1) (sym b.last_is)) added.generation
               order);
           places_rise = (subst IsSound (sym after_is) sound).order;
@@ -145,24 +141,24 @@ module _ {I : Type 0} (number : I → ℕ) (rooms : Rooms) (last : ℕ) (s : Sta
   -- another word for a place
   module _ (p : Place) (t : ℕ) (word : List ℕ) (held : place_holder s t ≡ Ok p)
       (sound : IsSound (after_word s t word)) (i g : ℕ)
-      (replaced : IsReplaced number i g (record p { word = word }) p places places') where
-    pub reword_kept : IsBook number rooms last (after_word s t word) places' stops marks book
+      (replaced : IsReplaced i g (record p { word = word }) p places places') where
+    pub reword_kept : IsBook rooms last (after_word s t word) places' stops marks book
     reword_kept =
         let same = found_has (λ (q : Place). q.ticket) t s.places p (held_place s t p held) in
         let at : (k : ℕ) → entry_in places' k
         ≡ option_map (reword_entry p.ticket word) (entry_in places k) =
-        as_reworded s (found_in places stops marks) (in_order number places)
-        (in_order number places') (ends_in number stops) book b.held p i g word
+        as_reworded s (found_in places stops marks) (in_order places)
+        (in_order places') (ends_in stops) book b.held p i g word
         (entry_in places') replaced.was
         replaced.entries in
-        let order : in_order number places' ≡ reworded p.ticket word (in_order number places) =
+        let order : in_order places' ≡ reworded p.ticket word (in_order places) =
         ap (along (entry_in places')) replaced.order
         ∙ along_reworded p.ticket word (entry_in places) (entry_in places') at
-        (order_in number places) in
+        (order_in places) in
         let after : record s { places = reworded p.ticket word s.places } ≡ after_word s t word =
         ap (λ k. record s { places = reworded k word s.places }) same
         ∙ sym (worded_is s t word p held).1 in
-        subst (λ z. IsBook number rooms last z places' stops marks book) after (record {
+        subst (λ z. IsBook rooms last z places' stops marks book) after (record {
           held = subst (λ c. IsHeld (record s { places = reworded p.ticket word s.places })
               (record {
                 places = entry_in places';
@@ -171,9 +167,9 @@ module _ {I : Type 0} (number : I → ℕ) (rooms : Rooms) (last : ℕ) (s : Sta
                 place_counter = c;
                 stop_counter = stops.counter;
               })
-              (in_order number places') (ends_in number stops) book) (sym replaced.kept.counter)
-              (place_reworded s (found_in places stops marks) (in_order number places)
-              (in_order number places') (ends_in number stops) book b.held p i g word
+              (in_order places') (ends_in stops) book) (sym replaced.kept.counter)
+              (place_reworded s (found_in places stops marks) (in_order places)
+              (in_order places') (ends_in stops) book b.held p i g word
               (entry_in places')
               replaced.was replaced.entries order);
           places_rise = (subst IsSound (sym after) sound).order;
@@ -197,40 +193,21 @@ module _ {I : Type 0} (number : I → ℕ) (rooms : Rooms) (last : ℕ) (s : Sta
           marks_differ = b.marks_differ;
         })
 
--- the ticket book has room for one more where no room was full
-module _ {I : Type 0} (number : I → ℕ) (rooms : Rooms) (last : ℕ) (s : State)
-    (places : Ordered I Place) (stops : Content (IndexLink I StopView)) (marks : Content MarkView)
-    (book : List Entry) (b : IsBook number rooms last s places stops marks book) (capacity : ℕ)
-    (fits : rooms.places + rooms.stops + rooms.marks ≤ capacity) where
-  pub room_for_place : is_full_of_places s ≡ false → length book < capacity
-  room_for_place free =
-      let less = not_full s free in let r = ap (λ (r : Rooms). r.places) b.within.rooms_are in
-      let n = b.within.place_count in
-      let e = b.entries in let t = b.within.stops_fit in let m = b.within.marks_fit in
-      omega (arith, less, r, n, e, t, m, fits)
-
-  -- and its arena has
-  pub arena_room : is_full_of_places s ≡ false → size_in places < arena_capacity places.chains
-  arena_room free =
-      let less = not_full s free in let r = ap (λ (r : Rooms). r.places) b.within.rooms_are in
-      let n = b.within.place_count in let room = b.within.place_room in
-      omega (arith, less, r, n, room)
-
 some_of : {T : Type 0} (o : Option T) → IsSome o → (x : T) × (o ≡ Some x)
 some_of None is = absurd (let no : false ≡ true = is in false≢true no)
 some_of (Some x) is = (x, refl)
 
 -- ---- what stays
 
-module _ {I : Type 0} (s s' : State) (places places' : Ordered I Place)
-    (stops : Content (IndexLink I StopView)) (marks : Content MarkView) (number : I → ℕ) where
-  abbrev old : Book I
+module _ (s s' : State) (places places' : Ordered Place)
+    (stops : Content (IndexLink StopView)) (marks : Content MarkView) where
+  abbrev old : Book
   old = record { state = s; places = places; stops = stops; marks = marks }
 
-  abbrev new : Book I
+  abbrev new : Book
   new = record { state = s'; places = places'; stops = stops; marks = marks }
 
-  pub kept_added : (p : Place) (i g : ℕ) → IsAdded number i g p places places'
+  pub kept_added : (p : Place) (i g : ℕ) → IsAdded i g p places places'
       → places'.chains.counter ≡ places.chains.counter → places'.chains.room ≡ places.chains.room
       → KeepsItems old new
   kept_added p i g added counter room = record {
@@ -256,7 +233,7 @@ module _ {I : Type 0} (s s' : State) (places places' : Ordered I Place)
       ]
 
   pub kept_reworded : (p : Place) (word : List ℕ) (i g : ℕ)
-      → IsReplaced number i g (record p { word = word }) p places places' → KeepsItems old new
+      → IsReplaced i g (record p { word = word }) p places places' → KeepsItems old new
   kept_reworded p word i g replaced = record {
     places = stays;
     stops = λ j n v is. is;
@@ -291,7 +268,7 @@ module _ {I : Type 0} (s s' : State) (places places' : Ordered I Place)
         | inr other ↦ (q, (replaced.entries j ∙ rw other.0 is, (refl, refl)))
       ]
 
-pub kept_same : {I : Type 0} (b : Book I) → KeepsItems b b
+pub kept_same : (b : Book) → KeepsItems b b
 kept_same b = record {
   places = λ i g p is. (p, (is, (refl, refl)));
   stops = λ i g v is. is;

@@ -91,15 +91,15 @@ pub roomy : {T : Type 0} (c c' : Content T) (m : ℕ) → c'.room ≡ c.room →
     → arena_capacity c' ≡ m
 roomy c c' m same fits = subst (λ r. capacity r ≡ m) (sym same) fits
 
-pub still_mirrored : {I T : Type 0} (c c' : Content (IndexLink I T)) (n : ℕ) → IsKept c c'
+pub still_mirrored : {T : Type 0} (c c' : Content (IndexLink T)) (n : ℕ) → IsKept c c'
     → arena_capacity c ≡ n → arena_capacity c' ≡ n
 still_mirrored c c' n kept fits = subst (λ r. capacity r ≡ n) (sym kept.room) fits
 
 -- ---- a stop that a ticket names
 
-module _ {I : Type 0} (number : I → ℕ) (rooms : Rooms) (last : ℕ) (s : State)
-    (places : Ordered I Place) (stops : Content (IndexLink I StopView)) (marks : Content MarkView)
-    (book : List Entry) (b : IsBook number rooms last s places stops marks book) where
+module _ (rooms : Rooms) (last : ℕ) (s : State)
+    (places : Ordered Place) (stops : Content (IndexLink StopView)) (marks : Content MarkView)
+    (book : List Entry) (b : IsBook rooms last s places stops marks book) where
   -- a ticket, the stop that has it, and where it stands
   pub record IsNamed (t i g : ℕ) (v : StopView) : Type 0 where
     pub found : value_if g (values_in stops i) ≡ Some v
@@ -108,35 +108,35 @@ module _ {I : Type 0} (number : I → ℕ) (rooms : Rooms) (last : ℕ) (s : Sta
   abbrev τ : StopView → ℕ
   τ x = x.ticket
 
-  module _ (agreed : IsAgreed (ends_in number stops)) (t i g : ℕ) (v : StopView)
+  module _ (agreed : IsAgreed (ends_in stops)) (t i g : ℕ) (v : StopView)
       (named : IsNamed t i g v) where
-    at : IsAt number stops i g v
-    at = is_at number stops i g v named.found
+    at : IsAt stops i g v
+    at = is_at stops i g v named.found
 
     ticket : v.ticket ≡ t
     ticket = held_ticket s t _ named.held
 
     next_is : next_stop s.routes t
-        ≡ ticket_at τ (values_in stops) (next_at (ends_in number stops) i)
+        ≡ ticket_at τ (values_in stops) (next_at (ends_in stops) i)
     next_is = ap (next_stop s.routes) (sym ticket) ∙ b.held.routes i g v at.here
 
-    next_same : next_in (ends_found number stops i g) ≡ next_at (ends_in number stops) i
+    next_same : next_in (ends_found stops i g) ≡ next_at (ends_in stops) i
     next_same = ap next_in at.ends
 
-    prev_same : prev_in (ends_found number stops i g) ≡ prev_at (ends_in number stops) i
+    prev_same : prev_in (ends_found stops i g) ≡ prev_at (ends_in stops) i
     prev_same = ap prev_in at.ends
 
-    next_none : next_in (ends_found number stops i g) ≡ None → next_stop s.routes t ≡ None
+    next_none : next_in (ends_found stops i g) ≡ None → next_stop s.routes t ≡ None
     next_none none = next_is ∙ ap (ticket_at τ (values_in stops)) (sym next_same ∙ none)
 
     -- the index that is next is live
-    next_some : (n : ℕ) → next_in (ends_found number stops i g) ≡ Some n
+    next_some : (n : ℕ) → next_in (ends_found stops i g) ≡ Some n
         → (u : ℕ) × (next_stop s.routes t ≡ Some u)
     next_some n some =
-        let is : next_at (ends_in number stops) i ≡ Some n = sym next_same ∙ some in
+        let is : next_at (ends_in stops) i ≡ Some n = sym next_same ∙ some in
         let e = some_of (values_in stops n)
-        (live_values number stops n
-        (live_prev_in (ends_in number stops n) i (agreed.forward i n is))) in (
+        (live_values stops n
+        (live_prev_in (ends_in stops n) i (agreed.forward i n is))) in (
           e.0.1.ticket,
           next_is ∙ ap (ticket_at τ (values_in stops)) is ∙ ap (option_map (λ x. τ x.1)) e.1,
         )
@@ -144,20 +144,20 @@ module _ {I : Type 0} (number : I → ℕ) (rooms : Rooms) (last : ℕ) (s : Sta
     module _ (both : (u w : ℕ)
         → (next_stop s.routes u ≡ Some w) ↔ (previous_stop s.routes w ≡ Some u)) where
       previous_is : previous_stop s.routes t
-          ≡ ticket_at τ (values_in stops) (prev_at (ends_in number stops) i)
+          ≡ ticket_at τ (values_in stops) (prev_at (ends_in stops) i)
       previous_is =
           ap (previous_stop s.routes) (sym ticket)
-          ∙ leads_back τ (values_in stops) (ends_in number stops) (next_stop s.routes)
+          ∙ leads_back τ (values_in stops) (ends_in stops) (next_stop s.routes)
           (previous_stop s.routes) b.held.routes agreed
-          (distinct s (found_in places stops marks) (in_order number places) (ends_in number stops)
-          book b.held) (live_values number stops) both known i g v at.here
+          (distinct s (found_in places stops marks) (in_order places) (ends_in stops)
+          book b.held) (live_values stops) both known i g v at.here
         where
           known : (u w : ℕ) → next_stop s.routes u ≡ Some w
               → (j : ℕ) × ((e : ℕ × StopView) × ((values_in stops j ≡ Some e) × (e.1.ticket ≡ u)))
           known u w leads =
               let x = next_known s.routes u w leads in
-              let at = stop_index s (found_in places stops marks) (in_order number places)
-              (ends_in number stops) book b.held u x.0 x.1 in (
+              let at = stop_index s (found_in places stops marks) (in_order places)
+              (ends_in stops) book b.held u x.0 x.1 in (
                 at.0,
                 (
                   at.1.0,
@@ -168,36 +168,36 @@ module _ {I : Type 0} (number : I → ℕ) (rooms : Rooms) (last : ℕ) (s : Sta
                 ),
               )
 
-      previous_none : prev_in (ends_found number stops i g) ≡ None → previous_stop s.routes t ≡ None
+      previous_none : prev_in (ends_found stops i g) ≡ None → previous_stop s.routes t ≡ None
       previous_none none = previous_is ∙ ap (ticket_at τ (values_in stops)) (sym prev_same ∙ none)
 
-      previous_some : (n : ℕ) → prev_in (ends_found number stops i g) ≡ Some n
+      previous_some : (n : ℕ) → prev_in (ends_found stops i g) ≡ Some n
           → (u : ℕ) × (previous_stop s.routes t ≡ Some u)
       previous_some n some =
-          let is : prev_at (ends_in number stops) i ≡ Some n = sym prev_same ∙ some in
+          let is : prev_at (ends_in stops) i ≡ Some n = sym prev_same ∙ some in
           let e = some_of (values_in stops n)
-          (live_values number stops n
-          (live_next_in (ends_in number stops n) i (agreed.backward n i is))) in (
+          (live_values stops n
+          (live_next_in (ends_in stops n) i (agreed.backward n i is))) in (
             e.0.1.ticket,
             previous_is ∙ ap (ticket_at τ (values_in stops)) is ∙ ap (option_map (λ x. τ x.1)) e.1,
           )
 
   -- ---- cut
 
-  module _ (agreed : IsAgreed (ends_in number stops)) (t i g : ℕ) (v : StopView)
+  module _ (agreed : IsAgreed (ends_in stops)) (t i g : ℕ) (v : StopView)
       (named : IsNamed t i g v) where
-    pub parted_ok : IsSome (next_in (ends_found number stops i g)) → parted s t ≡ Ok tt
+    pub parted_ok : IsSome (next_in (ends_found stops i g)) → parted s t ≡ Ok tt
     parted_ok some =
-        let n = some_of (next_in (ends_found number stops i g)) some in
+        let n = some_of (next_in (ends_found stops i g)) some in
         let u = next_some agreed t i g v named n.0 n.1 in
         let h = named.held in let e = u.1 in
         rw (h, e) refl
 
-    pub parted_no : (IsSome (next_in (ends_found number stops i g)) → ⊥)
+    pub parted_no : (IsSome (next_in (ends_found stops i g)) → ⊥)
         → (parted s t ≡ Err No) × (after_cut s t ≡ s)
     parted_no none =
         let e = next_none agreed t i g v named
-        (none_of (next_in (ends_found number stops i g)) none) in
+        (none_of (next_in (ends_found stops i g)) none) in
         let h = named.held in
         let no_next : parted s t ≡ Err No = rw (h, e) refl in (
           no_next,
@@ -205,55 +205,55 @@ module _ {I : Type 0} (number : I → ℕ) (rooms : Rooms) (last : ℕ) (s : Sta
               (λ ok. record s { routes = routes_of.unlinked t s.routes })) no_next,
         )
 
-    pub cut_kept : (stops' : Content (IndexLink I StopView))
-        → IsSome (next_in (ends_found number stops i g))
-        → ((q : ℕ) → next_at (ends_in number stops) i ≡ Some q
-        → IsRelinked number (unlinked (ends_in number stops) i q) stops stops')
+    pub cut_kept : (stops' : Content (IndexLink StopView))
+        → IsSome (next_in (ends_found stops i g))
+        → ((q : ℕ) → next_at (ends_in stops) i ≡ Some q
+        → IsRelinked (unlinked (ends_in stops) i q) stops stops')
         → next_stop (after_cut s t).routes t ≡ None
         → ((k : ℕ) → k ≢ t → next_stop (after_cut s t).routes k ≡ next_stop s.routes k)
         → ((k : ℕ) → stop_of (after_cut s t).routes k ≡ stop_of s.routes k)
         → length (stop_list (after_cut s t).routes) ≡ length (stop_list s.routes)
-        → IsBook number rooms last (after_cut s t) places stops' marks book
+        → IsBook rooms last (after_cut s t) places stops' marks book
     cut_kept stops' some relinked own others stay count =
-        subst (λ z. IsBook number rooms last z places stops' marks book)
+        subst (λ z. IsBook rooms last z places stops' marks book)
         (sym (only_routes s (parted s t) (routes_of.unlinked t s.routes)))
-        (relinked_kept number rooms last s places stops stops' marks book b re.values re.kept
+        (relinked_kept rooms last s places stops stops' marks book b re.values re.kept
         (after_cut s t).routes stay count
-        (lead_parted τ (values_in stops) (ends_in number stops) (ends_in number stops')
+        (lead_parted τ (values_in stops) (ends_in stops) (ends_in stops')
         (next_stop s.routes) (next_stop (after_cut s t).routes) b.held.routes
-        (distinct s (found_in places stops marks) (in_order number places) (ends_in number stops)
+        (distinct s (found_in places stops marks) (in_order places) (ends_in stops)
         book b.held) i n.0 g v here.here
         (ap (next_stop (after_cut s t).routes) own_ticket ∙ own)
         (λ k apart. others k (λ is. apart (is ∙ sym own_ticket))) re.ends))
       where
-        here : IsAt number stops i g v
+        here : IsAt stops i g v
         here = at agreed t i g v named
 
         own_ticket : v.ticket ≡ t
         own_ticket = ticket agreed t i g v named
 
-        n : (q : ℕ) × (next_in (ends_found number stops i g) ≡ Some q)
-        n = some_of (next_in (ends_found number stops i g)) some
+        n : (q : ℕ) × (next_in (ends_found stops i g) ≡ Some q)
+        n = some_of (next_in (ends_found stops i g)) some
 
-        re : IsRelinked number (unlinked (ends_in number stops) i n.0) stops stops'
+        re : IsRelinked (unlinked (ends_in stops) i n.0) stops stops'
         re = relinked n.0 (sym (next_same agreed t i g v named) ∙ n.1)
 
   -- ---- two stops
 
-  module _ (agreed : IsAgreed (ends_in number stops)) (t i g : ℕ) (v : StopView)
+  module _ (agreed : IsAgreed (ends_in stops)) (t i g : ℕ) (v : StopView)
       (named : IsNamed t i g v) (u j h : ℕ) (w : StopView) (other : IsNamed u j h w) where
-    pub swapped_ok : IsSome (next_in (ends_found number stops i g))
-        → IsSome (next_in (ends_found number stops j h)) → swapped s t u ≡ Ok tt
+    pub swapped_ok : IsSome (next_in (ends_found stops i g))
+        → IsSome (next_in (ends_found stops j h)) → swapped s t u ≡ Ok tt
     swapped_ok some more =
-        let n = some_of (next_in (ends_found number stops i g)) some in
-        let m = some_of (next_in (ends_found number stops j h)) more in
+        let n = some_of (next_in (ends_found stops i g)) some in
+        let m = some_of (next_in (ends_found stops j h)) more in
         let x = next_some agreed t i g v named n.0 n.1 in
         let y = next_some agreed u j h w other m.0 m.1 in
         let one = named.held in let two = other.held in let e = x.1 in let f = y.1 in
         rw (one, two, e, f) refl
 
-    pub swapped_no : (IsSome (next_in (ends_found number stops i g))
-        × IsSome (next_in (ends_found number stops j h)) → ⊥)
+    pub swapped_no : (IsSome (next_in (ends_found stops i g))
+        × IsSome (next_in (ends_found stops j h)) → ⊥)
         → (swapped s t u ≡ Err No) × (after_swap s t u ≡ s)
     swapped_no none = (
       refused,
@@ -262,8 +262,8 @@ module _ {I : Type 0} (number : I → ℕ) (rooms : Rooms) (last : ℕ) (s : Sta
           refused,
     )
       where
-        by : (o : Option ℕ) → next_in (ends_found number stops i g) ≡ o → (p : Option ℕ)
-            → next_in (ends_found number stops j h) ≡ p → swapped s t u ≡ Err No
+        by : (o : Option ℕ) → next_in (ends_found stops i g) ≡ o → (p : Option ℕ)
+            → next_in (ends_found stops j h) ≡ p → swapped s t u ≡ Err No
         by None e p f = let one = named.held in let two = other.held in let k =
             next_none agreed t i g v named e in rw (one, two, k) refl
         by (Some n) e None f =
@@ -275,29 +275,29 @@ module _ {I : Type 0} (number : I → ℕ) (rooms : Rooms) (last : ℕ) (s : Sta
             absurd (none (subst IsSome (sym e) refl, subst IsSome (sym f) refl))
 
         refused : swapped s t u ≡ Err No
-        refused = by (next_in (ends_found number stops i g)) refl
-            (next_in (ends_found number stops j h)) refl
+        refused = by (next_in (ends_found stops i g)) refl
+            (next_in (ends_found stops j h)) refl
 
-    pub swap_kept : (stops' : Content (IndexLink I StopView))
-        → IsSome (next_in (ends_found number stops i g))
-        → IsSome (next_in (ends_found number stops j h))
-        → ((m n : ℕ) → next_at (ends_in number stops) i ≡ Some m
-        → next_at (ends_in number stops) j ≡ Some n
-        → IsRelinked number (exchanged (ends_in number stops) i j m n) stops stops')
+    pub swap_kept : (stops' : Content (IndexLink StopView))
+        → IsSome (next_in (ends_found stops i g))
+        → IsSome (next_in (ends_found stops j h))
+        → ((m n : ℕ) → next_at (ends_in stops) i ≡ Some m
+        → next_at (ends_in stops) j ≡ Some n
+        → IsRelinked (exchanged (ends_in stops) i j m n) stops stops')
         → next_stop (after_swap s t u).routes t ≡ next_stop s.routes u
         → next_stop (after_swap s t u).routes u ≡ next_stop s.routes t
         → ((k : ℕ) → k ≢ t → k ≢ u → next_stop (after_swap s t u).routes k ≡ next_stop s.routes k)
         → ((k : ℕ) → stop_of (after_swap s t u).routes k ≡ stop_of s.routes k)
         → length (stop_list (after_swap s t u).routes) ≡ length (stop_list s.routes)
-        → IsBook number rooms last (after_swap s t u) places stops' marks book
+        → IsBook rooms last (after_swap s t u) places stops' marks book
     swap_kept stops' some more relinked own second others stay count =
-        subst (λ z. IsBook number rooms last z places stops' marks book)
+        subst (λ z. IsBook rooms last z places stops' marks book)
         (sym (only_routes s (swapped s t u) (routes_of.exchanged t u s.routes)))
-        (relinked_kept number rooms last s places stops stops' marks book b re.values re.kept later
+        (relinked_kept rooms last s places stops stops' marks book b re.values re.kept later
         stay count
-        (lead_exchanged τ (values_in stops) (ends_in number stops) (ends_in number stops')
+        (lead_exchanged τ (values_in stops) (ends_in stops) (ends_in stops')
         (next_stop s.routes) (next_stop later) b.held.routes
-        (distinct s (found_in places stops marks) (in_order number places) (ends_in number stops)
+        (distinct s (found_in places stops marks) (in_order places) (ends_in stops)
         book b.held) i j g h m.0 n.0 v w here.here there.here here.live there.live m_is n_is
         (ap (next_stop later) own_ticket ∙ own ∙ ap (next_stop s.routes) (sym other_ticket))
         (ap (next_stop later) other_ticket ∙ second ∙ ap (next_stop s.routes) (sym own_ticket))
@@ -307,10 +307,10 @@ module _ {I : Type 0} (number : I → ℕ) (rooms : Rooms) (last : ℕ) (s : Sta
         later : List Route
         later = (after_swap s t u).routes
 
-        here : IsAt number stops i g v
+        here : IsAt stops i g v
         here = at agreed t i g v named
 
-        there : IsAt number stops j h w
+        there : IsAt stops j h w
         there = at agreed u j h w other
 
         own_ticket : v.ticket ≡ t
@@ -319,19 +319,19 @@ module _ {I : Type 0} (number : I → ℕ) (rooms : Rooms) (last : ℕ) (s : Sta
         other_ticket : w.ticket ≡ u
         other_ticket = ticket agreed u j h w other
 
-        m : (q : ℕ) × (next_in (ends_found number stops i g) ≡ Some q)
-        m = some_of (next_in (ends_found number stops i g)) some
+        m : (q : ℕ) × (next_in (ends_found stops i g) ≡ Some q)
+        m = some_of (next_in (ends_found stops i g)) some
 
-        n : (q : ℕ) × (next_in (ends_found number stops j h) ≡ Some q)
-        n = some_of (next_in (ends_found number stops j h)) more
+        n : (q : ℕ) × (next_in (ends_found stops j h) ≡ Some q)
+        n = some_of (next_in (ends_found stops j h)) more
 
-        m_is : next_at (ends_in number stops) i ≡ Some m.0
+        m_is : next_at (ends_in stops) i ≡ Some m.0
         m_is = sym (next_same agreed t i g v named) ∙ m.1
 
-        n_is : next_at (ends_in number stops) j ≡ Some n.0
+        n_is : next_at (ends_in stops) j ≡ Some n.0
         n_is = sym (next_same agreed u j h w other) ∙ n.1
 
-        re : IsRelinked number (exchanged (ends_in number stops) i j m.0 n.0) stops stops'
+        re : IsRelinked (exchanged (ends_in stops) i j m.0 n.0) stops stops'
         re = relinked m.0 n.0 m_is n_is
 
     -- ---- join
@@ -339,10 +339,10 @@ module _ {I : Type 0} (number : I → ℕ) (rooms : Rooms) (last : ℕ) (s : Sta
     module _ (both : (x y : ℕ)
         → (next_stop s.routes x ≡ Some y) ↔ (previous_stop s.routes y ≡ Some x)) where
       -- where there is a bridge between them
-      bridged : IsSome (at_bridge i j (ends_found number stops i g) (ends_found number stops j h))
-          → (next_in (ends_found number stops i g) ≡ None)
-          × (prev_in (ends_found number stops j h) ≡ None)
-      bridged = by (ends_found number stops i g) (ends_found number stops j h)
+      bridged : IsSome (at_bridge i j (ends_found stops i g) (ends_found stops j h))
+          → (next_in (ends_found stops i g) ≡ None)
+          × (prev_in (ends_found stops j h) ≡ None)
+      bridged = by (ends_found stops i g) (ends_found stops j h)
         where
           of : (a d : Option ℕ) (c e : Option ℕ)
               → IsSome (at_bridge i j (Some (c, a)) (Some (d, e))) → (a ≡ None) × (d ≡ None)
@@ -357,10 +357,10 @@ module _ {I : Type 0} (number : I → ℕ) (rooms : Rooms) (last : ℕ) (s : Sta
           by (Some e) (Some f) some = of e.1 f.0 e.0 f.1 some
 
       not_bridged : (IsSome
-          (at_bridge i j (ends_found number stops i g) (ends_found number stops j h)) → ⊥)
-          → next_in (ends_found number stops i g) ≡ None
-          → prev_in (ends_found number stops j h) ≡ None → ⊥
-      not_bridged none = by (ends_found number stops i g) refl (ends_found number stops j h) refl
+          (at_bridge i j (ends_found stops i g) (ends_found stops j h)) → ⊥)
+          → next_in (ends_found stops i g) ≡ None
+          → prev_in (ends_found stops j h) ≡ None → ⊥
+      not_bridged none = by (ends_found stops i g) refl (ends_found stops j h) refl
           none
         where
           is_there : {X : Type 0} (o : Option X) → IsSome o → o ≡ None → ⊥
@@ -372,19 +372,19 @@ module _ {I : Type 0} (number : I → ℕ) (rooms : Rooms) (last : ℕ) (s : Sta
           of None (Some d) c e none x y = is_there (Some d) refl y
           of (Some a) d c e none x y = is_there (Some a) refl x
 
-          by : (o : Option Ends) → ends_found number stops i g ≡ o → (p : Option Ends)
-              → ends_found number stops j h ≡ p → (IsSome (at_bridge i j o p) → ⊥)
+          by : (o : Option Ends) → ends_found stops i g ≡ o → (p : Option Ends)
+              → ends_found stops j h ≡ p → (IsSome (at_bridge i j o p) → ⊥)
               → next_in o ≡ None → prev_in p ≡ None → ⊥
           by None e p f none x y =
-              is_there (ends_in number stops i) (at agreed t i g v named).live
+              is_there (ends_in stops i) (at agreed t i g v named).live
               (sym (at agreed t i g v named).ends ∙ e)
           by (Some c) e None f none x y =
-              is_there (ends_in number stops j) (at agreed u j h w other).live
+              is_there (ends_in stops j) (at agreed u j h w other).live
               (sym (at agreed u j h w other).ends ∙ f)
           by (Some c) e (Some d) f none x y = of c.1 d.0 c.0 d.1 none x y
 
       pub joined_ok : IsSome
-          (at_bridge i j (ends_found number stops i g) (ends_found number stops j h))
+          (at_bridge i j (ends_found stops i g) (ends_found stops j h))
           → joined s t u ≡ Ok tt
       joined_ok some =
           let free = bridged some in
@@ -394,7 +394,7 @@ module _ {I : Type 0} (number : I → ℕ) (rooms : Rooms) (last : ℕ) (s : Sta
           rw (one, two, e, f) refl
 
       pub joined_no : (IsSome
-          (at_bridge i j (ends_found number stops i g) (ends_found number stops j h)) → ⊥)
+          (at_bridge i j (ends_found stops i g) (ends_found stops j h)) → ⊥)
           → (joined s t u ≡ Err No) × (after_join s t u ≡ s)
       joined_no none = (
         refused,
@@ -403,8 +403,8 @@ module _ {I : Type 0} (number : I → ℕ) (rooms : Rooms) (last : ℕ) (s : Sta
             refused,
       )
         where
-          by : (o : Option ℕ) → next_in (ends_found number stops i g) ≡ o → (p : Option ℕ)
-              → prev_in (ends_found number stops j h) ≡ p → joined s t u ≡ Err No
+          by : (o : Option ℕ) → next_in (ends_found stops i g) ≡ o → (p : Option ℕ)
+              → prev_in (ends_found stops j h) ≡ p → joined s t u ≡ Err No
           by (Some n) e p f = let one = named.held in let two = other.held in let x =
               next_some agreed t i g v named n e in let k = x.1 in rw (one, two, k) refl
           by None e (Some m) f =
@@ -415,24 +415,24 @@ module _ {I : Type 0} (number : I → ℕ) (rooms : Rooms) (last : ℕ) (s : Sta
           by None e None f = absurd (not_bridged none e f)
 
           refused : joined s t u ≡ Err No
-          refused = by (next_in (ends_found number stops i g)) refl
-              (prev_in (ends_found number stops j h)) refl
+          refused = by (next_in (ends_found stops i g)) refl
+              (prev_in (ends_found stops j h)) refl
 
-    pub join_kept : (stops' : Content (IndexLink I StopView))
-        → IsRelinked number (linked (ends_in number stops) i j) stops stops'
+    pub join_kept : (stops' : Content (IndexLink StopView))
+        → IsRelinked (linked (ends_in stops) i j) stops stops'
         → next_stop (after_join s t u).routes t ≡ Some u
         → ((k : ℕ) → k ≢ t → next_stop (after_join s t u).routes k ≡ next_stop s.routes k)
         → ((k : ℕ) → stop_of (after_join s t u).routes k ≡ stop_of s.routes k)
         → length (stop_list (after_join s t u).routes) ≡ length (stop_list s.routes)
-        → IsBook number rooms last (after_join s t u) places stops' marks book
+        → IsBook rooms last (after_join s t u) places stops' marks book
     join_kept stops' re own others stay count =
-        subst (λ z. IsBook number rooms last z places stops' marks book)
+        subst (λ z. IsBook rooms last z places stops' marks book)
         (sym (only_routes s (joined s t u) (routes_of.linked t u s.routes)))
-        (relinked_kept number rooms last s places stops stops' marks book b re.values re.kept later
+        (relinked_kept rooms last s places stops stops' marks book b re.values re.kept later
         stay count
-        (lead_joined τ (values_in stops) (ends_in number stops) (ends_in number stops')
+        (lead_joined τ (values_in stops) (ends_in stops) (ends_in stops')
         (next_stop s.routes) (next_stop later) b.held.routes
-        (distinct s (found_in places stops marks) (in_order number places) (ends_in number stops)
+        (distinct s (found_in places stops marks) (in_order places) (ends_in stops)
         book b.held) i j g h v w here.here there.here here.live
         (ap (next_stop later) own_ticket ∙ own ∙ ap Some (sym other_ticket))
         (λ k apart. others k (λ is. apart (is ∙ sym own_ticket))) re.ends))
@@ -440,10 +440,10 @@ module _ {I : Type 0} (number : I → ℕ) (rooms : Rooms) (last : ℕ) (s : Sta
         later : List Route
         later = (after_join s t u).routes
 
-        here : IsAt number stops i g v
+        here : IsAt stops i g v
         here = at agreed t i g v named
 
-        there : IsAt number stops j h w
+        there : IsAt stops j h w
         there = at agreed u j h w other
 
         own_ticket : v.ticket ≡ t
@@ -454,9 +454,9 @@ module _ {I : Type 0} (number : I → ℕ) (rooms : Rooms) (last : ℕ) (s : Sta
 
   -- ---- the same of the store that the calls see
 
-  module _ (k : Book I)
+  module _ (k : Book)
       (view : record { state = s; places = places; stops = stops; marks = marks } ≡ k) where
-    abbrev pub NamedIn : Book I → ℕ → ℕ → ℕ → Type 0
+    abbrev pub NamedIn : Book → ℕ → ℕ → ℕ → Type 0
     NamedIn x t i g = (v : StopView) × (value_if g (values_in x.stops i) ≡ Some v)
         × (stop_holder x.state t ≡ Ok (state_stop (found_of x) v))
 
@@ -465,70 +465,70 @@ module _ {I : Type 0} (number : I → ℕ) (rooms : Rooms) (last : ℕ) (s : Sta
         (m.0, record { found = m.1; held = m.2 })
 
     -- each item keeps its pointer
-    pub relinked_keeps : (s' : State) (stops' : Content (IndexLink I StopView))
-        (wanted : ℕ → Option Ends) → IsRelinked number wanted stops stops'
+    pub relinked_keeps : (s' : State) (stops' : Content (IndexLink StopView))
+        (wanted : ℕ → Option Ends) → IsRelinked wanted stops stops'
         → KeepsItems k (record { state = s'; places = places; stops = stops'; marks = marks })
     relinked_keeps s' stops' wanted re =
         subst (λ x. KeepsItems x
         (record { state = s'; places = places; stops = stops'; marks = marks })) view
         (kept_links s s' places stops stops' marks re.values re.kept)
 
-    pub refused_keeps : (stops' : Content (IndexLink I StopView)) → stops' ≡ stops
+    pub refused_keeps : (stops' : Content (IndexLink StopView)) → stops' ≡ stops
         → KeepsItems k (record { state = s; places = places; stops = stops'; marks = marks })
     refused_keeps stops' same =
         subst (λ x. KeepsItems x
         (record { state = s; places = places; stops = stops'; marks = marks })) view
-        (subst (λ c. KeepsItems {I = I}
+        (subst (λ c. KeepsItems
         (record { state = s; places = places; stops = stops; marks = marks })
         (record { state = s; places = places; stops = c; marks = marks })) (sym same) stays)
       where
-        stays : KeepsItems {I = I}
+        stays : KeepsItems
             (record { state = s; places = places; stops = stops; marks = marks })
             (record { state = s; places = places; stops = stops; marks = marks })
         stays = kept_same (record { state = s; places = places; stops = stops; marks = marks })
 
-    module _ (agreed : IsAgreed (ends_in number stops)) (t i g : ℕ) (from : NamedIn k t i g) where
+    module _ (agreed : IsAgreed (ends_in stops)) (t i g : ℕ) (from : NamedIn k t i g) where
       abbrev own_view : StopView
       own_view = (named_in t i g from).0
 
       own_named : IsNamed t i g own_view
       own_named = (named_in t i g from).1
 
-      pub told_parted : IsSome (next_in (ends_found number stops i g)) → Ok tt ≡ parted k.state t
+      pub told_parted : IsSome (next_in (ends_found stops i g)) → Ok tt ≡ parted k.state t
       told_parted some = sym (parted_ok agreed t i g own_view own_named some)
-          ∙ ap (λ (x : Book I). parted x.state t) view
+          ∙ ap (λ (x : Book). parted x.state t) view
 
-      pub told_whole : (IsSome (next_in (ends_found number stops i g)) → ⊥)
+      pub told_whole : (IsSome (next_in (ends_found stops i g)) → ⊥)
           → (Err No ≡ parted k.state t) × (s ≡ after_cut k.state t)
       told_whole none =
           let no_next = parted_no agreed t i g own_view own_named none in (
-            sym no_next.0 ∙ ap (λ (x : Book I). parted x.state t) view,
-            sym no_next.1 ∙ ap (λ (x : Book I). after_cut x.state t) view,
+            sym no_next.0 ∙ ap (λ (x : Book). parted x.state t) view,
+            sym no_next.1 ∙ ap (λ (x : Book). after_cut x.state t) view,
           )
 
       -- the interlinks after a cut
-      pub parted_links : (stops' : Content (IndexLink I StopView))
-          → IsSome (next_in (ends_found number stops i g))
-          → ((q : ℕ) → next_at (ends_in number stops) i ≡ Some q
-          → IsRelinked number (unlinked (ends_in number stops) i q) stops stops')
-          → (q : ℕ) × IsRelinked number (unlinked (ends_in number stops) i q) stops stops'
+      pub parted_links : (stops' : Content (IndexLink StopView))
+          → IsSome (next_in (ends_found stops i g))
+          → ((q : ℕ) → next_at (ends_in stops) i ≡ Some q
+          → IsRelinked (unlinked (ends_in stops) i q) stops stops')
+          → (q : ℕ) × IsRelinked (unlinked (ends_in stops) i q) stops stops'
       parted_links stops' some relinked = let n =
-          some_of (next_in (ends_found number stops i g)) some in
+          some_of (next_in (ends_found stops i g)) some in
           (n.0, relinked n.0 (sym (next_same agreed t i g own_view own_named) ∙ n.1))
 
-      pub cut_leaves : (z : State) (stops' : Content (IndexLink I StopView)) → z ≡ after_cut s t
-          → IsSome (next_in (ends_found number stops i g))
-          → ((q : ℕ) → next_at (ends_in number stops) i ≡ Some q
-          → IsRelinked number (unlinked (ends_in number stops) i q) stops stops')
+      pub cut_leaves : (z : State) (stops' : Content (IndexLink StopView)) → z ≡ after_cut s t
+          → IsSome (next_in (ends_found stops i g))
+          → ((q : ℕ) → next_at (ends_in stops) i ≡ Some q
+          → IsRelinked (unlinked (ends_in stops) i q) stops stops')
           → (parted s t ≡ Ok tt → next_stop (after_cut s t).routes t ≡ None)
           → ((x : ℕ) → parted s t ≡ Ok tt → x ≢ t
           → next_stop (after_cut s t).routes x ≡ next_stop s.routes x)
           → ((x : ℕ) → stop_of (after_cut s t).routes x ≡ stop_of s.routes x)
           → length (stop_list (after_cut s t).routes) ≡ length (stop_list s.routes)
-          → IsBook number rooms last z places stops' marks book
+          → IsBook rooms last z places stops' marks book
       cut_leaves z stops' is some relinked own others stay count =
           let ok = parted_ok agreed t i g own_view own_named some in
-          subst (λ x. IsBook number rooms last x places stops' marks book) (sym is)
+          subst (λ x. IsBook rooms last x places stops' marks book) (sym is)
           (cut_kept agreed t i g own_view own_named stops' some relinked (own ok)
           (λ x apart. others x ok apart) stay count)
 
@@ -539,34 +539,34 @@ module _ {I : Type 0} (number : I → ℕ) (rooms : Rooms) (last : ℕ) (s : Sta
         other_named : IsNamed u j h other_view
         other_named = (named_in u j h by).1
 
-        pub told_swapped : IsSome (next_in (ends_found number stops i g))
-            × IsSome (next_in (ends_found number stops j h)) → Ok tt ≡ swapped k.state t u
+        pub told_swapped : IsSome (next_in (ends_found stops i g))
+            × IsSome (next_in (ends_found stops j h)) → Ok tt ≡ swapped k.state t u
         told_swapped some = sym
             (swapped_ok agreed t i g own_view own_named u j h other_view other_named some.0 some.1)
-            ∙ ap (λ (x : Book I). swapped x.state t u) view
+            ∙ ap (λ (x : Book). swapped x.state t u) view
 
-        pub told_unswapped : (IsSome (next_in (ends_found number stops i g))
-            × IsSome (next_in (ends_found number stops j h)) → ⊥)
+        pub told_unswapped : (IsSome (next_in (ends_found stops i g))
+            × IsSome (next_in (ends_found stops j h)) → ⊥)
             → (Err No ≡ swapped k.state t u) × (s ≡ after_swap k.state t u)
         told_unswapped none =
             let no_next = swapped_no agreed t i g own_view own_named u j h other_view other_named
             none in (
-              sym no_next.0 ∙ ap (λ (x : Book I). swapped x.state t u) view,
-              sym no_next.1 ∙ ap (λ (x : Book I). after_swap x.state t u) view,
+              sym no_next.0 ∙ ap (λ (x : Book). swapped x.state t u) view,
+              sym no_next.1 ∙ ap (λ (x : Book). after_swap x.state t u) view,
             )
 
         -- the interlinks after a swap
-        pub swapped_links : (stops' : Content (IndexLink I StopView))
-            → IsSome (next_in (ends_found number stops i g))
-            × IsSome (next_in (ends_found number stops j h))
-            → ((m n : ℕ) → next_at (ends_in number stops) i ≡ Some m
-            → next_at (ends_in number stops) j ≡ Some n
-            → IsRelinked number (exchanged (ends_in number stops) i j m n) stops stops')
-            → (m : ℕ) × ((n : ℕ) × IsRelinked number (exchanged (ends_in number stops) i j m n)
+        pub swapped_links : (stops' : Content (IndexLink StopView))
+            → IsSome (next_in (ends_found stops i g))
+            × IsSome (next_in (ends_found stops j h))
+            → ((m n : ℕ) → next_at (ends_in stops) i ≡ Some m
+            → next_at (ends_in stops) j ≡ Some n
+            → IsRelinked (exchanged (ends_in stops) i j m n) stops stops')
+            → (m : ℕ) × ((n : ℕ) × IsRelinked (exchanged (ends_in stops) i j m n)
             stops stops')
         swapped_links stops' some relinked =
-            let m = some_of (next_in (ends_found number stops i g)) some.0 in
-            let n = some_of (next_in (ends_found number stops j h)) some.1 in (
+            let m = some_of (next_in (ends_found stops i g)) some.0 in
+            let n = some_of (next_in (ends_found stops j h)) some.1 in (
               m.0,
               (
                 n.0,
@@ -575,13 +575,13 @@ module _ {I : Type 0} (number : I → ℕ) (rooms : Rooms) (last : ℕ) (s : Sta
               ),
             )
 
-        pub swap_leaves : (z : State) (stops' : Content (IndexLink I StopView))
+        pub swap_leaves : (z : State) (stops' : Content (IndexLink StopView))
             → z ≡ after_swap s t u
-            → IsSome (next_in (ends_found number stops i g))
-            × IsSome (next_in (ends_found number stops j h))
-            → ((m n : ℕ) → next_at (ends_in number stops) i ≡ Some m
-            → next_at (ends_in number stops) j ≡ Some n
-            → IsRelinked number (exchanged (ends_in number stops) i j m n) stops stops')
+            → IsSome (next_in (ends_found stops i g))
+            × IsSome (next_in (ends_found stops j h))
+            → ((m n : ℕ) → next_at (ends_in stops) i ≡ Some m
+            → next_at (ends_in stops) j ≡ Some n
+            → IsRelinked (exchanged (ends_in stops) i j m n) stops stops')
             → (swapped s t u ≡ Ok tt → next_stop (after_swap s t u).routes t ≡ next_stop s.routes u)
             → (swapped s t u ≡ Ok tt
             → next_stop (after_swap s t u).routes u ≡ next_stop s.routes t)
@@ -589,11 +589,11 @@ module _ {I : Type 0} (number : I → ℕ) (rooms : Rooms) (last : ℕ) (s : Sta
             → next_stop (after_swap s t u).routes x ≡ next_stop s.routes x)
             → ((x : ℕ) → stop_of (after_swap s t u).routes x ≡ stop_of s.routes x)
             → length (stop_list (after_swap s t u).routes) ≡ length (stop_list s.routes)
-            → IsBook number rooms last z places stops' marks book
+            → IsBook rooms last z places stops' marks book
         swap_leaves z stops' is some relinked own second others stay count =
             let ok = swapped_ok agreed t i g own_view own_named u j h other_view other_named some.0
             some.1 in
-            subst (λ x. IsBook number rooms last x places stops' marks book) (sym is)
+            subst (λ x. IsBook rooms last x places stops' marks book) (sym is)
             (swap_kept agreed t i g own_view own_named u j h other_view other_named stops' some.0
             some.1 relinked (own ok) (second ok) (λ x apart off. others x ok apart off) stay
             count)
@@ -601,35 +601,35 @@ module _ {I : Type 0} (number : I → ℕ) (rooms : Rooms) (last : ℕ) (s : Sta
         module _ (both : (x y : ℕ)
             → (next_stop s.routes x ≡ Some y) ↔ (previous_stop s.routes y ≡ Some x)) where
           pub told_joined : IsSome
-              (at_bridge i j (ends_found number stops i g) (ends_found number stops j h))
+              (at_bridge i j (ends_found stops i g) (ends_found stops j h))
               → Ok tt ≡ joined k.state t u
           told_joined some = sym
               (joined_ok agreed t i g own_view own_named u j h other_view other_named both some)
-              ∙ ap (λ (x : Book I). joined x.state t u) view
+              ∙ ap (λ (x : Book). joined x.state t u) view
 
           pub told_apart : (IsSome
-              (at_bridge i j (ends_found number stops i g) (ends_found number stops j h)) → ⊥)
+              (at_bridge i j (ends_found stops i g) (ends_found stops j h)) → ⊥)
               → (Err No ≡ joined k.state t u) × (s ≡ after_join k.state t u)
           told_apart none =
               let refused = joined_no agreed t i g own_view own_named u j h other_view other_named
               both none in (
-                sym refused.0 ∙ ap (λ (x : Book I). joined x.state t u) view,
-                sym refused.1 ∙ ap (λ (x : Book I). after_join x.state t u) view,
+                sym refused.0 ∙ ap (λ (x : Book). joined x.state t u) view,
+                sym refused.1 ∙ ap (λ (x : Book). after_join x.state t u) view,
               )
 
-          pub join_leaves : (z : State) (stops' : Content (IndexLink I StopView))
+          pub join_leaves : (z : State) (stops' : Content (IndexLink StopView))
               → z ≡ after_join s t u
-              → IsSome (at_bridge i j (ends_found number stops i g) (ends_found number stops j h))
-              → IsRelinked number (linked (ends_in number stops) i j) stops stops'
+              → IsSome (at_bridge i j (ends_found stops i g) (ends_found stops j h))
+              → IsRelinked (linked (ends_in stops) i j) stops stops'
               → (joined s t u ≡ Ok tt → next_stop (after_join s t u).routes t ≡ Some u)
               → ((x : ℕ) → joined s t u ≡ Ok tt → x ≢ t
               → next_stop (after_join s t u).routes x ≡ next_stop s.routes x)
               → ((x : ℕ) → stop_of (after_join s t u).routes x ≡ stop_of s.routes x)
               → length (stop_list (after_join s t u).routes) ≡ length (stop_list s.routes)
-              → IsBook number rooms last z places stops' marks book
+              → IsBook rooms last z places stops' marks book
           join_leaves z stops' is some re own others stay count =
               let ok = joined_ok agreed t i g own_view own_named u j h other_view other_named both
               some in
-              subst (λ x. IsBook number rooms last x places stops' marks book) (sym is)
+              subst (λ x. IsBook rooms last x places stops' marks book) (sym is)
               (join_kept agreed t i g own_view own_named u j h other_view other_named stops' re
               (own ok) (λ x apart. others x ok apart) stay count)

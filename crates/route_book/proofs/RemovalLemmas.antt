@@ -107,10 +107,10 @@ module _ (s : State) (t : ℕ) where
           (there ∙ ap Some (let same : ◌≡◌ {A = Option Item} (Some (mark n)) (Some (mark m)) =
           has in cc))
 
-module _ {I : Type 0} (number : I → ℕ) (rooms : Rooms) (last : ℕ) (s : State)
-    (places : Ordered I Place)
-    (stops : Content (IndexLink I StopView)) (marks : Content MarkView) (book : List Entry)
-    (b : IsBook number rooms last s places stops marks book) (e : Entry)
+module _ (rooms : Rooms) (last : ℕ) (s : State)
+    (places : Ordered Place)
+    (stops : Content (IndexLink StopView)) (marks : Content MarkView) (book : List Entry)
+    (b : IsBook rooms last s places stops marks book) (e : Entry)
     (found : lookup book e.ticket ≡ Some e)
     (i g : ℕ) (index : i ≡ e.index) (generation : g ≡ e.generation) where
   abbrev f : Found
@@ -149,10 +149,10 @@ module _ {I : Type 0} (number : I → ℕ) (rooms : Rooms) (last : ℕ) (s : Sta
         let m = mapped_some place (value_if g (entry_in places i)) u.0 u.1.1 in
         (m.0, (m.1.0, u.1.0 ∙ ap Ok (sym m.1.1)))
 
-    module _ (ordered : IsOrdered number places) (places' : Ordered I Place)
+    module _ (ordered : IsOrdered places) (places' : Ordered Place)
         (final : Option ℕ) (top : ℕ) (counts : final ≡ Some top)
         (calm : next_wraps final places.chains.counter ≡ false)
-        (removed : IsEntryRemoved number final i places places') where
+        (removed : IsEntryRemoved final i places places') where
       abbrev p : Place
       p = found_place.0
 
@@ -160,11 +160,11 @@ module _ {I : Type 0} (number : I → ℕ) (rooms : Rooms) (last : ℕ) (s : Sta
       ticket = place_ticket s t p found_place.1.1
 
       pub place_out : (s' : State) → IsPlaceGone s s' t → IsSound s'
-          → IsBook number rooms last s' places' stops marks (without_ticket t book)
+          → IsBook rooms last s' places' stops marks (without_ticket t book)
       place_out s' laws sound =
           subst (λ u. IsPlaceGone s s' u
-          → IsBook number rooms last s' places' stops marks (without_ticket u book)) ticket
-          (λ gone. place_leaves number rooms last s places places' stops marks book b i g p
+          → IsBook rooms last s' places' stops marks (without_ticket u book)) ticket
+          (λ gone. place_leaves rooms last s places places' stops marks book b i g p
           found_place.1.0 ordered final top counts calm removed s' gone sound) laws
 
       pub place_ends : (s' : State) → s' ≡ after_removed s t
@@ -178,12 +178,12 @@ module _ {I : Type 0} (number : I → ℕ) (rooms : Rooms) (last : ℕ) (s : Sta
             (
               record {
                 room = removed.room;
-                counter = place_steps number rooms last s places places' stops marks book b i g p
+                counter = place_steps rooms last s places places' stops marks book b i g p
                     found_place.1.0 ordered final top counts calm removed;
                 slot = (i, (removed.free, removed.slots));
                 others = subst (λ u. OthersStay (λ (q : Place). q.ticket) u (entry_in places)
                     (entry_in places')) ticket
-                    (places_stay number rooms last s places places' stops marks book b i g p
+                    (places_stay rooms last s places places' stops marks book b i g p
                     found_place.1.0 ordered final top counts calm removed);
                 stops = refl;
                 marks = refl;
@@ -205,10 +205,10 @@ module _ {I : Type 0} (number : I → ℕ) (rooms : Rooms) (last : ℕ) (s : Sta
         in
         (m.0, (m.1.0, u.1.0 ∙ ap Ok (sym m.1.1)))
 
-    module _ (chained : IsChained number stops) (stops' : Content (IndexLink I StopView))
+    module _ (chained : IsChained stops) (stops' : Content (IndexLink StopView))
         (final : Option ℕ) (top : ℕ) (counts : final ≡ Some top)
         (calm : next_wraps final stops.counter ≡ false)
-        (taken : IsTakenOut number final i stops stops') where
+        (taken : IsTakenOut final i stops stops') where
       abbrev v : StopView
       v = found_stop.0
 
@@ -216,11 +216,11 @@ module _ {I : Type 0} (number : I → ℕ) (rooms : Rooms) (last : ℕ) (s : Sta
       stop_named = stop_ticket s t (state_stop f v) found_stop.1.1
 
       pub stop_out : (s' : State) → IsStopGone s s' t → IsSound s'
-          → IsBook number rooms last s' places stops' marks (without_ticket t book)
+          → IsBook rooms last s' places stops' marks (without_ticket t book)
       stop_out s' laws sound =
           subst (λ u. IsStopGone s s' u
-          → IsBook number rooms last s' places stops' marks (without_ticket u book)) stop_named
-          (λ gone. stop_leaves number rooms last s places stops stops' marks book b i g v
+          → IsBook rooms last s' places stops' marks (without_ticket u book)) stop_named
+          (λ gone. stop_leaves rooms last s places stops stops' marks book b i g v
           found_stop.1.0 chained final top counts calm taken s' gone sound) laws
 
       pub stop_ends : (s' : State) → s' ≡ after_removed s t
@@ -234,12 +234,12 @@ module _ {I : Type 0} (number : I → ℕ) (rooms : Rooms) (last : ℕ) (s : Sta
             (
               record {
                 room = taken.room;
-                counter = stop_steps number rooms last s places stops stops' marks book b i g v
+                counter = stop_steps rooms last s places stops stops' marks book b i g v
                     found_stop.1.0 chained final top counts calm taken;
                 slot = (i, (taken.free, taken.slots));
                 others = subst (λ u. OthersStay (λ (w : StopView). w.ticket) u (values_in stops)
                     (values_in stops')) stop_named
-                    (stops_stay number rooms last s places stops stops' marks book b i g v
+                    (stops_stay rooms last s places stops stops' marks book b i g v
                     found_stop.1.0 chained final top counts calm taken);
                 places = refl;
                 marks = refl;
@@ -271,11 +271,11 @@ module _ {I : Type 0} (number : I → ℕ) (rooms : Rooms) (last : ℕ) (s : Sta
       mark_named = mark_ticket s t (state_mark f w) found_mark.1.1
 
       pub mark_out : (s' : State) → IsMarkGone s s' t → IsSound s'
-          → IsBook number rooms last s' places stops marks' (without_ticket t book)
+          → IsBook rooms last s' places stops marks' (without_ticket t book)
       mark_out s' laws sound =
           subst (λ u. IsMarkGone s s' u
-          → IsBook number rooms last s' places stops marks' (without_ticket u book)) mark_named
-          (λ gone. mark_leaves number rooms last s places stops marks marks' book b i g w
+          → IsBook rooms last s' places stops marks' (without_ticket u book)) mark_named
+          (λ gone. mark_leaves rooms last s places stops marks marks' book b i g w
           found_mark.1.0 final removed s' gone sound) laws
 
       pub mark_ends : (s' : State) → s' ≡ after_removed s t → marks' ≡ removed_of final marks i
@@ -293,7 +293,7 @@ module _ {I : Type 0} (number : I → ℕ) (rooms : Rooms) (last : ℕ) (s : Sta
                 room = removed.room;
                 others = subst (λ u. OthersStay (λ (x : MarkView). x.ticket) u (entry_at marks)
                     (entry_at marks')) mark_named
-                    (marks_stay number rooms last s places stops marks marks' book b i g w
+                    (marks_stay rooms last s places stops marks marks' book b i g w
                     found_mark.1.0 final removed);
                 places = refl;
                 stops = refl;
@@ -310,8 +310,8 @@ pub told : {A X : Type 0} (value : A → X) (answer : Option A) (x : X) (Q : Typ
 told value None x Q none h = absurd (let no : ◌≡◌ {A = Option _} None (Some x) = none in cc)
 told value (Some a) x Q some h = h
 
--- no counter starts again that is that of the kind of an entry
-pub calm_of : {I : Type 0} (last : Option ℕ) (b : Book I) (at : Option Entry) (e : Entry)
+-- the counter of the arena of an entry does not wrap
+pub calm_of : (last : Option ℕ) (b : Book) (at : Option Entry) (e : Entry)
     → at ≡ Some e
     → (x : Entry) × (at ≡ Some x) × (removal_wraps last b x.kind ≡ false)
     → (kind : Kind) → e.kind ≡ kind → removal_wraps last b kind ≡ false
@@ -320,8 +320,8 @@ calm_of last b at e is all kind same =
     (ap (λ (y : Entry). y.kind) (some_same (sym all.1 ∙ is)) ∙ same) all.2
 
 -- what ends is said of an entry that has another name
-pub ends_of : {I : Type 0} (last : Option ℕ) (at : Option Entry) (e : Entry) → at ≡ Some e
-    → (old new : Book I) (kind : Kind)
+pub ends_of : (last : Option ℕ) (at : Option Entry) (e : Entry) → at ≡ Some e
+    → (old new : Book) (kind : Kind)
     → e.kind ≡ kind → Ends last kind e.ticket old new
     → (x : Entry) → at ≡ Some x → Ends last x.kind x.ticket old new
 ends_of last at e is old new kind same h x other =
@@ -342,13 +342,13 @@ pub mark_is : (s : State) (t : ℕ) (m : Mark) → holder s t ≡ Ok (mark m)
 mark_is s t m is = rw is refl
 
 -- the link under a pointer that finds a value
-pub link_under : {J T : Type 0} (c : Content (IndexLink J T)) (i g : ℕ) (v : T)
-    → value_if g (values_in c i) ≡ Some v → (link : IndexLink J T) × (get c i g ≡ Some link)
-link_under {J} {T} c i g v found = by (entry_at c i) refl found
+pub link_under : {T : Type 0} (c : Content (IndexLink T)) (i g : ℕ) (v : T)
+    → value_if g (values_in c i) ≡ Some v → (link : IndexLink T) × (get c i g ≡ Some link)
+link_under {T} c i g v found = by (entry_at c i) refl found
   where
-    by : (o : Option (ℕ × IndexLink J T)) → entry_at c i ≡ o
+    by : (o : Option (ℕ × IndexLink T)) → entry_at c i ≡ o
         → value_if g (option_map valued o) ≡ Some v
-        → (link : IndexLink J T) × (get c i g ≡ Some link)
+        → (link : IndexLink T) × (get c i g ≡ Some link)
     by None is none = absurd (let no : ◌≡◌ {A = Option T} None (Some v) = none in cc)
     by (Some x) is some = elim (eqb_tells x.0 g) [
       | inl own ↦ (x.1, ap (value_if g) is ∙ rw own.0 refl)

@@ -52,10 +52,6 @@ stop_list-append (x ∷ rs) r = ap (λ l. x.stops ++ l) (stop_list-append rs r)
     ∙ sym (append_assoc x.stops (stop_list rs) r.stops)
 
 module _ (s : State) (t : ℕ) where
-  pub started_full : (p : Place) → place_holder s t ≡ Ok p → is_full_of_stops s ≡ true
-      → (started s t ≡ Err Full) × (after_start s t ≡ s)
-  started_full p held full = (rw (held, full) refl, rw (held, full) refl)
-
   pub started_new : (p : Place) → place_holder s t ≡ Ok p → is_full_of_stops s ≡ false
       → (started s t ≡ Ok (s.last + 1))
       × (after_start s t ≡ record s {
@@ -65,15 +61,15 @@ module _ (s : State) (t : ℕ) where
   started_new p held free = (rw (held, free) refl, rw (held, free) refl)
 
 -- a start where there is room
-module _ {I : Type 0} (number : I → ℕ) (rooms : Rooms) (last : ℕ) (s : State)
-    (places : Ordered I Place) (stops stops' : Content (IndexLink I StopView))
+module _ (rooms : Rooms) (last : ℕ) (s : State)
+    (places : Ordered Place) (stops stops' : Content (IndexLink StopView))
     (marks : Content MarkView)
-    (book : List Entry) (b : IsBook number rooms last s places stops marks book)
+    (book : List Entry) (b : IsBook rooms last s places stops marks book)
     (t : ℕ) (p : Place) (held : place_holder s t ≡ Ok p) (free : is_full_of_stops s ≡ false)
     (pi pg : ℕ) (found : value_if pg (entry_in places pi) ≡ Some p)
     (v : StopView) (i g : ℕ) (ticket : v.ticket ≡ last + 1) (to : v.place ≡ Some (pi, pg))
-    (put : IsLinkInserted number (Between None None) i g v stops stops')
-    (same_room : stops'.room ≡ stops.room) (agreed : IsAgreed (ends_in number stops))
+    (put : IsLinkInserted (Between None None) i g v stops stops')
+    (same_room : stops'.room ≡ stops.room) (agreed : IsAgreed (ends_in stops))
     (nowhere : next_stop (after_start s t).routes (s.last + 1) ≡ None)
     (as_before : (u : ℕ) → u ≢ s.last + 1
     → next_stop (after_start s t).routes u ≡ next_stop s.routes u) where
@@ -92,8 +88,8 @@ module _ {I : Type 0} (number : I → ℕ) (rooms : Rooms) (last : ℕ) (s : Sta
       rw (next, to, found, named) refl
 
   no_more : stop_of s.routes (s.last + 1) ≡ None
-  no_more = no_stop_yet s (found_in places stops marks) (in_order number places)
-      (ends_in number stops) (ends_in number stops') book b.held v i g (values_in stops') vacant
+  no_more = no_stop_yet s (found_in places stops marks) (in_order places)
+      (ends_in stops) (ends_in stops') book b.held v i g (values_in stops') vacant
       put.values next
       put.generation live (s.routes ++ own ∷ []) (s.last + 1) refl
     where
@@ -104,9 +100,9 @@ module _ {I : Type 0} (number : I → ℕ) (rooms : Rooms) (last : ℕ) (s : Sta
       live = subst (λ r. IfSome r (λ q. IsSome (value_if q.1 (entry_in places q.0)))) (sym to)
           (subst IsSome (sym found) refl)
 
-  pub start_kept : IsBook number rooms (last + 1) (after_start s t) places stops' marks
+  pub start_kept : IsBook rooms (last + 1) (after_start s t) places stops' marks
       (book ++ entry v.ticket OfStop i g ∷ [])
-  start_kept = subst (λ z. IsBook number rooms (last + 1) z places stops' marks
+  start_kept = subst (λ z. IsBook rooms (last + 1) z places stops' marks
       (book ++ entry v.ticket OfStop i g ∷ [])) (sym (started_new s t p held free).1) (record {
         held = subst (λ c. IsHeld now
             (record {
@@ -116,12 +112,12 @@ module _ {I : Type 0} (number : I → ℕ) (rooms : Rooms) (last : ℕ) (s : Sta
               place_counter = places.chains.counter;
               stop_counter = c;
             })
-            (in_order number places) (ends_in number stops')
+            (in_order places) (ends_in stops')
             (book ++ entry v.ticket OfStop i g ∷ []))
             (sym put.counter)
-            (stop_added s (found_in places stops marks) (in_order number places)
-            (ends_in number stops)
-            (ends_in number stops') book b.held v i g (values_in stops') vacant put.values
+            (stop_added s (found_in places stops marks) (in_order places)
+            (ends_in stops)
+            (ends_in stops') book b.held v i g (values_in stops') vacant put.values
             next put.generation live (s.routes ++ own ∷ []) others first
             lead);
         places_rise = b.places_rise;
@@ -151,8 +147,8 @@ module _ {I : Type 0} (number : I → ℕ) (rooms : Rooms) (last : ℕ) (s : Sta
       vacant : values_in stops i ≡ None
       vacant = ap (option_map valued) put.vacant
 
-      absent : ends_in number stops i ≡ None
-      absent = ap (option_map (entry_ends number)) put.vacant
+      absent : ends_in stops i ≡ None
+      absent = ap (option_map entry_ends) put.vacant
 
       live : IfSome v.place (λ q. IsSome (value_if q.1 (entry_in places q.0)))
       live = subst (λ r. IfSome r (λ q. IsSome (value_if q.1 (entry_in places q.0)))) (sym to)
@@ -161,15 +157,15 @@ module _ {I : Type 0} (number : I → ℕ) (rooms : Rooms) (last : ℕ) (s : Sta
       routes_are : (after_start s t).routes ≡ s.routes ++ own ∷ []
       routes_are = ap (λ (z : State). z.routes) (started_new s t p held free).1
 
-      lead : LeadAs (λ (x : StopView). x.ticket) (values_in stops') (ends_in number stops')
+      lead : LeadAs (λ (x : StopView). x.ticket) (values_in stops') (ends_in stops')
           (next_stop (s.routes ++ own ∷ []))
       lead =
-          lead_started (λ (x : StopView). x.ticket) (values_in stops) (ends_in number stops)
-          (ends_in number stops') (next_stop s.routes) (next_stop (s.routes ++ own ∷ []))
+          lead_started (λ (x : StopView). x.ticket) (values_in stops) (ends_in stops)
+          (ends_in stops') (next_stop s.routes) (next_stop (s.routes ++ own ∷ []))
           b.held.routes
-          (values_in stops') i g v agreed (live_ends number stops) absent
-          (unknown s (found_in places stops marks) (in_order number places)
-          (ends_in number stops) book b.held v next) put.values
+          (values_in stops') i g v agreed (live_ends stops) absent
+          (unknown s (found_in places stops marks) (in_order places)
+          (ends_in stops) book b.held v next) put.values
           (ap (next_stop (s.routes ++ own ∷ [])) next
           ∙ sym (ap (λ rs. next_stop rs (s.last + 1)) routes_are) ∙ nowhere)
           (λ u other. sym (ap (λ rs. next_stop rs u) routes_are)
@@ -200,15 +196,15 @@ module _ {I : Type 0} (number : I → ℕ) (rooms : Rooms) (last : ℕ) (s : Sta
           (ap (stop_of s.routes) is ∙ no_more) ∙ mine ∙ ap Some (sym stop_is)
 
 -- each item keeps its pointer where a stop is added
-pub kept_stop : {I : Type 0} (number : I → ℕ) (s s' : State) (places : Ordered I Place)
-    (stops stops' : Content (IndexLink I StopView)) (marks : Content MarkView) (v : StopView)
+pub kept_stop : (s s' : State) (places : Ordered Place)
+    (stops stops' : Content (IndexLink StopView)) (marks : Content MarkView) (v : StopView)
     (i g : ℕ)
     → ((k : ℕ) → values_in stops' k ≡ with_entry (values_in stops) i (g, v) k)
     → values_in stops i ≡ None → g ≡ stops.counter → stops'.counter ≡ stops.counter
     → stops'.room ≡ stops.room
-    → KeepsItems {I = I} (record { state = s; places = places; stops = stops; marks = marks })
+    → KeepsItems (record { state = s; places = places; stops = stops; marks = marks })
     (record { state = s'; places = places; stops = stops'; marks = marks })
-kept_stop number s s' places stops stops' marks v i g entries vacant own counter room = record {
+kept_stop s s' places stops stops' marks v i g entries vacant own counter room = record {
   places = λ j n p is. (p, (is, (refl, refl)));
   stops = stays;
   marks = λ j n m is. is;

@@ -6,7 +6,7 @@ use Rattle.std.specs.Option.{option_map, option_to_list}
 use Rattle.std.proofs.lemmas.Bool.{false≢true, ne_eqb}
 use Rattle.std.proofs.lemmas.List.{append-nil, reverse-append}
 use Rattle.triple_arena_chain.specs.Chains.{Ends, IsAgreed, next_in, prev_in, next_at, prev_at}
-use Rattle.triple_arena_chain.specs.Chains.{first_or, last_or, Stands, Off, IsLinear}
+use Rattle.triple_arena_chain.specs.Chains.{first_or, last_or, IsSegment, Off, IsLinear}
 use Rattle.triple_arena_chain.specs.ListLaws.{live_next_in}
 use Rattle.triple_arena_chain.specs.Walks.{IsWalkFrom, along as walks_along, around as walks_around}
 use Rattle.route_lines.specs.Leads.{head_or, Leads}
@@ -114,7 +114,7 @@ module _ (at : ℕ → Option Stop) (ends : ℕ → Option Ends) (next previous 
   alive : (i : ℕ) (e : Ends) → ends i ≡ Some e → (t : Stop) × (at i ≡ Some t)
   alive i e is = there (at i) (live i (ap is_some is))
 
-  stands_lead : (b a : Option ℕ) (xs : List ℕ) → Stands ends b xs a
+  stands_lead : (b a : Option ℕ) (xs : List ℕ) → IsSegment ends b xs a
       → Leads next (ticket_by at a) (along at xs)
   stands_lead b a [] h = tt
   stands_lead b a (x ∷ xs) h =
@@ -124,7 +124,7 @@ module _ (at : ℕ → Option Stop) (ends : ℕ → Option Ends) (next previous 
         stands_lead (Some x) a xs h.1,
       )
     where
-      heads : (ys : List ℕ) → Stands ends (Some x) ys a
+      heads : (ys : List ℕ) → IsSegment ends (Some x) ys a
           → ticket_by at (first_or ys a) ≡ head_or (ticket_by at a) (along at ys)
       heads [] k = refl
       heads (y ∷ ys) k =

@@ -19,8 +19,8 @@ use Rattle.route_book.specs.Removals.{IsPacked, IsPlaceEnded, IsStopEnded, IsRem
 use Rattle.route_book.specs.Removals.{Removes, Steps, kind_of, removal_wraps}
 use Rattle.route_book.specs.SweepSteps.{end_step, line_step, removal_step, tally}
 
-module _ {I : Type 0} (number : I → ℕ) (top most : ℕ) where
-  module _ (before after : ℕ) (old new : Book I) (places : old.places.chains.counter ≤ top)
+module _ (top most : ℕ) where
+  module _ (before after : ℕ) (old new : Book) (places : old.places.chains.counter ≤ top)
       (stops : old.stops.counter ≤ top) (few : references_in old.state ≤ most) where
     abbrev Is : Step → Type 0
     Is step = IsStep top most step (tally old before) (tally new after)
@@ -28,13 +28,13 @@ module _ {I : Type 0} (number : I → ℕ) (top most : ℕ) where
     other : KeepsItems old new → after ≡ before → Is Other
     other kept looks = (kept.place_counter, (kept.stop_counter, looks))
 
-    removal : (kind : Kind) (t : ℕ) → IsRemoved number (Some top) kind t before after old new
+    removal : (kind : Kind) (t : ℕ) → IsRemoved (Some top) kind t before after old new
         → Is (end_step kind (removal_wraps (Some top) old kind))
     removal OfPlace t h = elim (eqb_tells old.places.chains.counter top) [
       | inl same ↦
-          let ended : (packed : Book I)
+          let ended : (packed : Book)
           × ((packed.state ≡ old.state)
-          × (IsPacked number (Some top) before after old packed
+          × (IsPacked (Some top) before after old packed
           × IsPlaceEnded (Some top) t packed new)) = rw same.0 at h in
           let pack = ended.1.1.0 in
           let last = ended.1.1.1 in
@@ -56,9 +56,9 @@ module _ {I : Type 0} (number : I → ℕ) (top most : ℕ) where
     ]
     removal OfStop t h = elim (eqb_tells old.stops.counter top) [
       | inl same ↦
-          let ended : (packed : Book I)
+          let ended : (packed : Book)
           × ((packed.state ≡ old.state)
-          × (IsPacked number (Some top) before after old packed
+          × (IsPacked (Some top) before after old packed
           × IsStopEnded (Some top) t packed new)) = rw same.0 at h in
           let pack = ended.1.1.0 in
           let last = ended.1.1.1 in
@@ -84,15 +84,15 @@ module _ {I : Type 0} (number : I → ℕ) (top most : ℕ) where
     removal OfMark t h =
         (ap (λ p. p.chains.counter) h.1.places, (ap (λ s. s.counter) h.1.stops, h.0))
 
-    removes : (t : ℕ) (r : Result Item Refusal) → Removes number (Some top) t before after old new r
+    removes : (t : ℕ) (r : Result Item Refusal) → Removes (Some top) t before after old new r
         → Is (removal_step (Some top) old r)
     removes t (Ok item) h = removal (kind_of item) t h
     removes t (Err refusal) h =
         (ap (λ b. b.places.chains.counter) h.0, (ap (λ b. b.stops.counter) h.0, h.1))
 
-  pub is_its_step : (command : Option Command) (before after : ℕ) (old new : Book I)
+  pub is_its_step : (command : Option Command) (before after : ℕ) (old new : Book)
       → old.places.chains.counter ≤ top → old.stops.counter ≤ top → references_in old.state ≤ most
-      → Steps number (Some top) command before after old new
+      → Steps (Some top) command before after old new
       → IsStep top most (line_step (Some top) old command) (tally old before) (tally new after)
   is_its_step None before after old new p s few h = other before after old new p s few h.0 h.1
   is_its_step (Some (Remove t)) before after old new p s few h =

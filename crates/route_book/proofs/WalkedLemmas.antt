@@ -31,39 +31,39 @@ use Rattle.route_book.proofs.RelinkLemmas.{IsNamed, named_in, next_known}
 use Rattle.route_book.proofs.StopWalkLemmas.{leads_back, stops_walked, ticket_by}
 use Rattle.route_book.proofs.OptionLemmas.{found_has, some_same}
 
-module _ {I : Type 0} (number : I → ℕ) (rooms : Rooms) (last : ℕ) (s : State)
-    (places : Ordered I Place) (stops : Content (IndexLink I StopView)) (marks : Content MarkView)
-    (book : List Entry) (b : IsBook number rooms last s places stops marks book) where
+module _ (rooms : Rooms) (last : ℕ) (s : State)
+    (places : Ordered Place) (stops : Content (IndexLink StopView)) (marks : Content MarkView)
+    (book : List Entry) (b : IsBook rooms last s places stops marks book) where
   abbrev at_index : ℕ → Option Stop
   at_index = stop_in (found_in places stops marks)
 
   seen_along : (walk : List ℕ)
-      → map (λ (e : ℕ × (ℕ × IndexLink I StopView)). stop_seen (entry_in places) e.1.1.t)
+      → map (λ (e : ℕ × (ℕ × IndexLink StopView)). stop_seen (entry_in places) e.1.1.t)
       (links_along (entry_at stops) walk) ≡ along at_index walk
   seen_along [] = refl
   seen_along (i ∷ walk) = one (entry_at stops i) refl (seen_along walk)
     where
-      one : (o : Option (ℕ × IndexLink I StopView)) → entry_at stops i ≡ o
-          → map (λ (e : ℕ × (ℕ × IndexLink I StopView)). stop_seen (entry_in places) e.1.1.t)
+      one : (o : Option (ℕ × IndexLink StopView)) → entry_at stops i ≡ o
+          → map (λ (e : ℕ × (ℕ × IndexLink StopView)). stop_seen (entry_in places) e.1.1.t)
           (links_along (entry_at stops) walk) ≡ along at_index walk
-          → map (λ (e : ℕ × (ℕ × IndexLink I StopView)). stop_seen (entry_in places) e.1.1.t)
+          → map (λ (e : ℕ × (ℕ × IndexLink StopView)). stop_seen (entry_in places) e.1.1.t)
           (links_along (entry_at stops) (i ∷ walk)) ≡ along at_index (i ∷ walk)
       one None none rest = rw none rest
       one (Some e) some rest = rw some (ap (λ l. stop_seen (entry_in places) e.1.t ∷ l) rest)
 
   -- a stop at an index is one of the arena's
-  record Stands (i : ℕ) (x : Stop) : Type 0 where
+  record IsStopAt (i : ℕ) (x : Stop) : Type 0 where
     generation : ℕ
     view : StopView
     here : values_in stops i ≡ Some (generation, view)
     is : state_stop (found_in places stops marks) view ≡ x
 
-  stands : (i : ℕ) (x : Stop) → at_index i ≡ Some x → Stands i x
+  stands : (i : ℕ) (x : Stop) → at_index i ≡ Some x → IsStopAt i x
   stands i x is = by (values_in stops i) refl is
     where
       by : (o : Option (ℕ × StopView)) → values_in stops i ≡ o
           → option_map (λ (e : ℕ × StopView). state_stop (found_in places stops marks) e.1) o
-          ≡ Some x → Stands i x
+          ≡ Some x → IsStopAt i x
       by None none e = absurd (let never : ◌≡◌ {A = Option Stop} None (Some x) = e in cc)
       by (Some y) some e = record { generation = y.0; view = y.1; here = some; is = some_same e }
 
@@ -78,8 +78,8 @@ module _ {I : Type 0} (number : I → ℕ) (rooms : Rooms) (last : ℕ) (s : Sta
       by None = refl
       by (Some e) = refl
 
-  live_in : (i : ℕ) → IsSome (ends_in number stops i) → IsSome (at_index i)
-  live_in i live = by (values_in stops i) (live_values number stops i live)
+  live_in : (i : ℕ) → IsSome (ends_in stops i) → IsSome (at_index i)
+  live_in i live = by (values_in stops i) (live_values stops i live)
     where
       by : (o : Option (ℕ × StopView)) → IsSome o
           → IsSome (option_map (λ (e : ℕ × StopView). state_stop (found_in places stops marks) e.1)
@@ -87,34 +87,34 @@ module _ {I : Type 0} (number : I → ℕ) (rooms : Rooms) (last : ℕ) (s : Sta
       by None some = some
       by (Some e) some = refl
 
-  module _ (agreed : IsAgreed (ends_in number stops))
+  module _ (agreed : IsAgreed (ends_in stops))
       (both : (x y : ℕ) → (next_stop s.routes x ≡ Some y) ↔ (previous_stop s.routes y ≡ Some x))
     where
       lead : (i : ℕ) (x : Stop) → at_index i ≡ Some x
-          → next_stop s.routes x.ticket ≡ ticket_by at_index (next_at (ends_in number stops) i)
+          → next_stop s.routes x.ticket ≡ ticket_by at_index (next_at (ends_in stops) i)
       lead i x is =
           let at = stands i x is in
           ap (λ (y : Stop). next_stop s.routes y.ticket) (sym at.is)
           ∙ b.held.routes i at.generation at.view at.here
-          ∙ same_ticket (next_at (ends_in number stops) i)
+          ∙ same_ticket (next_at (ends_in stops) i)
 
       back : (i : ℕ) (x : Stop) → at_index i ≡ Some x
-          → previous_stop s.routes x.ticket ≡ ticket_by at_index (prev_at (ends_in number stops) i)
+          → previous_stop s.routes x.ticket ≡ ticket_by at_index (prev_at (ends_in stops) i)
       back i x is =
           let at = stands i x is in
           ap (λ (y : Stop). previous_stop s.routes y.ticket) (sym at.is)
-          ∙ leads_back (λ (v : StopView). v.ticket) (values_in stops) (ends_in number stops)
+          ∙ leads_back (λ (v : StopView). v.ticket) (values_in stops) (ends_in stops)
           (next_stop s.routes) (previous_stop s.routes) b.held.routes agreed
-          (distinct s (found_in places stops marks) (in_order number places) (ends_in number stops)
-          book b.held) (live_values number stops) both known i at.generation at.view at.here
-          ∙ same_ticket (prev_at (ends_in number stops) i)
+          (distinct s (found_in places stops marks) (in_order places) (ends_in stops)
+          book b.held) (live_values stops) both known i at.generation at.view at.here
+          ∙ same_ticket (prev_at (ends_in stops) i)
         where
           known : (u w : ℕ) → next_stop s.routes u ≡ Some w
               → (j : ℕ) × ((e : ℕ × StopView) × ((values_in stops j ≡ Some e) × (e.1.ticket ≡ u)))
           known u w leads =
               let y = next_known s.routes u w leads in
-              let at = stop_index s (found_in places stops marks) (in_order number places)
-              (ends_in number stops) book b.held u y.0 y.1 in (
+              let at = stop_index s (found_in places stops marks) (in_order places)
+              (ends_in stops) book b.held u y.0 y.1 in (
                 at.0,
                 (
                   at.1.0,
@@ -129,8 +129,8 @@ module _ {I : Type 0} (number : I → ℕ) (rooms : Rooms) (last : ℕ) (s : Sta
       known_in i x is =
           let at = stands i x is in
           subst (λ (y : Stop). stop_of s.routes y.ticket ≡ Some y) at.is
-          (stop_listed s (found_in places stops marks) (in_order number places)
-          (ends_in number stops)
+          (stop_listed s (found_in places stops marks) (in_order places)
+          (ends_in stops)
           book b.held i at.generation at.view at.here)
 
       apart_in : (i j : ℕ) (x y : Stop) → at_index i ≡ Some x → at_index j ≡ Some y
@@ -138,7 +138,7 @@ module _ {I : Type 0} (number : I → ℕ) (rooms : Rooms) (last : ℕ) (s : Sta
       apart_in i j x y is are same =
           let at = stands i x is in
           let on = stands j y are in
-          distinct s (found_in places stops marks) (in_order number places) (ends_in number stops)
+          distinct s (found_in places stops marks) (in_order places) (ends_in stops)
           book b.held i j at.generation on.generation at.view on.view at.here on.here
           (ap (λ (z : Stop). z.ticket) at.is ∙ same ∙ sym (ap (λ (z : Stop). z.ticket) on.is))
 
@@ -149,15 +149,15 @@ module _ {I : Type 0} (number : I → ℕ) (rooms : Rooms) (last : ℕ) (s : Sta
           → IfSome (first_item r.stops) (λ t. previous_stop s.routes t.ticket ≡ None)) s.routes
           → AllByRecursion (λ t. stop_of s.routes t.ticket ≡ Some t) (stop_list s.routes)
           → ((n : ℕ) → count_of (has_ticket n) (stop_list s.routes) ≤ 1)
-          → AreRoutes at_index (ends_in number stops) s.routes
+          → AreRoutes at_index (ends_in stops) s.routes
       routes_chained leads first known once =
-          routes_are_chains at_index (ends_in number stops) (next_stop s.routes)
+          routes_are_chains at_index (ends_in stops) (next_stop s.routes)
           (previous_stop s.routes) (λ t. stop_of s.routes t.ticket ≡ Some t) agreed live_in
           alive_in lead back apart_in index
           s.routes leads first known once
         where
-          alive_in : (i : ℕ) → IsSome (at_index i) → IsSome (ends_in number stops i)
-          alive_in i some = live_ends number stops i (by (values_in stops i) some)
+          alive_in : (i : ℕ) → IsSome (at_index i) → IsSome (ends_in stops i)
+          alive_in i some = live_ends stops i (by (values_in stops i) some)
             where
               by : (o : Option (ℕ × StopView))
                   → IsSome (option_map (λ (e : ℕ × StopView). state_stop
@@ -168,8 +168,8 @@ module _ {I : Type 0} (number : I → ℕ) (rooms : Rooms) (last : ℕ) (s : Sta
 
           index : (t : Stop) → stop_of s.routes t.ticket ≡ Some t → (i : ℕ) × (at_index i ≡ Some t)
           index t known_as =
-              let at = stop_index s (found_in places stops marks) (in_order number places)
-              (ends_in number stops) book b.held t.ticket t known_as in
+              let at = stop_index s (found_in places stops marks) (in_order places)
+              (ends_in stops) book b.held t.ticket t known_as in
               let here : at_index at.0 ≡ Some (state_stop (found_in places stops marks) at.1.0.1) =
               ap (option_map (λ (e : ℕ × StopView). state_stop (found_in places stops marks) e.1))
               at.1.1.0 in
@@ -187,34 +187,25 @@ module _ {I : Type 0} (number : I → ℕ) (rooms : Rooms) (last : ℕ) (s : Sta
           → Leads (next_stop s.routes) (Some t.ticket) (t ∷ behind)
           → count_of (has_ticket t.ticket) behind ≡ 0
           → walk_from t.ticket s.routes ≡ t ∷ behind)
-          (k : Book I) (view : record { state = s; places = places; stops = stops; marks = marks }
+          (k : Book) (view : record { state = s; places = places; stops = stops; marks = marks }
           ≡ k) (t i g : ℕ)
           (from : (v : StopView) × (value_if g (values_in k.stops i) ≡ Some v)
           × (stop_holder k.state t ≡ Ok (state_stop (found_of k) v))) where
-        abbrev own : (v : StopView) × IsNamed number rooms last s places stops marks book b t i g v
-        own = named_in number rooms last s places stops marks book b k view t i g from
+        abbrev own : (v : StopView) × IsNamed rooms last s places stops marks book b t i g v
+        own = named_in rooms last s places stops marks book b k view t i g from
 
-        own_at : IsAt number stops i g own.0
-        own_at = is_at number stops i g own.0 own.1.found
+        own_at : IsAt stops i g own.0
+        own_at = is_at stops i g own.0 own.1.found
 
-        -- the link is there
-        pub link_found : IsSome (get stops i g)
-        link_found = by (get stops i g) (subst IsSome (sym own_at.ends) own_at.live)
-          where
-            by : (o : Option (IndexLink I StopView)) → IsSome (option_map (link_ends number) o)
-                → IsSome o
-            by None some = some
-            by (Some e) some = refl
-
-        pub walked_along : (it : List (ℕ × (ℕ × IndexLink I StopView)))
-            → (walk : List ℕ) × IsWalkFrom (ends_in number stops) i walk
+        pub walked_along : (it : List (ℕ × (ℕ × IndexLink StopView)))
+            → (walk : List ℕ) × IsWalkFrom (ends_in stops) i walk
             × (it ≡ links_along (entry_at stops) walk)
-            → Ok (map (λ (e : ℕ × (ℕ × IndexLink I StopView)). stop_seen (entry_in places) e.1.1.t)
+            → Ok (map (λ (e : ℕ × (ℕ × IndexLink StopView)). stop_seen (entry_in places) e.1.1.t)
             it) ≡ walked k.state t
         walked_along it walk =
-            ap Ok (ap (map (λ (e : ℕ × (ℕ × IndexLink I StopView)). stop_seen (entry_in places)
+            ap Ok (ap (map (λ (e : ℕ × (ℕ × IndexLink StopView)). stop_seen (entry_in places)
             e.1.1.t)) walk.2 ∙ seen_along walk.0 ∙ sym whole)
-            ∙ sym answer ∙ ap (λ (x : Book I). walked x.state t) view
+            ∙ sym answer ∙ ap (λ (x : Book). walked x.state t) view
           where
             first : Stop
             first = state_stop (found_in places stops marks) own.0
@@ -232,7 +223,7 @@ module _ {I : Type 0} (number : I → ℕ) (rooms : Rooms) (last : ℕ) (s : Sta
             whole : walk_from t s.routes ≡ along at_index walk.0
             whole =
                 ap (λ n. walk_from n s.routes) (sym ticket)
-                ∙ stops_walked at_index (ends_in number stops) (next_stop s.routes)
+                ∙ stops_walked at_index (ends_in stops) (next_stop s.routes)
                 (previous_stop s.routes) s.routes live_in lead back (λ x y. (both x y).0) known_in
                 apart_in ways rounds i first
                 walk.0 here walk.1

@@ -28,23 +28,23 @@ use Rattle.route_book.proofs.BookPackLemmas.{pack_kept, no_dead_stop, no_dead_ma
 use Rattle.route_book.proofs.OptionLemmas.{mapped_some}
 
 -- what ties the parts of a store says its rooms and its last ticket as its state has them
-module _ {I : Type 0} (number : I → ℕ) (rooms : Rooms) (last : ℕ) (s : State)
-    (places : Ordered I Place)
-    (stops : Content (IndexLink I StopView)) (marks : Content MarkView) (book : List Entry)
-    (b : IsBook number rooms last s places stops marks book) where
-  pub of_state : IsBook number s.rooms s.last s places stops marks book
+module _ (rooms : Rooms) (last : ℕ) (s : State)
+    (places : Ordered Place)
+    (stops : Content (IndexLink StopView)) (marks : Content MarkView) (book : List Entry)
+    (b : IsBook rooms last s places stops marks book) where
+  pub of_state : IsBook s.rooms s.last s places stops marks book
   of_state =
-      subst (λ l. IsBook number s.rooms l s places stops marks book) (sym b.last_is)
-      (subst (λ r. IsBook number r last s places stops marks book) (sym b.within.rooms_are) b)
+      subst (λ l. IsBook s.rooms l s places stops marks book) (sym b.last_is)
+      (subst (λ r. IsBook r last s places stops marks book) (sym b.within.rooms_are) b)
 
   -- and what was changed within them, as the store has them
-  pub in_store : (s' : State) (places' : Ordered I Place) (stops' : Content (IndexLink I StopView))
+  pub in_store : (s' : State) (places' : Ordered Place) (stops' : Content (IndexLink StopView))
       (marks' : Content MarkView)
-      (book' : List Entry) → IsBook number s.rooms s.last s' places' stops' marks' book'
-      → IsBook number rooms last s' places' stops' marks' book'
+      (book' : List Entry) → IsBook s.rooms s.last s' places' stops' marks' book'
+      → IsBook rooms last s' places' stops' marks' book'
   in_store s' places' stops' marks' book' b' =
-      subst (λ l. IsBook number rooms l s' places' stops' marks' book') b.last_is
-      (subst (λ r. IsBook number r s.last s' places' stops' marks' book') b.within.rooms_are b')
+      subst (λ l. IsBook rooms l s' places' stops' marks' book') b.last_is
+      (subst (λ r. IsBook r s.last s' places' stops' marks' book') b.within.rooms_are b')
 
 -- an arena whose room stays has that of a mirror whose room stays
 pub fits_still : (room room' mirror mirror' : Room) → room' ≡ room → mirror' ≡ mirror
@@ -92,17 +92,17 @@ written {T} g f old new have writes i h x is =
     (sym (writes i) ∙ is) in
     sym (ap (λ (z : ℕ × T). z.0) was.1.1) ∙ have i was.0.0 was.0.1 was.1.0
 
-module _ {I : Type 0} (number : I → ℕ) (last : Option ℕ) (rooms : Rooms) (given : ℕ) (s : State)
-    (places places' : Ordered I Place)
-    (stops stops1 : Content (IndexLink I StopView)) (marks marks1 : Content MarkView)
-    (book : List Entry) (b : IsBook number rooms given s places stops marks book)
-    (all : IsAllCompressed number last places places' stops stops1 marks marks1)
-    (law : (o : Ordered I Place) (i : ℕ) → IsOrdered number o → IsSome (entry_in o i)
-    → On (order_in number o) i) where
-  stand : (i : ℕ) → IsSome (entry_in places i) → On (order_in number places) i
+module _ (last : Option ℕ) (rooms : Rooms) (given : ℕ) (s : State)
+    (places places' : Ordered Place)
+    (stops stops1 : Content (IndexLink StopView)) (marks marks1 : Content MarkView)
+    (book : List Entry) (b : IsBook rooms given s places stops marks book)
+    (all : IsAllCompressed last places places' stops stops1 marks marks1)
+    (law : (o : Ordered Place) (i : ℕ) → IsOrdered o → IsSome (entry_in o i)
+    → On (order_in o) i) where
+  stand : (i : ℕ) → IsSome (entry_in places i) → On (order_in places) i
   stand i some = law places i all.was_ordered some
 
-  stand' : (i : ℕ) → IsSome (entry_in places' i) → On (order_in number places') i
+  stand' : (i : ℕ) → IsSome (entry_in places' i) → On (order_in places') i
   stand' i some = law places' i all.ordered some
 
   pub ready_places : (book' : List Entry) → book' ≡ book → (room : ℕ)
@@ -110,7 +110,7 @@ module _ {I : Type 0} (number : I → ℕ) (last : Option ℕ) (rooms : Rooms) (
       → IsBooked (λ (p : Place). p.ticket) book' (entry_in places') room
   ready_places book' same room up =
       subst (λ l. IsBooked (λ (p : Place). p.ticket) l (entry_in places') room) (sym same)
-      (places_booked number last rooms given s places places' stops stops1 stops1 marks marks1
+      (places_booked last rooms given s places places' stops stops1 stops1 marks marks1
       marks1 book b all.laid stand stand' all.was_chained all.canonical all.values
       all.compressed
       room (fits (entry_in places) (arena_capacity places.chains) room refl all.place_indexes up))
@@ -119,7 +119,7 @@ module _ {I : Type 0} (number : I → ℕ) (last : Option ℕ) (rooms : Rooms) (
       → IsBooked (λ (p : StopView). p.ticket) book' (values_in stops1) room
   ready_stops book' same room up =
       subst (λ l. IsBooked (λ (p : StopView). p.ticket) l (values_in stops1) room) (sym same)
-      (stops_booked number last rooms given s places places' stops stops1 stops1 marks marks1 marks1
+      (stops_booked last rooms given s places places' stops stops1 stops1 marks marks1 marks1
       book b all.laid stand stand' all.was_chained all.canonical all.values all.compressed
       room (fits (values_in stops) (arena_capacity stops) room refl all.stop_indexes up))
 
@@ -127,27 +127,27 @@ module _ {I : Type 0} (number : I → ℕ) (last : Option ℕ) (rooms : Rooms) (
       → IsBooked (λ (p : MarkView). p.ticket) book' (entry_at marks1) room
   ready_marks book' same room up =
       subst (λ l. IsBooked (λ (p : MarkView). p.ticket) l (entry_at marks1) room) (sym same)
-      (marks_booked number last rooms given s places places' stops stops1 stops1 marks marks1 marks1
+      (marks_booked last rooms given s places places' stops stops1 stops1 marks marks1 marks1
       book b all.laid stand stand' all.was_chained all.canonical all.values all.compressed
       room (fits (entry_at marks) (arena_capacity marks) room refl all.mark_indexes up))
 
-  pub places_in_order : order_in number places' ≡ range_with_len 1 (length s.places)
+  pub places_in_order : order_in places' ≡ range_with_len 1 (length s.places)
   places_in_order = all.laid.runs ∙ ap (range_with_len 1) (sym b.within.place_count)
 
   -- the generations
   pub place_generations : HaveGeneration (second_generation last) (entry_in places')
   place_generations =
       moved_to all.laid.to (second_generation last) (entry_in places) (entry_in places')
-      (places_moved number last places places' all.laid stand stand')
+      (places_moved last places places' all.laid stand stand')
 
-  pub stop_generations : (stops' : Content (IndexLink I StopView)) (m : Mirror)
+  pub stop_generations : (stops' : Content (IndexLink StopView)) (m : Mirror)
       → ((k : ℕ) → values_in stops' k
       ≡ option_map (λ e. (e.0, recast_stop m e.1)) (values_in stops1 k))
       → HaveGeneration (second_generation last) (values_in stops')
   stop_generations stops' m recast =
       written (second_generation last) (recast_stop m) (values_in stops1) (values_in stops')
       (moved_to all.canonical.to (second_generation last) (values_in stops) (values_in stops1)
-      (stops_moved number last stops stops1 all.canonical)) recast
+      (stops_moved last stops stops1 all.canonical)) recast
 
   pub mark_generations : (marks' : Content MarkView) (m n : Mirror)
       → ((k : ℕ) → entry_at marks' k
@@ -166,7 +166,7 @@ module _ {I : Type 0} (number : I → ℕ) (last : Option ℕ) (rooms : Rooms) (
       let q = all.compressed.live in
       omega (arith, one, two, n, o, p, q)
 
-  module _ (stops' : Content (IndexLink I StopView)) (marks' : Content MarkView) (m n o : Mirror)
+  module _ (stops' : Content (IndexLink StopView)) (marks' : Content MarkView) (m n o : Mirror)
       (book1 book2 book3 : List Entry)
       (same1 : book1 ≡ book) (same2 : book2 ≡ book) (same3 : book3 ≡ book)
       (mirrored_p : (low : ℕ) → ((k : ℕ) → IsSome (entry_in places' k) → k < low)
@@ -179,7 +179,7 @@ module _ {I : Type 0} (number : I → ℕ) (last : Option ℕ) (rooms : Rooms) (
       ≡ option_map (λ e. (e.0, recast_stop m e.1)) (values_in stops1 k))
       (recast_m : (k : ℕ) → entry_at marks' k
       ≡ option_map (λ e. (e.0, recast_mark m n e.1)) (entry_at marks1 k))
-      (ends : (k : ℕ) → ends_in number stops' k ≡ ends_in number stops1 k)
+      (ends : (k : ℕ) → ends_in stops' k ≡ ends_in stops1 k)
       (stops_counter : stops'.counter ≡ stops1.counter)
       (stops_live : live_count stops' ≡ live_count stops1)
       (stops_room : stops'.room ≡ stops1.room)
@@ -218,10 +218,10 @@ module _ {I : Type 0} (number : I → ℕ) (last : Option ℕ) (rooms : Rooms) (
       in_m = subst (λ l. IsMirrored (λ (p : MarkView). p.ticket) l (entry_at marks1) low_m o) same3
           (mirrored_m low_m all_m)
 
-      pub whole_kept : IsBook number rooms given s places' stops' marks'
+      pub whole_kept : IsBook rooms given s places' stops' marks'
           (map (renewed_entry m n o) book)
       whole_kept =
-          pack_kept number last rooms given s places places' stops stops1 stops' marks marks1 marks'
+          pack_kept last rooms given s places places' stops stops1 stops' marks marks1 marks'
           book b all.laid stand stand' all.was_chained all.canonical all.values all.compressed
           m n o low_p low_s low_m in_p all_p in_s all_s in_m all_m recast_s recast_m ends
           stops_counter stops_live stops_room marks_live marks_room
@@ -229,7 +229,7 @@ module _ {I : Type 0} (number : I → ℕ) (last : Option ℕ) (rooms : Rooms) (
       pub whole_stops : (k h : ℕ) (v : StopView) → values_in stops' k ≡ Some (h, v)
           → IsLive (entry_in places') v.place
       whole_stops =
-          no_dead_stop number last rooms given s places places' stops stops1 stops' marks marks1
+          no_dead_stop last rooms given s places places' stops stops1 stops' marks marks1
           marks' book b all.laid stand stand' all.was_chained all.canonical all.values
           all.compressed
           m n o low_p low_s low_m in_p all_p in_s all_s in_m all_m recast_s recast_m ends
@@ -238,7 +238,7 @@ module _ {I : Type 0} (number : I → ℕ) (last : Option ℕ) (rooms : Rooms) (
       pub whole_marks : (k h : ℕ) (v : MarkView) → entry_at marks' k ≡ Some (h, v)
           → IsLive (entry_in places') v.place × IsLive (values_in stops') v.stop
       whole_marks =
-          no_dead_mark number last rooms given s places places' stops stops1 stops' marks marks1
+          no_dead_mark last rooms given s places places' stops stops1 stops' marks marks1
           marks' book b all.laid stand stand' all.was_chained all.canonical all.values
           all.compressed
           m n o low_p low_s low_m in_p all_p in_s all_s in_m all_m recast_s recast_m ends

@@ -14,14 +14,14 @@ use Rattle.route_book.specs.Item.{StopView, MarkView}
 
 -- places and stops are laid out in the order of their lists, marks in the order of their indexes,
 -- no index is free, and each index that was live or is live is within the room
-pub record IsAllCompressed {I : Type 0} (number : I → ℕ) (last : Option ℕ)
-    (places places' : Ordered I Place) (stops stops' : Content (IndexLink I StopView))
+pub record IsAllCompressed (last : Option ℕ)
+    (places places' : Ordered Place) (stops stops' : Content (IndexLink StopView))
     (marks marks' : Content MarkView) : Type 0 where
-  pub was_ordered : IsOrdered number places
-  pub was_chained : IsChained number stops
-  pub ordered : IsOrdered number places'
-  pub laid : IsLaidInOrder number last true places places'
-  pub canonical : IsCanonical number last true stops stops'
+  pub was_ordered : IsOrdered places
+  pub was_chained : IsChained stops
+  pub ordered : IsOrdered places'
+  pub laid : IsLaidInOrder last true places places'
+  pub canonical : IsCanonical last true stops stops'
   pub values : map value_of (live_entries marks') ≡ map value_of (live_entries marks)
   pub mark_free : marks'.free ≡ []
   pub compressed : IsCompressed entry_at live_count some_counter

@@ -107,7 +107,7 @@ abbrev pub IsLive : {T : Type 0} → (ℕ → Option (ℕ × T)) → Option (ℕ
 IsLive at r = IfSome r (λ p. IsSome (value_if p.1 (at p.0)))
 
 -- a reference is none, or it finds an item, or its generation is past: no entry gets it before the
--- counter starts again
+-- counter wraps
 abbrev pub IsSettled : {T : Type 0} → (ℕ → Option (ℕ × T)) → ℕ → Option (ℕ × ℕ) → Type 0
 IsSettled at counter r = IfSome r (λ p. IsSome (value_if p.1 (at p.0)) ⊎ (p.1 < counter))
 

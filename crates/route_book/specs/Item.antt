@@ -1,5 +1,6 @@
 -- What a contract sees of stops and marks. A pointer is its index and its generation.
 use Rattle.std.specs.Prelude.{ℕ, Option, Some, None}
+use Rattle.std.specs.Option.{option_map}
 use Rattle.route_book.specs.declared.items.Ref.{Ref}
 use Rattle.route_book.specs.declared.items.Ref.TheVariants.{To, Gone}
 
@@ -18,3 +19,7 @@ pub record MarkView : Type 0 where
 abbrev pub pointer_of : {P : Type 0} → Ref P → Option P
 pointer_of (To p) = Some p
 pointer_of Gone = None
+
+-- the index and the generation of that pointer
+abbrev pub reference_of : {P : Type 0} → (P → ℕ) → (P → ℕ) → Ref P → Option (ℕ × ℕ)
+reference_of index generation to = option_map (λ p. (index p, generation p)) (pointer_of to)

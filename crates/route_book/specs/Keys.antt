@@ -3,6 +3,8 @@ use Rattle.std.specs.Prelude.{ℕ, ◌==◌, Option, Some, if◌then◌else◌, 
 use Rattle.std.specs.Ordering.{nat_cmp, ordering_then}
 use Rattle.std.specs.declared.cmp.Ordering.{Ordering}
 use Rattle.std.specs.declared.cmp.Ordering.TheVariants.{Less, Greater}
+use Rattle.triple_arena_ord.specs.Found.{IsSimilar}
+use Rattle.triple_arena_ord.specs.Ordered.{Ordered, IsAscending, asked_at}
 use Rattle.route_lines.specs.State.{Place}
 use Rattle.route_book.specs.declared.items.PlaceKey.{PlaceKey}
 
@@ -13,6 +15,13 @@ key_cmp x y = ordering_then (nat_cmp x.key y.key) (nat_cmp x.ticket y.ticket)
 -- the key of a place in its arena
 abbrev pub key_of : Place → PlaceKey
 key_of p = record { key = p.key; ticket = p.ticket }
+
+-- a search for this key among the places gave this
+abbrev pub IsFoundFor : {P : Type 0} → (P → ℕ) → (P → ℕ) → PlaceKey → Ordered Place
+    → Option (P × Ordering) → Type 0
+IsFoundFor index generation wanted places found =
+    IsSimilar index generation (asked_at key_cmp key_of wanted places)
+    (IsAscending key_cmp key_of places) found places
 
 -- the way past a place whose key is not above a number, and else before it. It leads behind all
 -- places of that key

@@ -10,6 +10,7 @@ pub mod Compressed
 pub mod Removals
 pub mod SweepSteps
 pub mod Moving
+pub mod Running
 pub use Rattle.route_lines.specs.Calls
 pub use Rattle.route_lines.specs.CommandLine
 pub use Rattle.route_lines.specs.Grammar

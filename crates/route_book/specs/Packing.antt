@@ -1,6 +1,6 @@
 -- What a pack makes of stored references, and how a mirror is filled by tickets.
-use Rattle.std.specs.Prelude.{◌≡◌, ℕ, ◌<◌, ◌≤◌, List, Option, Some}
-use Rattle.ticket_book.specs.Mirrors.{Mirror}
+use Rattle.std.specs.Prelude.{◌≡◌, ℕ, ◌<◌, ◌≤◌, List, Option, Some, IsSome}
+use Rattle.ticket_book.specs.Mirrors.{Mirror, numbers}
 use Rattle.ticket_book.specs.Tickets.{Entry, lookup}
 use Rattle.route_book.specs.Holds.{found_by}
 use Rattle.route_book.specs.Item.{StopView, MarkView}
@@ -11,6 +11,16 @@ recast_stop m v = record v { place = found_by m v.place }
 
 abbrev pub recast_mark : Mirror → Mirror → MarkView → MarkView
 recast_mark m n v = record v { place = found_by m v.place; stop = found_by n v.stop }
+
+-- the same by mirrors whose pointers have these indexes and generations
+abbrev pub recast_stop_by : {P : Type 0} → (P → ℕ) → (P → ℕ) → (ℕ → Option (ℕ × P))
+    → StopView → StopView
+recast_stop_by index generation places = recast_stop (numbers index generation places)
+
+abbrev pub recast_mark_by : {P : Type 0} → (P → ℕ) → (P → ℕ) → (ℕ → Option (ℕ × P))
+    → (ℕ → Option (ℕ × P)) → MarkView → MarkView
+recast_mark_by index generation places stops =
+    recast_mark (numbers index generation places) (numbers index generation stops)
 
 -- each entry of the ticket book stands where it stood, with its ticket and its kind
 abbrev pub StandAs : (ℕ → Option Entry) → (ℕ → Option Entry) → Type 0
@@ -48,6 +58,11 @@ module _ {T : Type 0} (ticket : T → ℕ) where
     pub filled : (j h : ℕ) (t : T) (e : Entry) → j < low → at j ≡ Some (h, t)
         → lookup book (ticket t) ≡ Some e → m e.index ≡ Some (e.generation, (j, h))
     pub only : (i h : ℕ) (q : ℕ × ℕ) → m i ≡ Some (h, q) → IsNoted book at low i h q
+
+  -- the same for all items: each bound that is above their indexes will do
+  abbrev pub AreMirrored : List Entry → (ℕ → Option (ℕ × T)) → Mirror → Type 0
+  AreMirrored book at m = (low : ℕ) → ((k : ℕ) → IsSome (at k) → k < low)
+      → IsMirrored book at low m
 
   -- each item's ticket is in the book, under a pointer that a mirror has room for, and each under
   -- an index of its own

@@ -22,31 +22,30 @@ end_step OfStop false = EndStop
 end_step OfStop true = EndStopAfterPack
 end_step OfMark wraps = Other
 
-module _ {I : Type 0} where
-  -- the two counters of a store, beside the looks so far
-  abbrev pub tally : Book I → ℕ → Tally
-  tally b looks = record {
-    places = b.places.chains.counter;
-    stops = b.stops.counter;
-    looks = looks;
-  }
+-- the two counters of a store, beside the looks so far
+abbrev pub tally : Book → ℕ → Tally
+tally b looks = record {
+  places = b.places.chains.counter;
+  stops = b.stops.counter;
+  looks = looks;
+}
 
-  -- the step that a removal is, by what has the ticket
-  abbrev pub removal_step : Option ℕ → Book I → Result Item Refusal → Step
-  removal_step last b (Ok item) = end_step (kind_of item) (removal_wraps last b (kind_of item))
-  removal_step last b (Err refusal) = Other
+-- the step that a removal is, by what has the ticket
+abbrev pub removal_step : Option ℕ → Book → Result Item Refusal → Step
+removal_step last b (Ok item) = end_step (kind_of item) (removal_wraps last b (kind_of item))
+removal_step last b (Err refusal) = Other
 
-  -- the step that a line is
-  abbrev pub line_step : Option ℕ → Book I → Option Command → Step
-  line_step last b (Some (Remove t)) = removal_step last b (holder b.state t)
-  line_step last b (Some Pack) = PackStep
-  line_step last b command = Other
+-- the step that a line is
+abbrev pub line_step : Option ℕ → Book → Option Command → Step
+line_step last b (Some (Remove t)) = removal_step last b (holder b.state t)
+line_step last b (Some Pack) = PackStep
+line_step last b command = Other
 
-  -- what a line does is its step, where generations go up to `top` and the references are so many
-  -- at most
-  abbrev pub AreSweepSteps : (I → ℕ) → Type 0
-  AreSweepSteps number =
-      (top most : ℕ) (command : Option Command) (before after : ℕ) (old new : Book I)
-      → old.places.chains.counter ≤ top → old.stops.counter ≤ top → references_in old.state ≤ most
-      → Steps number (Some top) command before after old new
-      → IsStep top most (line_step (Some top) old command) (tally old before) (tally new after)
+-- what a line does is its step, where generations go up to `top` and the references are so many
+-- at most
+abbrev pub AreSweepSteps : Type 0
+AreSweepSteps =
+    (top most : ℕ) (command : Option Command) (before after : ℕ) (old new : Book)
+    → old.places.chains.counter ≤ top → old.stops.counter ≤ top → references_in old.state ≤ most
+    → Steps (Some top) command before after old new
+    → IsStep top most (line_step (Some top) old command) (tally old before) (tally new after)

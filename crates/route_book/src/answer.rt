@@ -1,14 +1,13 @@
 //! One line: what it does to a store, and its reply.
 ghost use Rattle.std.specs.Prelude.{◌≡◌, ◌≢◌, ◌+◌, ℕ, [], Some, OnOk, OnErr};
-ghost use Rattle.std.specs.Io.KnownBytes.{Appends};
 ghost use Rattle.route_lines.specs.Grammar.{command_of};
 ghost use Rattle.route_lines.specs.Calls.{walked};
 ghost use Rattle.route_lines.specs.Reply.{reply, next, places_text, stops_text, walk_text};
 ghost use Rattle.route_lines.specs.Searches.{CountsFor, CountsWithin, most_for};
-ghost use Rattle.route_lines.specs.Watched.{inner_of, failed_of};
-ghost use Rattle.route_lines.specs.Written.{AppendsBeginning};
+ghost use Rattle.route_lines.specs.Watched.{failed_of};
 ghost use Rattle.route_lines.specs.declared.command.Command.{Command as Asked};
 ghost use Rattle.route_book.specs.Removals.{Spares, Stays, Steps};
+ghost use Rattle.route_book.specs.Running.{AppendsBeginningTo, AppendsTo};
 
 use crate::backing::BookBacking;
 use crate::book::{RouteBook, Walk};
@@ -37,15 +36,15 @@ impl<P: PtrCore, B: BookBacking<P>> RouteBook<P, B> {
         counts: &mut Counts,
     ) -> io::Result<()>
         ensures state { self.new.state ≡ next self.old.state (command_of line.now) }
-        ensures steps { Steps P.Inx.number P.Gen.last
+        ensures steps { Steps P.Gen.last
             (command_of line.now) counts.old.looks counts.new.looks self.old self.new }
         ensures stays { Stays self.old.state (command_of line.now) self.old self.new }
         ensures others { Spares (command_of line.now) self.old self.new }
-        ensures ok { OnOk result (Appends (W.contents (inner_of writer.old))
-            (W.contents (inner_of writer.new)) (reply self.old.state (command_of line.now))) }
+        ensures ok { OnOk result (AppendsTo W.contents writer.old writer.new
+            (reply self.old.state (command_of line.now))) }
         ensures ok_failed { OnOk result (failed_of writer.new ≡ failed_of writer.old) }
-        ensures err { OnErr result (AppendsBeginning (W.contents (inner_of writer.old))
-            (W.contents (inner_of writer.new)) (reply self.old.state (command_of line.now))) }
+        ensures err { OnErr result (AppendsBeginningTo W.contents writer.old writer.new
+            (reply self.old.state (command_of line.now))) }
         ensures err_failed { OnErr result (failed_of writer.new ≡ failed_of writer.old + 1) }
         ensures counts { CountsFor self.old.state (command_of line.now) counts.old counts.new }
     {
@@ -62,15 +61,15 @@ impl<P: PtrCore, B: BookBacking<P>> RouteBook<P, B> {
         counts: &mut Counts,
     ) -> io::Result<()>
         ensures state { self.new.state ≡ next self.old.state command }
-        ensures steps { Steps P.Inx.number P.Gen.last command counts.old.looks counts.new.looks
+        ensures steps { Steps P.Gen.last command counts.old.looks counts.new.looks
             self.old self.new }
         ensures stays { Stays self.old.state command self.old self.new }
         ensures others { Spares command self.old self.new }
-        ensures ok { OnOk result (Appends (W.contents (inner_of writer.old))
-            (W.contents (inner_of writer.new)) (reply self.old.state command)) }
+        ensures ok { OnOk result (AppendsTo W.contents writer.old writer.new
+            (reply self.old.state command)) }
         ensures ok_failed { OnOk result (failed_of writer.new ≡ failed_of writer.old) }
-        ensures err { OnErr result (AppendsBeginning (W.contents (inner_of writer.old))
-            (W.contents (inner_of writer.new)) (reply self.old.state command)) }
+        ensures err { OnErr result (AppendsBeginningTo W.contents writer.old writer.new
+            (reply self.old.state command)) }
         ensures err_failed { OnErr result (failed_of writer.new ≡ failed_of writer.old + 1) }
         ensures counts { CountsFor self.old.state command counts.old counts.new }
     {
@@ -94,7 +93,7 @@ impl<P: PtrCore, B: BookBacking<P>> RouteBook<P, B> {
     fn push_reply(&mut self, command: Command, text: &mut ReplyText, counts: &mut Counts)
         requires { text.old ≡ [] }
         ensures state { self.new.state ≡ next self.old.state (Some command) }
-        ensures steps { Steps P.Inx.number P.Gen.last
+        ensures steps { Steps P.Gen.last
             (Some command) counts.old.looks counts.new.looks self.old self.new }
         ensures stays { Stays self.old.state (Some command) self.old self.new }
         ensures others { Spares (Some command) self.old self.new }
@@ -144,14 +143,13 @@ impl<P: PtrCore, B: BookBacking<P>> RouteBook<P, B> {
         counts: &mut Counts,
     ) -> io::Result<()>
         requires { text.old ≡ [] }
-        ensures ok { OnOk result (Appends (W.contents (inner_of writer.old))
-            (W.contents (inner_of writer.new)) (walk_text (walked self.now.state stop))) }
+        ensures ok { OnOk result (AppendsTo W.contents writer.old writer.new
+            (walk_text (walked self.now.state stop))) }
         ensures ok_failed { OnOk result (failed_of writer.new ≡ failed_of writer.old) }
-        ensures err { OnErr result (AppendsBeginning (W.contents (inner_of writer.old))
-            (W.contents (inner_of writer.new)) (walk_text (walked self.now.state stop))) }
+        ensures err { OnErr result (AppendsBeginningTo W.contents writer.old writer.new
+            (walk_text (walked self.now.state stop))) }
         ensures err_failed { OnErr result (failed_of writer.new ≡ failed_of writer.old + 1) }
-        ensures counts { CountsWithin counts.old counts.new
-            0 (most_for self.now.state stop) 0 }
+        ensures counts { CountsWithin counts.old counts.new 0 (most_for self.now.state stop) 0 }
     {
         match self.walk_counted(stop, counts) {
             Ok(stops) => write_stops(stops, text, writer),
@@ -170,11 +168,11 @@ fn write_places<P: PtrCore, S: OrdSlots<P, Place>, W: Write>(
     writer: &mut Watched<W>,
 ) -> io::Result<()>
     requires { text.old ≡ [] }
-    ensures ok { OnOk result (Appends (W.contents (inner_of writer.old))
-        (W.contents (inner_of writer.new)) (places_text places.entry)) }
+    ensures ok { OnOk result (AppendsTo W.contents writer.old writer.new
+        (places_text places.entry)) }
     ensures ok_failed { OnOk result (failed_of writer.new ≡ failed_of writer.old) }
-    ensures err { OnErr result (AppendsBeginning (W.contents (inner_of writer.old))
-        (W.contents (inner_of writer.new)) (places_text places.entry)) }
+    ensures err { OnErr result (AppendsBeginningTo W.contents writer.old writer.new
+        (places_text places.entry)) }
     ensures err_failed { OnErr result (failed_of writer.new ≡ failed_of writer.old + 1) }
 {
     while let Some((ticket, key, word)) = places.next() {
@@ -193,11 +191,10 @@ fn write_stops<P: PtrCore, S: OrdSlots<P, Place>, C: ChainSlots<P, Stop<P>>, W: 
     writer: &mut Watched<W>,
 ) -> io::Result<()>
     requires { text.old ≡ [] }
-    ensures ok { OnOk result (Appends (W.contents (inner_of writer.old))
-        (W.contents (inner_of writer.new)) (stops_text stops.entry)) }
+    ensures ok { OnOk result (AppendsTo W.contents writer.old writer.new (stops_text stops.entry)) }
     ensures ok_failed { OnOk result (failed_of writer.new ≡ failed_of writer.old) }
-    ensures err { OnErr result (AppendsBeginning (W.contents (inner_of writer.old))
-        (W.contents (inner_of writer.new)) (stops_text stops.entry)) }
+    ensures err { OnErr result (AppendsBeginningTo W.contents writer.old writer.new
+        (stops_text stops.entry)) }
     ensures err_failed { OnErr result (failed_of writer.new ≡ failed_of writer.old + 1) }
 {
     while let Some((ticket, place)) = stops.next() {

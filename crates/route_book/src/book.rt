@@ -1,16 +1,13 @@
 //! The store, and what its calls share.
 ghost use Rattle.std.specs.Prelude.{◌≡◌, ℕ, ◌+◌, ◌≤◌, Some, Ok, Err, IfOk, IfErr, length};
 ghost use Rattle.triple_arena.specs.Content.{entry_at, live_count};
-ghost use Rattle.triple_arena.specs.Entries.{value_if};
 ghost use Rattle.triple_arena_chain.specs.Links.{ends_in, values_in};
-ghost use Rattle.triple_arena_ord.specs.Ordered.{entry_in};
 ghost use Rattle.route_lines.specs.Calls.{place_holder, stop_holder};
 ghost use Rattle.route_lines.specs.Routes.{next_stop};
 ghost use Rattle.route_lines.specs.Searches.{most_for};
 ghost use Rattle.route_lines.specs.Sound.{IsSound};
-ghost use Rattle.route_lines.specs.State.{Place as PlaceView, holder, is_full_of_places, mark_of};
-ghost use Rattle.route_lines.specs.State.{stop_list, stop_of};
-ghost use Rattle.route_book.specs.Book.{found_of, in_order};
+ghost use Rattle.route_lines.specs.State.{holder, is_full_of_places, mark_of, stop_list, stop_of};
+ghost use Rattle.route_book.specs.Book.{FindsPlace, FindsStop, found_of, in_order};
 ghost use Rattle.route_book.specs.Follows.{AreRoutes, LeadAs};
 ghost use Rattle.route_book.specs.Holds.{IsItem, state_mark, state_stop};
 ghost use Rattle.route_book.specs.Item.{MarkView, StopView};
@@ -30,6 +27,7 @@ mod walking;
 use crate::backing::BookBacking;
 use crate::items::{Mark, Place, Stop};
 use crate::parts::Mirrors;
+use proof_marks::recall;
 use route_lines::laws::{routes_lead_along, stops_follow_their_previous_ones};
 use route_lines::{Held, Refusal};
 use std::marker::Model;
@@ -69,13 +67,13 @@ impl<P: PtrCore, B: BookBacking<P>> Model for RouteBook<P, B> {
     ghost use Rattle.route_lines.specs.Sound.{IsSound};
     ghost use Rattle.route_book.specs.Rooms.{counts_short};
 
-    ghost Value = { Book P.Inx };
+    ghost Value = { Book };
 
     ghost view = { λ b. record
         { state = b.held.state; places = b.places; stops = b.stops; marks = b.marks } };
 
     ghost invariant = { λ b. record {
-      book : IsBook P.Inx.number
+      book : IsBook
           (record { places = b.place_room; stops = b.stop_room; marks = b.mark_room }) b.last
           b.held.state b.places b.stops b.marks b.tickets.entries;
       sound : IsSound b.held.state;
@@ -108,9 +106,8 @@ impl<P: PtrCore, B: BookBacking<P>> RouteBook<P, B> {
     // The pointer to the living place that has a ticket.
     pub(crate) fn find_place(&self, ticket: u64, probes: &mut Probes) -> Result<P, Refusal>
         ensures refused { IfErr result (λ e. place_holder self.now.state ticket ≡ Err e) }
-        ensures found { IfOk result (λ p. (place : PlaceView)
-            × (value_if (P.generation p) (entry_in self.now.places (P.index p)) ≡ Some place)
-            × (place_holder self.now.state ticket ≡ Ok place)) }
+        ensures found { IfOk result
+            (λ p. FindsPlace self.now ticket (P.index p) (P.generation p)) }
         ensures bound { probes.new ≤ probes.old + most_for self.now.state ticket }
         ensures rises { probes.old ≤ probes.new }
     {
@@ -125,9 +122,7 @@ impl<P: PtrCore, B: BookBacking<P>> RouteBook<P, B> {
     // The pointer to the living stop that has a ticket.
     pub(crate) fn find_stop(&self, ticket: u64, probes: &mut Probes) -> Result<P, Refusal>
         ensures refused { IfErr result (λ e. stop_holder self.now.state ticket ≡ Err e) }
-        ensures found { IfOk result (λ p. (stop : StopView)
-            × (value_if (P.generation p) (values_in self.now.stops (P.index p)) ≡ Some stop)
-            × (stop_holder self.now.state ticket ≡ Ok (state_stop (found_of self.now) stop))) }
+        ensures found { IfOk result (λ p. FindsStop self.now ticket (P.index p) (P.generation p)) }
         ensures bound { probes.new ≤ probes.old + most_for self.now.state ticket }
         ensures rises { probes.old ≤ probes.new }
     {
@@ -150,7 +145,7 @@ impl<P: PtrCore, B: BookBacking<P>> RouteBook<P, B> {
     pub fn places_arena(&self) -> &SimpleOrdArena<P, Place, B::Places>
         ensures content { result.now ≡ self.now.places }
         ensures sound { IsSound self.now.state }
-        ensures order { self.now.state.places ≡ in_order P.Inx.number result.now }
+        ensures order { self.now.state.places ≡ in_order result.now }
     {
         &self.places
     }
@@ -161,10 +156,9 @@ impl<P: PtrCore, B: BookBacking<P>> RouteBook<P, B> {
         ensures content { result.now ≡ self.now.stops }
         ensures sound { IsSound self.now.state }
         ensures routes { AreRoutes (stop_in (found_of self.now))
-            (ends_in P.Inx.number result.now) self.now.state.routes }
+            (ends_in result.now) self.now.state.routes }
         ensures next { LeadAs (λ (t : StopView). t.ticket) (values_in result.now)
-            (ends_in P.Inx.number result.now)
-            (next_stop self.now.state.routes) }
+            (ends_in result.now) (next_stop self.now.state.routes) }
         ensures items { (i g : ℕ) (t : StopView) → values_in result.now i ≡ Some (g, t)
             → stop_of self.now.state.routes t.ticket ≡ Some (state_stop (found_of self.now) t) }
         ensures count { live_count result.now ≡ length (stop_list self.now.state.routes) }
@@ -172,7 +166,7 @@ impl<P: PtrCore, B: BookBacking<P>> RouteBook<P, B> {
         routes_lead_along();
         stops_follow_their_previous_ones();
         // The links are as they must be.
-        let _ = self.stops.len();
+        recall!(self.stops.len());
         &self.stops
     }
 

@@ -1,12 +1,13 @@
 //! The program over a store: its arguments, its exit status, and what it tells.
 ghost use Rattle.std.specs.Prelude.{◌≡◌, ◌<◌, ◌≤◌, ◌+◌, ◌^◌, ◌↔◌, Some, None, Err, IfSome, IfOk};
 ghost use Rattle.std.specs.Prelude.{IfErr, IsErr, IsNone, codes, map, string_bytes};
-ghost use Rattle.route_lines.specs.CommandLine.{Answers, EndsAtFault, Tells, refusal_of};
-ghost use Rattle.route_lines.specs.CommandLine.{refused_line, room_sum, rooms_of};
+ghost use Rattle.route_lines.specs.CommandLine.{EndsAtFault, refusal_of, refused_line, room_sum};
+ghost use Rattle.route_lines.specs.CommandLine.{rooms_of};
 ghost use Rattle.route_lines.specs.State.{Rooms, empty};
-ghost use Rattle.route_book.specs.Rooms.{refusal_of as refusal_over};
+ghost use Rattle.route_book.specs.Rooms.{refusal_of as refusal_over, rooms_for};
+ghost use Rattle.route_book.specs.Running.{AnswersInput, TellsOn};
 ghost use Rattle.route_lines.specs.declared.refusal.RoomError.{RoomError as Refused};
-ghost use Rattle.route_lines.specs.Watched.{inner_of, failed_of};
+ghost use Rattle.route_lines.specs.Watched.{failed_of};
 
 use crate::backing::{BookBacking, OnHeap};
 use crate::book::RouteBook;
@@ -48,9 +49,8 @@ pub fn program<R: Read, W: Write, E: Write>(
 
     // The whole input is answered, and no call failed.
     ensures answered { result ≡ 0 → IfSome (rooms_of (map string_bytes args.now))
-        (λ rooms. Answers rooms (R.remaining (inner_of input.old))
-        (R.remaining (inner_of input.new)) (W.contents (inner_of output.old))
-        (W.contents (inner_of output.new))) }
+        (λ rooms. AnswersInput R.remaining W.contents rooms input.old input.new output.old
+        output.new) }
     ensures unfailed { result ≡ 0 → (failed_of input.new ≡ failed_of input.old)
         × (failed_of output.new ≡ failed_of output.old) }
     ensures silent { result ≡ 0 → errors.new ≡ errors.old }
@@ -62,13 +62,10 @@ pub fn program<R: Read, W: Write, E: Write>(
         output.new errors.old errors.new) }
 
     // The line that says why the input was not read.
-    ensures told_usage { result ≡ 2
-        → Tells (failed_of errors.old) (failed_of errors.new) (E.contents (inner_of errors.old))
-        (E.contents (inner_of errors.new)) (codes "usage: route_book PLACES STOPS MARKS") }
+    ensures told_usage { result ≡ 2 → TellsOn E.contents errors.old errors.new
+        (codes "usage: route_book PLACES STOPS MARKS") }
     ensures told_room { result ≡ 3 → IfSome (rooms_of (map string_bytes args.now))
-        (λ rooms. Tells (failed_of errors.old) (failed_of errors.new)
-        (E.contents (inner_of errors.old)) (E.contents (inner_of errors.new))
-        (refused_line (refusal_of rooms))) }
+        (λ rooms. TellsOn E.contents errors.old errors.new (refused_line (refusal_of rooms))) }
 {
     let Some((places, stops, marks)) = read_rooms(args) else {
         tell(errors, b"usage: route_book PLACES STOPS MARKS\n");
@@ -103,17 +100,15 @@ fn serve<P: PtrCore, R: Read, W: Write, E: Write>(
         × (errors.new ≡ errors.old) }
     ensures status { IfOk result (λ status. status ≤ 1) }
     ensures answered { IfOk result (λ status. status ≡ 0
-        → Answers (record { places = places; stops = stops; marks = marks })
-        (R.remaining (inner_of input.old)) (R.remaining (inner_of input.new))
-        (W.contents (inner_of output.old)) (W.contents (inner_of output.new))) }
+        → AnswersInput R.remaining W.contents (rooms_for places stops marks) input.old input.new
+        output.old output.new) }
     ensures unfailed { IfOk result (λ status. status ≡ 0
         → (failed_of input.new ≡ failed_of input.old)
         × (failed_of output.new ≡ failed_of output.old)) }
     ensures silent { IfOk result (λ status. status ≡ 0 → errors.new ≡ errors.old) }
-    ensures fault { IfOk result (λ status. status ≡ 1 →
-        EndsAtFault R.remaining W.contents E.contents
-        (record { places = places; stops = stops; marks = marks }) input.old input.new output.old
-        output.new errors.old errors.new) }
+    ensures fault { IfOk result (λ status. status ≡ 1
+        → EndsAtFault R.remaining W.contents E.contents (rooms_for places stops marks) input.old
+        input.new output.old output.new errors.old errors.new) }
 {
     let mut book = RouteBook::<P, OnHeap>::new(&OnHeap(alloc), places, stops, marks)?;
     Ok(run_and_tell(&mut book, input, output, errors))
@@ -129,8 +124,7 @@ fn run_and_tell<P: PtrCore, B: BookBacking<P>, R: Read, W: Write, E: Write>(
 ) -> u8
     ensures status { result ≤ 1 }
     ensures answered { (rooms : Rooms) → book.old.state ≡ empty rooms 0 → result ≡ 0
-        → Answers rooms (R.remaining (inner_of input.old)) (R.remaining (inner_of input.new))
-        (W.contents (inner_of output.old)) (W.contents (inner_of output.new)) }
+        → AnswersInput R.remaining W.contents rooms input.old input.new output.old output.new }
     ensures unfailed { result ≡ 0 → (failed_of input.new ≡ failed_of input.old)
         × (failed_of output.new ≡ failed_of output.old) }
     ensures silent { result ≡ 0 → errors.new ≡ errors.old }

@@ -1,7 +1,6 @@
 //! What the arenas of a store hold: places, stops and marks, and references between them.
 ghost use Rattle.std.specs.Prelude.{◌≡◌};
-ghost use Rattle.std.specs.Option.{option_map};
-ghost use Rattle.route_book.specs.Item.{pointer_of};
+ghost use Rattle.route_book.specs.Item.{reference_of};
 
 use route_lines::Word;
 use std::marker::Model;
@@ -14,9 +13,9 @@ use triple_arena_ptr::PtrCore;
 /// A pointer that finds nothing in its arena is a reference to an item that has ended.
 #[derive(Clone, Copy)]
 pub enum Ref<P> {
-    /// To what the pointer finds.
+    /// A reference to the item that the pointer finds, if it finds one.
     To(P),
-    /// To nothing.
+    /// A reference to an item that is gone.
     Gone,
 }
 
@@ -61,7 +60,7 @@ impl Place {
         self.key.ticket
     }
 
-    /// The key as a number. `key` lends it, for the arena.
+    /// The key as a number. `key` borrows the key as the arena orders it, with the ticket.
     pub fn key_number(&self) -> u64
         ensures { result ≡ self.now.key }
     {
@@ -104,22 +103,20 @@ pub struct Stop<P: PtrCore> {
 }
 
 impl<P: PtrCore> Model for Stop<P> {
-    ghost use Rattle.std.specs.Option.{option_map};
-    ghost use Rattle.route_book.specs.Item.{StopView, pointer_of};
+    ghost use Rattle.route_book.specs.Item.{StopView, reference_of};
 
     ghost Value = { StopView };
 
     ghost view = { λ t. record {
       ticket = t.ticket;
-      place = option_map (λ p. (P.index p, P.generation p)) (pointer_of t.place);
+      place = reference_of P.index P.generation t.place;
     } };
 }
 
 impl<P: PtrCore> Stop<P> {
     pub(crate) fn new(ticket: u64, place: Ref<P>) -> Self
         ensures ticket { result.ticket ≡ ticket }
-        ensures place { result.place ≡ option_map (λ p. (P.index p, P.generation p))
-            (pointer_of place) }
+        ensures place { result.place ≡ reference_of P.index P.generation place }
     {
         Stop { ticket, place }
     }
@@ -133,8 +130,7 @@ impl<P: PtrCore> Stop<P> {
 
     /// The place that it stands for.
     pub fn place(&self) -> Ref<P>
-        ensures { option_map (λ p. (P.index p, P.generation p)) (pointer_of result)
-            ≡ self.now.place }
+        ensures { reference_of P.index P.generation result ≡ self.now.place }
     {
         self.place
     }
@@ -149,25 +145,22 @@ pub struct Mark<P: PtrCore> {
 }
 
 impl<P: PtrCore> Model for Mark<P> {
-    ghost use Rattle.std.specs.Option.{option_map};
-    ghost use Rattle.route_book.specs.Item.{MarkView, pointer_of};
+    ghost use Rattle.route_book.specs.Item.{MarkView, reference_of};
 
     ghost Value = { MarkView };
 
     ghost view = { λ m. record {
       ticket = m.ticket;
-      place = option_map (λ p. (P.index p, P.generation p)) (pointer_of m.place);
-      stop = option_map (λ p. (P.index p, P.generation p)) (pointer_of m.stop);
+      place = reference_of P.index P.generation m.place;
+      stop = reference_of P.index P.generation m.stop;
     } };
 }
 
 impl<P: PtrCore> Mark<P> {
     pub(crate) fn new(ticket: u64, place: Ref<P>, stop: Ref<P>) -> Self
         ensures ticket { result.ticket ≡ ticket }
-        ensures place { result.place ≡ option_map (λ p. (P.index p, P.generation p))
-            (pointer_of place) }
-        ensures stop { result.stop ≡ option_map (λ p. (P.index p, P.generation p))
-            (pointer_of stop) }
+        ensures place { result.place ≡ reference_of P.index P.generation place }
+        ensures stop { result.stop ≡ reference_of P.index P.generation stop }
     {
         Mark {
             ticket,
@@ -185,16 +178,14 @@ impl<P: PtrCore> Mark<P> {
 
     /// The place that it names.
     pub fn place(&self) -> Ref<P>
-        ensures { option_map (λ p. (P.index p, P.generation p)) (pointer_of result)
-            ≡ self.now.place }
+        ensures { reference_of P.index P.generation result ≡ self.now.place }
     {
         self.place
     }
 
     /// The stop that it names.
     pub fn stop(&self) -> Ref<P>
-        ensures { option_map (λ p. (P.index p, P.generation p)) (pointer_of result)
-            ≡ self.now.stop }
+        ensures { reference_of P.index P.generation result ≡ self.now.stop }
     {
         self.stop
     }

@@ -21,8 +21,8 @@
 //! moves all to it.
 //!
 //! A removal leaves the references to its item as they are; they find nothing. A pack moves all
-//! items to the first indexes, and makes each reference that finds nothing `Gone`. A pointer into a
-//! lent arena that a caller kept may find another item after a pack, or none.
+//! items to the first indexes, and makes each reference that finds nothing `Gone`. A pointer that a
+//! caller kept from one of the arenas may find another item after a pack, or none.
 #![tactic(auto)]
 
 // A call of `len` or `capacity` whose result is dropped tells the proof an invariant.

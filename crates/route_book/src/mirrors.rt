@@ -1,5 +1,5 @@
 //! Mirrors, which lead from old pointers to new ones: how a pack fills them by tickets.
-ghost use Rattle.std.specs.Prelude.{◌≡◌, ℕ, ◌+◌, ◌<◌, IsSome, Some, ⊤};
+ghost use Rattle.std.specs.Prelude.{◌≡◌, ℕ, ◌+◌, Some, ⊤};
 ghost use Rattle.triple_arena.specs.Content.{entry_at as mark_at};
 ghost use Rattle.triple_arena.specs.DirectContent.{entry_at, arena_capacity, IsPlace};
 ghost use Rattle.triple_arena.specs.Entries.{generation_at, with_entry};
@@ -8,9 +8,10 @@ ghost use Rattle.triple_arena_ord.specs.Ordered.{entry_in};
 ghost use Rattle.ticket_book.specs.Mirrors.{numbers};
 ghost use Rattle.route_lines.specs.State.{Place as PlaceView};
 ghost use Rattle.route_book.specs.Item.{MarkView, StopView};
-ghost use Rattle.route_book.specs.Packing.{IsBooked, IsMirrored};
+ghost use Rattle.route_book.specs.Packing.{AreMirrored, IsBooked, IsMirrored};
 
 use crate::items::{Mark, Place, Stop};
+use proof_marks::unreached;
 use ticket_book::{Entry, TicketBook};
 use triple_arena::{
     Advancer, Arena, ArenaDirectInsertEntryTrait, ArenaDirectInsertTrait, ArenaSlots, ArenaTrait,
@@ -19,7 +20,6 @@ use triple_arena::{
 use triple_arena_chain::{ChainArena, ChainSlots};
 use triple_arena_ord::{OrdSlots, SimpleOrdArena};
 use triple_arena_ptr::{Probes, PtrCore};
-use unreached::unreached;
 
 /// What holds its ticket.
 pub(crate) trait Ticketed {
@@ -106,8 +106,7 @@ fn mirror_by_tickets<
 >(arena: &A, book: &TicketBook<P, B>, mirror: &mut DirectArena<P, P, S>)
     requires booked { IsBooked T.ticket_of book.now.entries (A.entry_at arena.now)
         (arena_capacity mirror.old) }
-    ensures mirrored { (low : ℕ) → ((k : ℕ) → IsSome (A.entry_at arena.now k) → k < low)
-        → IsMirrored T.ticket_of book.now.entries (A.entry_at arena.now) low
+    ensures mirrored { AreMirrored T.ticket_of book.now.entries (A.entry_at arena.now)
         (numbers P.index P.generation (entry_at mirror.new)) }
     ensures room { mirror.new.room ≡ mirror.old.room }
 {
@@ -128,9 +127,8 @@ pub(crate) fn mirror_places<
     requires booked { IsBooked (λ (x : PlaceView). x.ticket) book.now.entries (entry_in places.now)
         (arena_capacity mirror.old) }
     requires no_more { ⊤ }
-    ensures mirrored { (low : ℕ) → ((k : ℕ) → IsSome (entry_in places.now k) → k < low)
-        → IsMirrored (λ (x : PlaceView). x.ticket) book.now.entries (entry_in places.now) low
-        (numbers P.index P.generation (entry_at mirror.new)) }
+    ensures mirrored { AreMirrored (λ (x : PlaceView). x.ticket) book.now.entries
+        (entry_in places.now) (numbers P.index P.generation (entry_at mirror.new)) }
     ensures room { mirror.new.room ≡ mirror.old.room }
 {
     mirror_by_tickets(places, book, mirror);
@@ -146,9 +144,8 @@ pub(crate) fn mirror_stops<
     requires booked { IsBooked (λ (x : StopView). x.ticket) book.now.entries (values_in stops.now)
         (arena_capacity mirror.old) }
     requires no_more { ⊤ }
-    ensures mirrored { (low : ℕ) → ((k : ℕ) → IsSome (values_in stops.now k) → k < low)
-        → IsMirrored (λ (x : StopView). x.ticket) book.now.entries (values_in stops.now) low
-        (numbers P.index P.generation (entry_at mirror.new)) }
+    ensures mirrored { AreMirrored (λ (x : StopView). x.ticket) book.now.entries
+        (values_in stops.now) (numbers P.index P.generation (entry_at mirror.new)) }
     ensures room { mirror.new.room ≡ mirror.old.room }
 {
     mirror_by_tickets(stops, book, mirror);
@@ -164,9 +161,8 @@ pub(crate) fn mirror_marks<
     requires booked { IsBooked (λ (x : MarkView). x.ticket) book.now.entries (mark_at marks.now)
         (arena_capacity mirror.old) }
     requires no_more { ⊤ }
-    ensures mirrored { (low : ℕ) → ((k : ℕ) → IsSome (mark_at marks.now k) → k < low)
-        → IsMirrored (λ (x : MarkView). x.ticket) book.now.entries (mark_at marks.now) low
-        (numbers P.index P.generation (entry_at mirror.new)) }
+    ensures mirrored { AreMirrored (λ (x : MarkView). x.ticket) book.now.entries
+        (mark_at marks.now) (numbers P.index P.generation (entry_at mirror.new)) }
     ensures room { mirror.new.room ≡ mirror.old.room }
 {
     mirror_by_tickets(marks, book, mirror);

@@ -82,7 +82,7 @@ fn make_places<P: PtrCore, S: OrdSlots<P, Place>>(
     ensures exact { IfOk result (λ a. a.chains
         ≡ empty (second_generation P.Gen.last) (room_of P.Inx.greatest (S.room_at room))) }
     ensures fits { IfOk result (λ a. room ≤ arena_capacity a.chains) }
-    ensures ordered { IfOk result (λ a. IsOrdered P.Inx.number a) }
+    ensures ordered { IfOk result (λ a. IsOrdered a) }
     ensures refused { IfErr result (λ e. (e ≡ RoomError.Memory) × IsTrue S.takes_memory
         × (0 < room)) }
 {
@@ -182,7 +182,7 @@ pub(crate) fn make_arenas<P: PtrCore, B: BookBacking<P>>(
     requires marks { IsBeyond (room_of P.Inx.greatest (B.Marks.room_at marks)).limit marks → ⊥ }
     ensures places { IfOk result (λ a. a.places.chains
         ≡ empty (second_generation P.Gen.last) (room_of P.Inx.greatest (B.Places.room_at places))) }
-    ensures ordered { IfOk result (λ a. IsOrdered P.Inx.number a.places) }
+    ensures ordered { IfOk result (λ a. IsOrdered a.places) }
     ensures stops { IfOk result (λ a. a.stops
         ≡ empty (second_generation P.Gen.last) (room_of P.Inx.greatest (B.Stops.room_at stops))) }
     ensures marks { IfOk result (λ a. a.marks

@@ -1,29 +1,28 @@
 //! The places in their arena: one more where its key belongs, another word for one, and the places
 //! beside one.
-ghost use Rattle.std.specs.Prelude.{◌≡◌, ◌+◌, ◌<◌, ◌≤◌, ◌++◌, ◌∷◌, ℕ, List, Some, None, IsSome};
-ghost use Rattle.std.specs.Prelude.{find, nat_le, reverse};
+ghost use Rattle.std.specs.Prelude.{◌≡◌, ◌+◌, ◌<◌, ◌≤◌, ℕ, Some, None, IsSome, find, nat_le};
+ghost use Rattle.std.specs.Prelude.{reverse};
 ghost use Rattle.std.specs.Option.{option_map};
 ghost use Rattle.rank_tree.specs.Comparisons.{most_comparisons};
 ghost use Rattle.triple_arena.specs.Content.{arena_capacity};
 ghost use Rattle.triple_arena.specs.Entries.{value_if};
-ghost use Rattle.triple_arena_ord.specs.Found.{IsSimilar};
 ghost use Rattle.triple_arena_ord.specs.Inserted.{IsAdded, IsReplaced};
-ghost use Rattle.triple_arena_ord.specs.Ordered.{IsAscending, asked_at, entry_in, size_in};
+ghost use Rattle.triple_arena_ord.specs.Ordered.{entry_in, size_in};
 ghost use Rattle.route_lines.specs.Calls.{put as put_in};
 ghost use Rattle.route_lines.specs.Cuts.{first_item, last_item};
 ghost use Rattle.route_lines.specs.Sound.{PlacesRise};
 ghost use Rattle.route_lines.specs.State.{Place as View, with_key};
-ghost use Rattle.route_book.specs.Book.{in_order};
-ghost use Rattle.route_book.specs.Keys.{key_cmp, key_of, noted_by, noted_past, way_past, way_to};
+ghost use Rattle.route_book.specs.Book.{IfBetween, in_order};
+ghost use Rattle.route_book.specs.Keys.{IsFoundFor, key_of, noted_by, noted_past, way_past, way_to};
 
 use crate::items::Place;
+use proof_marks::{recall, unreached};
 use route_lines::Word;
 use std::cmp::Ordering;
 use triple_arena::ArenaTrait;
 use triple_arena_ord::laws::{entries_stand_in_the_list, writes_keep_the_list};
 use triple_arena_ord::{OrdSlots, SimpleOrdArena};
 use triple_arena_ptr::{Probes, PtrCore};
-use unreached::unreached;
 
 // A place more, whose ticket is above all others, beside the one that a search for its key found.
 // No key is compared.
@@ -32,22 +31,18 @@ pub(crate) fn put_place<P: PtrCore, S: OrdSlots<P, Place>>(
     found: Option<(P, Ordering)>,
     place: Place,
 ) -> P
-    requires rise { PlacesRise (in_order P.Inx.number arena.old) }
+    requires rise { PlacesRise (in_order arena.old) }
     requires newest { (i g : ℕ) (p : View) → entry_in arena.old i ≡ Some (g, p)
         → p.ticket < place.ticket }
-    requires found { IsSimilar P.index P.generation P.Inx.number
-        (asked_at key_cmp key_of (key_of place) arena.old)
-        (IsAscending P.Inx.number key_cmp key_of arena.old) found arena.old }
+    requires found { IsFoundFor P.index P.generation (key_of place) arena.old found }
     requires room { size_in arena.old < arena_capacity arena.old.chains }
-    ensures order { in_order P.Inx.number arena.new
-        ≡ put_in place (in_order P.Inx.number arena.old) }
-    ensures added { IsAdded P.Inx.number (P.index result)
-        (P.generation result) place arena.old arena.new }
+    ensures order { in_order arena.new ≡ put_in place (in_order arena.old) }
+    ensures added { IsAdded (P.index result) (P.generation result) place arena.old arena.new }
     ensures counter { arena.new.chains.counter ≡ arena.old.chains.counter }
     ensures same_room { arena.new.chains.room ≡ arena.old.chains.room }
 {
     // The list is as it must be.
-    let _ = arena.len();
+    recall!(arena.len());
     match found {
         Some(end) => { arena.insert_inx_manual_within_capacity(Some((end.0.inx(), end.1)), place) }
         None => arena.insert_inx_manual_within_capacity(None, place),
@@ -65,12 +60,12 @@ pub(crate) fn reword<P: PtrCore, S: OrdSlots<P, Place>>(
         → result ≡ p.word }
     ensures replaced { (p : View)
         → value_if (P.generation at) (entry_in arena.old (P.index at)) ≡ Some p
-        → IsReplaced P.Inx.number (P.index at) (P.generation at)
+        → IsReplaced (P.index at) (P.generation at)
         (record p { word = word }) p arena.old arena.new }
 {
     writes_keep_the_list::<P, Place>();
     // The list is as it must be.
-    let _ = arena.len();
+    recall!(arena.len());
     match arena.get_mut(at) {
         Some(place) => place.replace_word(word),
         None => unreached!(),
@@ -83,11 +78,9 @@ pub(crate) fn ticket_before<P: PtrCore, S: OrdSlots<P, Place>>(
     at: P,
 ) -> Option<u64>
     requires live { IsSome (value_if (P.generation at) (entry_in places.now (P.index at))) }
-    requires rise { PlacesRise (in_order P.Inx.number places.now) }
-    ensures { (front back : List View) (p : View)
-        → value_if (P.generation at) (entry_in places.now (P.index at)) ≡ Some p
-        → in_order P.Inx.number places.now ≡ front ++ p ∷ back
-        → result ≡ option_map (λ (q : View). q.ticket) (last_item front) }
+    requires rise { PlacesRise (in_order places.now) }
+    ensures { IfBetween (P.index at) (P.generation at) places.now (λ front back.
+        result ≡ option_map (λ (q : View). q.ticket) (last_item front)) }
 {
     entries_stand_in_the_list::<P, Place>();
     let Some(entry) = places.get_inx_link_no_gen(at.inx()) else {
@@ -105,11 +98,9 @@ pub(crate) fn ticket_after<P: PtrCore, S: OrdSlots<P, Place>>(
     at: P,
 ) -> Option<u64>
     requires live { IsSome (value_if (P.generation at) (entry_in places.now (P.index at))) }
-    requires rise { PlacesRise (in_order P.Inx.number places.now) }
-    ensures { (front back : List View) (p : View)
-        → value_if (P.generation at) (entry_in places.now (P.index at)) ≡ Some p
-        → in_order P.Inx.number places.now ≡ front ++ p ∷ back
-        → result ≡ option_map (λ (q : View). q.ticket) (first_item back) }
+    requires rise { PlacesRise (in_order places.now) }
+    ensures { IfBetween (P.index at) (P.generation at) places.now (λ front back.
+        result ≡ option_map (λ (q : View). q.ticket) (first_item back)) }
 {
     entries_stand_in_the_list::<P, Place>();
     let Some(entry) = places.get_inx_link_no_gen(at.inx()) else {
@@ -128,9 +119,9 @@ pub(crate) fn floor_ticket<P: PtrCore, S: OrdSlots<P, Place>>(
     key: u64,
     probes: &mut Probes,
 ) -> Option<u64>
-    requires rise { PlacesRise (in_order P.Inx.number places.now) }
+    requires rise { PlacesRise (in_order places.now) }
     ensures ticket { result ≡ option_map (λ (p : View). p.ticket)
-        (find (λ (p : View). nat_le p.key key) (reverse (in_order P.Inx.number places.now))) }
+        (find (λ (p : View). nat_le p.key key) (reverse (in_order places.now))) }
     ensures bound { probes.new ≤ probes.old + most_comparisons (size_in places.now) }
     ensures rises { probes.old ≤ probes.new }
 {
@@ -159,9 +150,9 @@ pub(crate) fn first_ticket<P: PtrCore, S: OrdSlots<P, Place>>(
     key: u64,
     probes: &mut Probes,
 ) -> Option<u64>
-    requires rise { PlacesRise (in_order P.Inx.number places.now) }
+    requires rise { PlacesRise (in_order places.now) }
     ensures ticket { result ≡ option_map (λ (p : View). p.ticket)
-        (with_key key (in_order P.Inx.number places.now)) }
+        (with_key key (in_order places.now)) }
     ensures bound { probes.new ≤ probes.old + most_comparisons (size_in places.now) }
     ensures rises { probes.old ≤ probes.new }
 {

@@ -1,13 +1,12 @@
 //! Stored references that are recast by mirrors: one that leads to nothing is gone.
 ghost use Rattle.std.specs.Prelude.{◌≡◌, ℕ, ◌+◌, ◌*◌, List, Option};
-ghost use Rattle.std.specs.Option.{option_map};
 ghost use Rattle.triple_arena.specs.Content.{entry_at as mark_at, live_count};
 ghost use Rattle.triple_arena.specs.DirectContent.{entry_at};
 ghost use Rattle.triple_arena_chain.specs.Links.{ends_in, values_in};
-ghost use Rattle.ticket_book.specs.Mirrors.{numbers};
+ghost use Rattle.ticket_book.specs.Mirrors.{AreCast, numbers};
 ghost use Rattle.route_book.specs.Holds.{found_by};
-ghost use Rattle.route_book.specs.Item.{MarkView, StopView, pointer_of};
-ghost use Rattle.route_book.specs.Packing.{recast_mark, recast_stop};
+ghost use Rattle.route_book.specs.Item.{MarkView, StopView, reference_of};
+ghost use Rattle.route_book.specs.Packing.{recast_mark_by, recast_stop_by};
 
 use crate::items::{Mark, Ref, Stop};
 use triple_arena::{Advancer, Arena, ArenaSlots, ArenaTrait, DirectArena, DirectSlots};
@@ -16,9 +15,9 @@ use triple_arena_ptr::{Probes, PtrCore};
 
 // The reference as a mirror has it: one that it has not is gone.
 fn recast<P: PtrCore, M: ArenaTrait<P, P>>(mirror: &M, to: Ref<P>) -> Ref<P>
-    ensures { option_map (λ p. (P.index p, P.generation p)) (pointer_of result)
+    ensures { reference_of P.index P.generation result
         ≡ found_by (numbers P.index P.generation (M.entry_at mirror.now))
-        (option_map (λ p. (P.index p, P.generation p)) (pointer_of to)) }
+        (reference_of P.index P.generation to) }
 {
     match to {
         Ref::To(p) => match mirror.get(p) {
@@ -31,8 +30,7 @@ fn recast<P: PtrCore, M: ArenaTrait<P, P>>(mirror: &M, to: Ref<P>) -> Ref<P>
 
 impl<P: PtrCore> Stop<P> {
     fn recast<M: ArenaTrait<P, P>>(&mut self, places: &M)
-        ensures { self.new ≡ recast_stop
-            (numbers P.index P.generation (M.entry_at places.now)) self.old }
+        ensures { self.new ≡ recast_stop_by P.index P.generation (M.entry_at places.now) self.old }
     {
         self.place = recast(places, self.place);
     }
@@ -40,8 +38,8 @@ impl<P: PtrCore> Stop<P> {
 
 impl<P: PtrCore> Mark<P> {
     fn recast<M: ArenaTrait<P, P>, N: ArenaTrait<P, P>>(&mut self, places: &M, stops: &N)
-        ensures { self.new ≡ recast_mark (numbers P.index P.generation (M.entry_at places.now))
-            (numbers P.index P.generation (N.entry_at stops.now)) self.old }
+        ensures { self.new ≡ recast_mark_by P.index P.generation (M.entry_at places.now)
+            (N.entry_at stops.now) self.old }
     {
         self.place = recast(places, self.place);
         self.stop = recast(stops, self.stop);
@@ -55,12 +53,8 @@ fn recast_stops<P: PtrCore, A: ArenaTrait<P, Stop<P>>, M: ArenaTrait<P, P>>(
     places: &M,
     looks: &mut Probes,
 )
-    ensures entries { (j : ℕ) → A.entry_at stops.new j
-        ≡ option_map (λ e. (
-          e.0,
-          recast_stop (numbers P.index P.generation (M.entry_at places.now))
-              e.1,
-        )) (A.entry_at stops.old j) }
+    ensures entries { AreCast (recast_stop_by P.index P.generation (M.entry_at places.now))
+        (A.entry_at stops.old) (A.entry_at stops.new) }
     ensures live { A.live_count stops.new ≡ A.live_count stops.old }
     ensures counter { A.counter stops.new ≡ A.counter stops.old }
     ensures room { A.room stops.new ≡ A.room stops.old }
@@ -89,12 +83,8 @@ fn recast_marks<P: PtrCore, A: ArenaTrait<P, Mark<P>>, M: ArenaTrait<P, P>, N: A
     stops: &N,
     looks: &mut Probes,
 )
-    ensures entries { (j : ℕ) → A.entry_at marks.new j
-        ≡ option_map (λ e. (
-          e.0,
-          recast_mark (numbers P.index P.generation (M.entry_at places.now))
-              (numbers P.index P.generation (N.entry_at stops.now)) e.1,
-        )) (A.entry_at marks.old j) }
+    ensures entries { AreCast (recast_mark_by P.index P.generation (M.entry_at places.now)
+        (N.entry_at stops.now)) (A.entry_at marks.old) (A.entry_at marks.new) }
     ensures live { A.live_count marks.new ≡ A.live_count marks.old }
     ensures counter { A.counter marks.new ≡ A.counter marks.old }
     ensures room { A.room marks.new ≡ A.room marks.old }
@@ -119,13 +109,9 @@ pub(crate) fn recast_all_stops<P: PtrCore, S: ChainSlots<P, Stop<P>>, R: DirectS
     places: &DirectArena<P, P, R>,
     looks: &mut Probes,
 )
-    ensures entries { (j : ℕ) → values_in stops.new j
-        ≡ option_map (λ e. (
-          e.0,
-          recast_stop (numbers P.index P.generation (entry_at places.now))
-              e.1,
-        )) (values_in stops.old j) }
-    ensures ends { (j : ℕ) → ends_in P.Inx.number stops.new j ≡ ends_in P.Inx.number stops.old j }
+    ensures entries { AreCast (recast_stop_by P.index P.generation (entry_at places.now))
+        (values_in stops.old) (values_in stops.new) }
+    ensures ends { (j : ℕ) → ends_in stops.new j ≡ ends_in stops.old j }
     ensures live { live_count stops.new ≡ live_count stops.old }
     ensures free { stops.new.free ≡ stops.old.free }
     ensures counter { stops.new.counter ≡ stops.old.counter }
@@ -142,12 +128,8 @@ pub(crate) fn recast_all_marks<P: PtrCore, S: ArenaSlots<P, Mark<P>>, R: DirectS
     stops: &DirectArena<P, P, R>,
     looks: &mut Probes,
 )
-    ensures entries { (j : ℕ) → mark_at marks.new j
-        ≡ option_map (λ e. (
-          e.0,
-          recast_mark (numbers P.index P.generation (entry_at places.now))
-              (numbers P.index P.generation (entry_at stops.now)) e.1,
-        )) (mark_at marks.old j) }
+    ensures entries { AreCast (recast_mark_by P.index P.generation (entry_at places.now)
+        (entry_at stops.now)) (mark_at marks.old) (mark_at marks.new) }
     ensures live { live_count marks.new ≡ live_count marks.old }
     ensures free { marks.new.free ≡ marks.old.free }
     ensures counter { marks.new.counter ≡ marks.old.counter }

@@ -1,11 +1,10 @@
 //! An input, answered line by line.
-ghost use Rattle.std.specs.Prelude.{◌≡◌, ◌⊎◌, ℕ, ◌+◌, ◌-◌, ◌<◌, ◌++◌, ◌^◌, List, [], IfErr, OnOk};
-ghost use Rattle.std.specs.Prelude.{OnErr, map};
-ghost use Rattle.std.specs.Io.KnownBytes.{Consumes, IsAtEnd};
-ghost use Rattle.route_lines.specs.Run.{Carries, OnRead, OnWrite, OnTooLong, StopsWithin};
-ghost use Rattle.route_lines.specs.Text.{lines, unended_line, whole, whole_lines};
-ghost use Rattle.route_lines.specs.Unfinished.{HasNoLineEnd, StandsFor, StopsAtEnd, Stops, Takes};
-ghost use Rattle.route_lines.specs.Watched.{inner_of, failed_of, calls_of};
+ghost use Rattle.std.specs.Prelude.{◌≡◌, ◌+◌, ◌-◌, ◌^◌, IfErr, OnOk, OnErr};
+ghost use Rattle.route_lines.specs.Run.{OnRead, OnWrite, OnTooLong};
+ghost use Rattle.route_lines.specs.Watched.{failed_of, calls_of};
+ghost use Rattle.route_book.specs.Running.{BreaksOffInPiece, CarriesAll, CarriesRest};
+ghost use Rattle.route_book.specs.Running.{CarriesWholeLines, StopsAtRest, StopsAtWrite};
+ghost use Rattle.route_book.specs.Running.{TakesPiece};
 
 use crate::backing::BookBacking;
 use crate::book::RouteBook;
@@ -28,11 +27,8 @@ pub fn run<P: PtrCore, B: BookBacking<P>, R: Read, W: Write>(
     counts: &mut Counts,
 ) -> Result<(), RunFault>
     // The whole input was read, and every line of it is carried out and answered.
-    ensures ok { OnOk result ((input : List ℕ)
-        × Consumes (R.remaining (inner_of reader.old)) (R.remaining (inner_of reader.new)) input
-        × IsAtEnd (R.remaining (inner_of reader.new))
-        × Carries book.old.state (lines input) book.new.state (W.contents (inner_of writer.old))
-        (W.contents (inner_of writer.new)) counts.old counts.new) }
+    ensures ok { OnOk result (CarriesAll R.remaining W.contents book.old.state book.new.state
+        reader.old reader.new writer.old writer.new counts.old counts.new) }
 
     ensures ok_failed { OnOk result
         ((failed_of reader.new ≡ failed_of reader.old)
@@ -40,28 +36,16 @@ pub fn run<P: PtrCore, B: BookBacking<P>, R: Read, W: Write>(
 
     // Every whole line that was read is carried out and answered, and nothing else.
     ensures read { IfErr result (λ fault. OnRead fault
-        ((input : List ℕ) × Consumes (R.remaining (inner_of reader.old))
-        (R.remaining (inner_of reader.new)) input
-        × Carries book.old.state (map whole (whole_lines input)) book.new.state
-        (W.contents (inner_of writer.old))
-        (W.contents (inner_of writer.new)) counts.old counts.new)) }
-    ensures too_long { IfErr result
-        (λ fault. OnTooLong fault ((input : List ℕ)
-        × Consumes (R.remaining (inner_of reader.old)) (R.remaining (inner_of reader.new)) input
-        × Carries book.old.state (map whole (whole_lines input)) book.new.state
-        (W.contents (inner_of writer.old))
-        (W.contents (inner_of writer.new)) counts.old counts.new)) }
+        (CarriesWholeLines R.remaining W.contents book.old.state book.new.state reader.old
+        reader.new writer.old writer.new counts.old counts.new)) }
+    ensures too_long { IfErr result (λ fault. OnTooLong fault
+        (CarriesWholeLines R.remaining W.contents book.old.state book.new.state reader.old
+        reader.new writer.old writer.new counts.old counts.new)) }
 
     // A line was being answered; or all are, and the flush failed.
     ensures write { IfErr result (λ fault. OnWrite fault
-        ((input : List ℕ) × Consumes (R.remaining (inner_of reader.old))
-        (R.remaining (inner_of reader.new)) input
-        × (StopsWithin input (R.remaining (inner_of reader.new)) book.old.state book.new.state
-        (W.contents (inner_of writer.old))
-        (W.contents (inner_of writer.new)) counts.old counts.new
-        ⊎ (IsAtEnd (R.remaining (inner_of reader.new))
-        × Carries book.old.state (lines input) book.new.state (W.contents (inner_of writer.old))
-        (W.contents (inner_of writer.new)) counts.old counts.new)))) }
+        (StopsAtWrite R.remaining W.contents book.old.state book.new.state reader.old reader.new
+        writer.old writer.new counts.old counts.new)) }
 
     // No fault comes without a cause.
     ensures read_failed { IfErr result
@@ -112,14 +96,11 @@ fn take<P: PtrCore, B: BookBacking<P>, W: Write>(
     writer: &mut Watched<W>,
     counts: &mut Counts,
 ) -> io::Result<()>
-    ensures ok { OnOk result ((line : List ℕ) → HasNoLineEnd line → StandsFor unfinished.old line
-        → Takes (line ++ piece.now) [] unfinished.new book.old.state book.new.state
-        (W.contents (inner_of writer.old))
-        (W.contents (inner_of writer.new)) counts.old counts.new) }
+    ensures ok { OnOk result (TakesPiece W.contents book.old.state book.new.state writer.old
+        writer.new counts.old counts.new piece.now unfinished.old unfinished.new) }
     ensures ok_failed { OnOk result (failed_of writer.new ≡ failed_of writer.old) }
-    ensures err { OnErr result ((line : List ℕ) → HasNoLineEnd line → StandsFor unfinished.old line
-        → Stops (line ++ piece.now) book.old.state book.new.state (W.contents (inner_of writer.old))
-        (W.contents (inner_of writer.new)) counts.old counts.new) }
+    ensures err { OnErr result (BreaksOffInPiece W.contents book.old.state book.new.state
+        writer.old writer.new counts.old counts.new piece.now unfinished.old) }
     ensures err_failed { OnErr result (failed_of writer.new ≡ failed_of writer.old + 1) }
 {
     let mut left = piece;
@@ -140,17 +121,11 @@ fn end<P: PtrCore, B: BookBacking<P>, W: Write>(
     writer: &mut Watched<W>,
     counts: &mut Counts,
 ) -> io::Result<()>
-    ensures ok { OnOk result ((line : List ℕ) → StandsFor unfinished.now line
-        → Carries book.old.state (unended_line line) book.new.state
-        (W.contents (inner_of writer.old))
-        (W.contents (inner_of writer.new)) counts.old counts.new) }
+    ensures ok { OnOk result (CarriesRest W.contents book.old.state book.new.state writer.old
+        writer.new counts.old counts.new unfinished.now) }
     ensures ok_failed { OnOk result (failed_of writer.new ≡ failed_of writer.old) }
-    ensures err { OnErr result ((line : List ℕ) → StandsFor unfinished.now line
-        → StopsAtEnd line book.old.state book.new.state (W.contents (inner_of writer.old))
-        (W.contents (inner_of writer.new)) counts.old counts.new
-        ⊎ Carries book.old.state (unended_line line) book.new.state
-        (W.contents (inner_of writer.old))
-        (W.contents (inner_of writer.new)) counts.old counts.new) }
+    ensures err { OnErr result (StopsAtRest W.contents book.old.state book.new.state writer.old
+        writer.new counts.old counts.new unfinished.now) }
     ensures err_failed { OnErr result (failed_of writer.new ≡ failed_of writer.old + 1) }
 {
     if unfinished.is_empty() {

@@ -1,7 +1,6 @@
 //! Items that go to arenas over other pointers: after a pack each has the index there that it had.
-ghost use Rattle.std.specs.Prelude.{◌≡◌, ◌≤◌, ◌↔◌, ℕ, [], IsSome, Some, ⊤};
+ghost use Rattle.std.specs.Prelude.{◌≡◌, ◌≤◌, ℕ, [], IsSome, Some, ⊤};
 ghost use Rattle.std.specs.List.{range_with_len};
-ghost use Rattle.std.specs.Option.{option_map};
 ghost use Rattle.triple_arena_ptr.specs.Generation.{second_generation};
 ghost use Rattle.triple_arena_ptr.specs.Index.{max_index_of};
 ghost use Rattle.triple_arena.specs.Content.{arena_capacity, entry_at, live_count};
@@ -10,24 +9,25 @@ ghost use Rattle.triple_arena_chain.specs.Chains.{next_at};
 ghost use Rattle.triple_arena_chain.specs.Links.{ends_in, values_in};
 ghost use Rattle.triple_arena_ord.specs.Ordered.{entry_in, order_in, size_in};
 ghost use Rattle.route_book.specs.Book.{in_order};
-ghost use Rattle.route_book.specs.Item.{pointer_of};
-ghost use Rattle.route_book.specs.Moving.{mark_over, over, stop_over};
+ghost use Rattle.route_book.specs.Item.{reference_of};
+ghost use Rattle.route_book.specs.Moving.{AreTransferred, mark_over, over, stop_over};
+ghost use Rattle.route_book.specs.Removals.{AreFirst};
 
 use crate::items::{Mark, Place, Ref, Stop};
+use proof_marks::{recall, unreached};
 use std::marker::PhantomData;
 use triple_arena::{Arena, ArenaSlots, ArenaTrait, ArenaTransferTrait};
 use triple_arena_chain::{ChainArena, ChainSlots};
 use triple_arena_ord::laws::{canonical_transfers_list_by_index, entries_stand_in_the_list};
 use triple_arena_ord::{OrdSlots, SimpleOrdArena};
 use triple_arena_ptr::{PtrCore, PtrGenCore, at_index_of};
-use unreached::unreached;
 
 // The reference over other pointers: with the same index, or with the greatest one if their type
 // has no such index.
 fn over<P: PtrCore, Q: PtrCore>(to: Ref<P>) -> Ref<Q>
-    ensures { option_map (λ q. (Q.index q, Q.generation q)) (pointer_of result)
+    ensures { reference_of Q.index Q.generation result
         ≡ over (max_index_of Q.Inx.greatest) (second_generation Q.Gen.last)
-        (option_map (λ p. (P.index p, P.generation p)) (pointer_of to)) }
+        (reference_of P.index P.generation to) }
 {
     match to {
         Ref::To(p) => Ref::To(at_index_of(p)),
@@ -62,14 +62,12 @@ pub(crate) fn transfer_places<P: PtrCore, S: OrdSlots<P, Place>, Q: PtrCore, R: 
 )
     requires fits { size_in from ≤ arena_capacity to.old.chains }
     requires no_more { ⊤ }
-    ensures entries { order_in P.Inx.number from ≡ range_with_len 1 (size_in from)
-        → (k : ℕ)
-        → entry_in to.new k
-        ≡ option_map (λ e. (second_generation Q.Gen.last, e.1)) (entry_in from k) }
-    ensures within { order_in P.Inx.number from ≡ range_with_len 1 (size_in from)
+    ensures entries { order_in from ≡ range_with_len 1 (size_in from)
+        → AreTransferred Q.Gen.last (λ p. p) (entry_in from) (entry_in to.new) }
+    ensures within { order_in from ≡ range_with_len 1 (size_in from)
         → (k : ℕ) → IsSome (entry_in from k) → k ≤ max_index_of Q.Inx.greatest }
-    ensures order { in_order Q.Inx.number to.new ≡ in_order P.Inx.number from }
-    ensures run { order_in Q.Inx.number to.new ≡ range_with_len 1 (size_in from) }
+    ensures order { in_order to.new ≡ in_order from }
+    ensures run { order_in to.new ≡ range_with_len 1 (size_in from) }
     ensures size { size_in to.new ≡ size_in from }
     ensures free { to.new.chains.free ≡ [] }
     ensures counter { to.new.chains.counter ≡ second_generation Q.Gen.last }
@@ -79,8 +77,8 @@ pub(crate) fn transfer_places<P: PtrCore, S: OrdSlots<P, Place>, Q: PtrCore, R: 
     entries_stand_in_the_list::<P, Place>();
     let mut source = from;
     // The list is as it must be, and each live index will be one of the pointers'.
-    let _ = source.len();
-    let _ = to.capacity();
+    recall!(source.len());
+    recall!(to.capacity());
     let moved = to.transfer_canonical_reallocating(
         Q::Gen::two(),
         &mut source,
@@ -101,22 +99,18 @@ pub(crate) fn transfer_stops<
 >(from: ChainArena<P, Stop<P>, S>, to: &mut ChainArena<Q, Stop<Q>, R>)
     requires fits { live_count from ≤ arena_capacity to.old }
     requires no_more { ⊤ }
-    ensures entries { IsLaidOut (ends_in P.Inx.number from) (live_count from)
-        → (k : ℕ)
-        → values_in to.new k
-        ≡ option_map (λ e. (
-          second_generation Q.Gen.last,
-          stop_over (max_index_of Q.Inx.greatest) (second_generation Q.Gen.last) e.1,
-        )) (values_in from k) }
-    ensures within { IsLaidOut (ends_in P.Inx.number from) (live_count from)
+    ensures entries { IsLaidOut (ends_in from) (live_count from)
+        → AreTransferred Q.Gen.last
+        (stop_over (max_index_of Q.Inx.greatest) (second_generation Q.Gen.last)) (values_in from)
+        (values_in to.new) }
+    ensures within { IsLaidOut (ends_in from) (live_count from)
         → (k : ℕ) → IsSome (values_in from k) → k ≤ max_index_of Q.Inx.greatest }
-    ensures on { (i k : ℕ)
-        → next_at (ends_in P.Inx.number from) i ≡ Some k → IsSome (values_in from k) }
-    ensures next { IsLaidOut (ends_in P.Inx.number from) (live_count from)
+    ensures on { (i k : ℕ) → next_at (ends_in from) i ≡ Some k → IsSome (values_in from k) }
+    ensures next { IsLaidOut (ends_in from) (live_count from)
         → (k : ℕ) → IsSome (values_in from k)
-        → next_at (ends_in Q.Inx.number to.new) k ≡ next_at (ends_in P.Inx.number from) k }
-    ensures laid { IsLaidOut (ends_in P.Inx.number from) (live_count from)
-        → IsLaidOut (ends_in Q.Inx.number to.new) (live_count from) }
+        → next_at (ends_in to.new) k ≡ next_at (ends_in from) k }
+    ensures laid { IsLaidOut (ends_in from) (live_count from)
+        → IsLaidOut (ends_in to.new) (live_count from) }
     ensures live { live_count to.new ≡ live_count from }
     ensures free { to.new.free ≡ [] }
     ensures counter { to.new.counter ≡ second_generation Q.Gen.last }
@@ -124,8 +118,8 @@ pub(crate) fn transfer_stops<
 {
     let mut source = from;
     // The links are as they must be, and each live index will be one of the pointers'.
-    let _ = source.len();
-    let _ = to.capacity();
+    recall!(source.len());
+    recall!(to.capacity());
     let over = PhantomData::<Stop<Q>>;
     let moved = to.transfer_canonical_reallocating(Q::Gen::two(), &mut source, |_, stop, _| {
         stop.allow().over(over)
@@ -145,14 +139,11 @@ pub(crate) fn transfer_marks<
 >(from: Arena<P, Mark<P>, S>, to: &mut Arena<Q, Mark<Q>, R>)
     requires fits { live_count from ≤ arena_capacity to.old }
     requires no_more { ⊤ }
-    ensures entries { ((i : ℕ) → IsSome (entry_at from i) ↔ ((1 ≤ i) × (i ≤ live_count from)))
-        → (k : ℕ)
-        → entry_at to.new k
-        ≡ option_map (λ e. (
-          second_generation Q.Gen.last,
-          mark_over (max_index_of Q.Inx.greatest) (second_generation Q.Gen.last) e.1,
-        )) (entry_at from k) }
-    ensures within { ((i : ℕ) → IsSome (entry_at from i) ↔ ((1 ≤ i) × (i ≤ live_count from)))
+    ensures entries { AreFirst (entry_at from) (live_count from)
+        → AreTransferred Q.Gen.last
+        (mark_over (max_index_of Q.Inx.greatest) (second_generation Q.Gen.last)) (entry_at from)
+        (entry_at to.new) }
+    ensures within { AreFirst (entry_at from) (live_count from)
         → (k : ℕ) → IsSome (entry_at from k) → k ≤ max_index_of Q.Inx.greatest }
     ensures live { live_count to.new ≡ live_count from }
     ensures free { to.new.free ≡ [] }
@@ -161,7 +152,7 @@ pub(crate) fn transfer_marks<
 {
     let mut source = from;
     // Each live index will be one of the pointers'.
-    let _ = to.capacity();
+    recall!(to.capacity());
     let over = PhantomData::<Mark<Q>>;
     let moved = to.transfer_reallocating(Q::Gen::two(), &mut source, |_, mark, _| {
         mark.allow().over(over)

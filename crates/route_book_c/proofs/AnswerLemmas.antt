@@ -235,14 +235,3 @@ pub short_from : (input : List ℕ) (s t : State) (taken room : ℕ) → s ≡ t
     → Lacks (after t (take taken input)) (lines (drop taken input)) room
 short_from input s t taken room same lacks =
     subst (λ x. Lacks (after x (take taken input)) (lines (drop taken input)) room) same lacks
-
--- a whole line that has no room is a line of the input
-pub line_short : (input : List ℕ) (s t : State) (taken room : ℕ) (written : List ℕ)
-    → Answers s input taken t written → Lacks t (map whole (whole_lines (drop taken input))) room
-    → Lacks (after s (take taken input)) (lines (drop taken input)) room
-line_short input s t taken room written answers lacks = record {
-  line = lacks.line;
-  behind = lacks.behind ++ unended_line (rest_of (drop taken input));
-  first = ap (λ ls. ls ++ unended_line (rest_of (drop taken input))) lacks.first;
-  short = subst (λ x. room < room_for x (command_in lacks.line)) answers.state lacks.short;
-}

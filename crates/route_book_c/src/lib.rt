@@ -60,8 +60,7 @@ pub extern "C" fn route_book_new(
         (λ is. is.book.state ≡ opened places stops marks) }
     ensures rooms { result ≡ 0 → OnKept book.new.kept (λ is. HasRooms greatest growing
         (record { places = places; stops = stops; marks = marks }) is.book) }
-    ensures index { result ≡ 2
-        ↔ ((book.old.kept ≡ None) × (greatest < places + stops + marks)) }
+    ensures index { result ≡ 2 ↔ ((book.old.kept ≡ None) × (greatest < places + stops + marks)) }
     ensures taken { result ≡ 6 ↔ (book.old.kept ≢ None) }
     ensures refused { result ≢ 0 → book.new.kept ≡ book.old.kept }
     ensures statuses { (result ≡ 0) ⊎ ((result ≡ 1) ⊎ ((result ≡ 2) ⊎ (result ≡ 6))) }
@@ -146,7 +145,7 @@ pub extern "C" fn route_book_pack(alloc: Global, book: &mut Holder) -> u8
     ensures state { result ≡ 0 → OnKept book.old.kept (λ was. OnKept book.new.kept
         (λ is. is.book.state ≡ was.book.state)) }
     ensures packed { result ≡ 0 → OnKept book.old.kept (λ was. OnKept book.new.kept
-        (λ is. (looks : ℕ) × IsPacked non_zero_u32_get (Some greatest) 0 looks was.book is.book)) }
+        (λ is. (looks : ℕ) × IsPacked (Some greatest) 0 looks was.book is.book)) }
     ensures no_book { result ≡ 5 ↔ (book.old.kept ≡ None) }
     ensures unmade { book.old.kept ≡ None → book.new.kept ≡ None }
     ensures statuses { (result ≡ 0) ⊎ (result ≡ 5) }

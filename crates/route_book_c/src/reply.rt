@@ -6,6 +6,7 @@ ghost use Rattle.route_lines.specs.declared.command.Command.{Command as Asked};
 ghost use Rattle.route_book.specs.Book.{KeepsRooms};
 ghost use Rattle.route_book.specs.Removals.{IsPacked};
 
+use proof_marks::recall;
 use route_book::{BookBacking, Command, PtrCore, Refusal, RouteBook, Shown, Word};
 use route_lines::ReplyText;
 
@@ -27,7 +28,7 @@ fn reference_is_short(reference: Option<u64>)
 fn word_is_short(word: &Word)
     ensures { length word.now ≤ 16 }
 {
-    let _ = word.as_bytes();
+    recall!(word.as_bytes());
 }
 
 fn put_ticket(text: &mut ReplyText, ticket: Result<u64, Refusal>)
@@ -124,7 +125,7 @@ pub(crate) fn gather<P: PtrCore, B: BookBacking<P>>(
     ensures short { length text.new ≤ 59 }
     ensures rooms { KeepsRooms book.old book.new }
     ensures packed { command ≡ Asked.Pack → (looks : ℕ)
-        × IsPacked P.Inx.number P.Gen.last 0 looks book.old book.new }
+        × IsPacked P.Gen.last 0 looks book.old book.new }
 {
     match command {
         Command::Place { key, word, near } => match near {

@@ -64,7 +64,7 @@ impl Store {
     // Moves all items to the first indexes.
     pub(crate) fn pack(&mut self)
         ensures state { self.new.book.state ≡ self.old.book.state }
-        ensures packed { (looks : ℕ) × IsPacked non_zero_u32_get (Some greatest) 0 looks
+        ensures packed { (looks : ℕ) × IsPacked (Some greatest) 0 looks
             self.old.book self.new.book }
     {
         self.book.pack();

@@ -36,7 +36,7 @@ pub record Takes (bytes left : List ℕ) (kept : Unfinished) (old new : State)
   pub carries : Carries old (map whole lines) new held written before later
 
 -- or a write fails at one of them
-pub record Stops (bytes : List ℕ) (old new : State) (held written : Option (List ℕ))
+pub record BreaksOffIn (bytes : List ℕ) (old new : State) (held written : Option (List ℕ))
     (counts later : Counts) : Type 0 where
   pub lines : List (List ℕ)
   pub line : List ℕ

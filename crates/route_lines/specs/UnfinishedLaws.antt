@@ -11,7 +11,7 @@ use Rattle.route_lines.specs.Reply.{ended, reply, next}
 use Rattle.route_lines.specs.Text.{whole, unended, unended_line, lines, whole_lines}
 use Rattle.route_lines.specs.Searches.{CountsFor, LooksWithin, most_looks}
 use Rattle.route_lines.specs.Run.{Carries, BreaksOff, StopsWithin}
-use Rattle.route_lines.specs.Unfinished.{HasNoLineEnd, StandsFor, Cuts, Takes, Stops, StopsAtEnd}
+use Rattle.route_lines.specs.Unfinished.{HasNoLineEnd, StandsFor, Cuts, Takes, BreaksOffIn, StopsAtEnd}
 use Rattle.route_lines.specs.Written.{AppendsBeginning}
 use Rattle.route_lines.specs.declared.command.Command.{Command}
 use Rattle.route_lines.specs.declared.counts.Counts.{Counts}
@@ -87,7 +87,7 @@ pub Stops-at_line : (bytes left line behind : List ℕ) (kept : Unfinished) (com
     → u ≡ next t command → AppendsBeginning b c (reply t command)
     → CountsFor t command between later
     → LooksWithin between.looks later.looks (most_looks t command)
-    → Stops bytes s u a c before later
+    → BreaksOffIn bytes s u a c before later
 Stops-at_line bytes left line behind kept command s t u a b c before between later
     taken split none spelled state begins counts looks =
     let same : command ≡ command_of (taken.rest ++ line) = spelled taken.rest taken.stands in
@@ -189,7 +189,7 @@ pub Stops-within : (bytes piece : List ℕ) (left : Option (List ℕ)) (kept : U
     (s t u : State) (a b c : Option (List ℕ)) (before between later : Counts)
     → Takes bytes [] kept s t a b before between
     → ((begun : List ℕ) → HasNoLineEnd begun → StandsFor kept begun
-    → Stops (begun ++ piece) t u b c between later)
+    → BreaksOffIn (begun ++ piece) t u b c between later)
     → StopsWithin (bytes ++ piece) left s u a c before later
 Stops-within bytes piece left kept s t u a b c before between later taken stops =
     let at = stops taken.rest taken.none taken.stands in

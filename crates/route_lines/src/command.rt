@@ -32,7 +32,7 @@ pub enum Command {
     After {
         ticket: u64,
     },
-    /// `before T`: the ticket of the place before it.
+    /// `before T`: the ticket of the place before this one in the order of the keys.
     Before {
         ticket: u64,
     },

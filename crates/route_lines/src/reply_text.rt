@@ -38,7 +38,7 @@ impl ReplyText {
         }
     }
 
-    /// Nothing is gathered any more.
+    /// Drops all that is gathered.
     pub fn clear(&mut self)
         ensures { self.new ≡ [] }
     {
@@ -77,7 +77,7 @@ impl ReplyText {
         self.push_bytes(buffer.format(number).as_bytes());
     }
 
-    /// A line, without its LF, is gathered with one.
+    /// Gathers a line, which is given without its LF, and an LF.
     pub fn push_line(&mut self, line: &[u8])
         requires { HasRoom self.old (length line.now + 1) }
         ensures { self.new ≡ self.old ++ ended line.now }
@@ -86,7 +86,7 @@ impl ReplyText {
         self.push_bytes(b"\n");
     }
 
-    /// Why a call was refused.
+    /// Gathers the line that says why a call was refused.
     pub fn push_refusal(&mut self, refusal: Refusal)
         requires { HasRoom self.old 59 }
         ensures { self.new ≡ self.old ++ ended (refusal_line refusal) }
@@ -108,7 +108,7 @@ impl ReplyText {
         self.push_bytes(b"\n");
     }
 
-    /// The word that `word` replaced.
+    /// Gathers the answer of `set_word`: the word that was replaced, or the refusal.
     pub fn push_old(&mut self, old: &Result<Word, Refusal>)
         requires { HasRoom self.old 59 }
         ensures { self.new ≡ self.old ++ ended (old_line old.now) }
@@ -129,7 +129,7 @@ impl ReplyText {
         self.push_line(word.as_bytes());
     }
 
-    /// What `find` answered.
+    /// Gathers what `find` or `floor` answered.
     pub fn push_found(&mut self, found: Option<u64>)
         requires { HasRoom self.old 59 }
         ensures { self.new ≡ self.old ++ ended (found_line found) }
@@ -151,7 +151,7 @@ impl ReplyText {
         }
     }
 
-    /// What `show` answered.
+    /// Gathers what `show` answered.
     pub fn push_shown(&mut self, shown: &Result<Shown, Refusal>)
         requires { HasRoom self.old 59 }
         ensures { self.new ≡ self.old ++ ended (shown_line shown.now) }
@@ -177,7 +177,7 @@ impl ReplyText {
         }
     }
 
-    /// A place, as `all` lists it.
+    /// Gathers the line of a place, as `all` lists it.
     pub fn push_place(&mut self, ticket: u64, key: u64, word: &Word)
         requires { HasRoom self.old 59 }
         ensures { self.new ≡ self.old ++ ended
@@ -190,7 +190,7 @@ impl ReplyText {
         self.push_word_line(word);
     }
 
-    /// The new ticket that `place`, `start`, `extend` and `mark` answered.
+    /// Gathers what `place`, `start`, `extend` or `mark` answered: the new ticket, or the refusal.
     pub fn push_ticket(&mut self, ticket: Result<u64, Refusal>)
         requires { HasRoom self.old 59 }
         ensures { self.new ≡ self.old ++ ended (ticket_line ticket) }
@@ -201,7 +201,7 @@ impl ReplyText {
         }
     }
 
-    /// What `remove`, `join`, `cut`, `swap` and `pack` answered.
+    /// Gathers what `remove`, `join`, `cut`, `swap` or `pack` answered.
     pub fn push_done(&mut self, done: Result<(), Refusal>)
         requires { HasRoom self.old 59 }
         ensures { self.new ≡ self.old ++ ended (done_line done) }
@@ -212,7 +212,7 @@ impl ReplyText {
         }
     }
 
-    /// What `after` and `before` answered.
+    /// Gathers what `after` or `before` answered.
     pub fn push_neighbor(&mut self, neighbor: Result<Option<u64>, Refusal>)
         requires { HasRoom self.old 59 }
         ensures { self.new ≡ self.old ++ ended (neighbor_line neighbor) }
@@ -223,7 +223,7 @@ impl ReplyText {
         }
     }
 
-    /// A stop, as `walk` lists it.
+    /// Gathers the line of a stop, as `walk` lists it.
     pub fn push_stop(&mut self, ticket: u64, place: Option<u64>)
         requires { HasRoom self.old 59 }
         ensures { self.new ≡ self.old ++ ended

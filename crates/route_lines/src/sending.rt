@@ -32,7 +32,8 @@ pub fn send<W: Write>(writer: &mut Watched<W>, bytes: &[u8]) -> io::Result<()>
     Ok(())
 }
 
-/// Room for one line more: if there is none, what was gathered is written.
+/// Makes room for one line more: if there is none, it writes what was gathered. An `Err` is that of
+/// the write that failed, or `WriteZero` if one took nothing.
 pub fn make_room<W: Write>(text: &mut ReplyText, writer: &mut Watched<W>) -> io::Result<()>
     ensures room { OnOk result (HasRoom text.new 59) }
     ensures ok { OnOk result ((sent : List ℕ) × (text.old ≡ sent ++ text.new)
@@ -50,7 +51,7 @@ pub fn make_room<W: Write>(text: &mut ReplyText, writer: &mut Watched<W>) -> io:
     Ok(())
 }
 
-/// Writes a line. Nobody is left to hear of a failure.
+/// Writes a line, and passes over a failure, of which nobody is left to hear.
 pub fn tell<E: Write>(errors: &mut Watched<E>, line: &[u8])
     ensures { Writes (failed_of errors.old) (failed_of errors.new)
         (E.contents (inner_of errors.old)) (E.contents (inner_of errors.new)) line.now }

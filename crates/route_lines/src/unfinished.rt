@@ -36,7 +36,7 @@ impl Unfinished {
         !self.is_long && self.bytes.is_empty()
     }
 
-    /// More bytes of the line.
+    /// Adds more bytes of the line.
     pub fn extend(&mut self, piece: &[u8])
         ensures { (line : List ℕ) → StandsFor self.old line
             → StandsFor self.new (line ++ piece.now) }
@@ -46,7 +46,8 @@ impl Unfinished {
         }
     }
 
-    /// The command of the line that ends with these bytes. The next line begins.
+    /// The command of the line that ends with these bytes; `None` if it spells none. The next line
+    /// begins.
     pub fn finish(&mut self, end: &[u8]) -> Option<Command>
         ensures command { (line : List ℕ) → StandsFor self.old line
             → result ≡ command_of (line ++ end.now) }

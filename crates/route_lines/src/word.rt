@@ -49,7 +49,7 @@ impl Word {
         self.bytes.as_slice()
     }
 
-    /// The same word once more. It takes no memory and cannot fail, as `clone` cannot.
+    /// A copy of the word. Unlike `clone` it returns no `Result`: neither takes memory or can fail.
     pub fn copied(&self) -> Word
         ensures { result ≡ self.now }
     {

@@ -5,10 +5,10 @@ use crate::entries::{PutsByEntry, enters};
 use crate::finds::Finds;
 use crate::growing::{Takes, grows};
 use crate::insertions::{PutsIn, inserts};
-use crate::knots::ShowsKnots;
 use crate::lists::{TellsOfList, reads_list};
-use crate::nodes::{TellsOfTree, reads_tree};
+use crate::nodes::ShowsNodes;
 use crate::places::searches;
+use crate::tree::{TellsOfTree, reads_tree};
 use crate::walks::{GoesAlong, goes_over};
 use crate::work::Counting;
 use std::fmt::Debug;
@@ -53,7 +53,7 @@ pub fn call_copied<A: Copied>(arena: &mut A, transcript: &mut Transcript, call: 
 pub fn call_tree<
     P: ShownPtr,
     K: Counting,
-    A: PutsByEntry<K> + Finds<P, K> + PutsIn<K> + ShowsKnots<P> + TellsOfTree + Takes<P, K>,
+    A: PutsByEntry<K> + Finds<P, K> + PutsIn<K> + ShowsNodes<P> + TellsOfTree + Takes<P, K>,
 >(arena: &mut A, transcript: &mut Transcript, call: &Call<'_>, zero: K) {
     if !(reads_tree(arena, transcript, call)
         || searches(arena, transcript, call, zero)

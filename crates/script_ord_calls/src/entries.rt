@@ -1,5 +1,5 @@
 //! Insertions by an entry, of each kind, in each form.
-use crate::knots::ShowsKnots;
+use crate::nodes::ShowsNodes;
 use crate::places::limit_from;
 use crate::work::Limit;
 use test_kit::{Call, Transcript, index};
@@ -20,7 +20,7 @@ pub trait PutsByEntry<K> {
 }
 
 /// Makes such a call, and says whether there is one of that name.
-pub fn enters<P: PtrCore, K: Copy, A: PutsByEntry<K> + ShowsKnots<P>>(
+pub fn enters<P: PtrCore, K: Copy, A: PutsByEntry<K> + ShowsNodes<P>>(
     arena: &mut A,
     transcript: &mut Transcript,
     call: &Call<'_>,
@@ -37,7 +37,7 @@ pub fn enters<P: PtrCore, K: Copy, A: PutsByEntry<K> + ShowsKnots<P>>(
 }
 
 /// How many comparisons an entry of a kind may make.
-pub fn limit_of<P: PtrCore, A: ShowsKnots<P>>(
+pub fn limit_of<P: PtrCore, A: ShowsNodes<P>>(
     arena: &A,
     name: &str,
     start: P::Inx,

@@ -72,10 +72,11 @@ pub trait Finds<P, K> {
 
     fn similar_by_counted(&self, n: u64) -> Found<P>;
 
-    /// By what a closure notes that is lent: the first entry with the key, as the one behind a gap.
+    /// The first entry with the key, as a closure that is borrowed notes it: the one behind a gap.
     fn first_noted(&self, n: u64) -> Found<P>;
 
-    /// The same: the last entry whose key is not above, as the one before a gap.
+    /// The last entry whose key is not above, as a closure that is borrowed notes it: the one
+    /// before a gap.
     fn last_noted(&self, n: u64) -> Found<P>;
 
     /// Goes left at each entry but at that of the pointer: it finds the first one.

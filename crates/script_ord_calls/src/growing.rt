@@ -1,7 +1,7 @@
 //! Many calls in a row, of whose comparisons one answer tells the most.
 use crate::entries::limit_of;
 use crate::finds::{Finds, search};
-use crate::knots::ShowsKnots;
+use crate::nodes::ShowsNodes;
 use crate::places::{Place, place_of};
 use crate::work::{Counting, Since, Work};
 use test_kit::{Call, ShownPtr, Transcript, index, pointer};
@@ -23,7 +23,7 @@ pub trait Takes<P: PtrCore, K> {
 }
 
 /// Makes such calls, and says whether there are some of that name.
-pub fn grows<P: ShownPtr, K: Counting, A: Finds<P, K> + ShowsKnots<P> + Takes<P, K>>(
+pub fn grows<P: ShownPtr, K: Counting, A: Finds<P, K> + ShowsNodes<P> + Takes<P, K>>(
     arena: &mut A,
     transcript: &mut Transcript,
     call: &Call<'_>,
@@ -51,7 +51,7 @@ pub fn grows<P: ShownPtr, K: Counting, A: Finds<P, K> + ShowsKnots<P> + Takes<P,
 // Puts the keys up to the second number in, in the order of their products with the first one. It
 // does so by `insert`, or by an entry of a kind. That one's search begins at an index, or, if that
 // is 0, at the entry that was put in before.
-fn grow<P: PtrCore, K: Counting, A: ShowsKnots<P> + Takes<P, K>>(
+fn grow<P: PtrCore, K: Counting, A: ShowsNodes<P> + Takes<P, K>>(
     arena: &mut A,
     name: &str,
     call: &Call<'_>,
@@ -82,7 +82,7 @@ fn grow<P: PtrCore, K: Counting, A: ShowsKnots<P> + Takes<P, K>>(
 }
 
 // Puts one item in, and answers its index.
-fn put<P: PtrCore, K: Counting, A: ShowsKnots<P> + Takes<P, K>>(
+fn put<P: PtrCore, K: Counting, A: ShowsNodes<P> + Takes<P, K>>(
     arena: &mut A,
     name: &str,
     item: &(K, u64),
@@ -131,7 +131,7 @@ struct Tally {
 }
 
 // The search of a name for each key from the first number to the second, with a start.
-fn each<P: ShownPtr, K: Counting, A: Finds<P, K> + ShowsKnots<P>>(
+fn each<P: ShownPtr, K: Counting, A: Finds<P, K> + ShowsNodes<P>>(
     arena: &A,
     name: &str,
     call: &Call<'_>,
@@ -158,7 +158,7 @@ fn each<P: ShownPtr, K: Counting, A: Finds<P, K> + ShowsKnots<P>>(
 }
 
 impl Tally {
-    fn counts<P: PtrCore, A: ShowsKnots<P>>(&mut self, arena: &A, n: u64, place: Place<P>) {
+    fn counts<P: PtrCore, A: ShowsNodes<P>>(&mut self, arena: &A, n: u64, place: Place<P>) {
         match place {
             Place::At(p) if key_of(arena, Some(p)) == Some(n) => {
                 self.equal = self.equal.saturating_add(1);
@@ -186,10 +186,10 @@ fn parts(before: Option<u64>, n: u64, after: Option<u64>) -> bool {
     follows && goes_before
 }
 
-fn key_of<P: PtrCore, A: ShowsKnots<P>>(arena: &A, p: Option<P>) -> Option<u64> {
+fn key_of<P: PtrCore, A: ShowsNodes<P>>(arena: &A, p: Option<P>) -> Option<u64> {
     match p {
-        Some(p) => match arena.knot(p.inx()) {
-            Some(knot) => Some(knot.key),
+        Some(p) => match arena.node(p.inx()) {
+            Some(node) => Some(node.key),
             None => None,
         },
         None => None,

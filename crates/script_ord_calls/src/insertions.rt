@@ -1,5 +1,5 @@
 //! The calls that put an item in where its key belongs, or at an entry.
-use crate::knots::ShowsKnots;
+use crate::nodes::ShowsNodes;
 use crate::work::{Counting, Limit, Since};
 use std::cmp::Ordering;
 use std::fmt::Debug;
@@ -75,7 +75,7 @@ pub fn tell<A: Debug, K: Counting>(
 }
 
 /// Makes such a call, and says whether there is one of that name.
-pub fn inserts<P: PtrCore, K: Counting, A: PutsIn<K> + ShowsKnots<P>>(
+pub fn inserts<P: PtrCore, K: Counting, A: PutsIn<K> + ShowsNodes<P>>(
     arena: &mut A,
     transcript: &mut Transcript,
     call: &Call<'_>,

@@ -1,75 +1,37 @@
-//! The calls that tell of the tree and of its nodes, and the one that lays them out anew.
-use crate::agreement::check;
-use crate::knots::ShowsKnots;
-use crate::work::most;
-use test_kit::{Call, ShownPtr, Transcript};
+//! Entries with their neighbors in the list and in the tree, as the checks of a script see them.
+use triple_arena::{PtrCore, PtrInxCore};
 
-/// What tells of itself and of its tree.
-pub trait TellsOfTree {
-    fn tell_generation(&self, transcript: &mut Transcript, line: &str);
-
-    fn tell_invariants(&self, transcript: &mut Transcript, line: &str);
-
-    /// Lays the entries out anew, in the order of the list.
-    fn lay_out(&mut self, transcript: &mut Transcript, call: &Call<'_>);
+/// An entry: its key and its value, its neighbors in the list, its parent, its left and its right
+/// child, and its rank.
+#[derive(Clone, Copy)]
+pub struct Node<I: PtrInxCore> {
+    pub key: u64,
+    pub value: u64,
+    pub prev: Option<I>,
+    pub next: Option<I>,
+    pub parent: Option<I>,
+    pub left: Option<I>,
+    pub right: Option<I>,
+    pub rank: u8,
 }
 
-/// Makes such a call, and says whether there is one of that name.
-pub fn reads_tree<P: ShownPtr, A: ShowsKnots<P> + TellsOfTree>(
-    arena: &mut A,
-    transcript: &mut Transcript,
-    call: &Call<'_>,
-) -> bool {
-    let line = call.line;
-    match call.verb {
-        "generation" => arena.tell_generation(transcript, line),
-        "check" => transcript.answer(line, &check(arena)),
-        "_check_invariants" => arena.tell_invariants(transcript, line),
-        "get_inx_node" => tell_node(arena, transcript, call),
-        "rank" => tell_rank(arena, transcript, call),
-        "compress_canonical" => arena.lay_out(transcript, call),
-        "most_comparisons" => transcript.answer(line, &most(call.first)),
-        _ => return false,
-    }
-    true
-}
+/// What has such entries.
+pub trait ShowsNodes<P: PtrCore> {
+    /// How many entries there are.
+    fn size(&self) -> u64;
 
-// The generation, the neighbors, the item, the parent and the children at an index.
-fn tell_node<P: ShownPtr, A: ShowsKnots<P>>(
-    arena: &A,
-    transcript: &mut Transcript,
-    call: &Call<'_>,
-) {
-    match arena.ptr(call.index()) {
-        Some(p) => tell_entry(arena, transcript, call.line, p),
-        None => transcript.answer(call.line, &"not live"),
-    }
-}
+    /// The index of the first one.
+    fn start(&self) -> Option<P::Inx>;
 
-fn tell_entry<P: ShownPtr, A: ShowsKnots<P>>(
-    arena: &A,
-    transcript: &mut Transcript,
-    line: &str,
-    p: P,
-) {
-    match arena.knot(p.inx()) {
-        Some(knot) => {
-            let ends = (knot.prev, knot.next);
-            transcript.answer(line, &(p.generation(), ends, (knot.key, knot.value)));
-            transcript.answer(line, &(knot.parent, knot.left, knot.right));
-        }
-        None => transcript.answer(line, &"not live"),
-    }
-}
+    /// The index of the last one.
+    fn end(&self) -> Option<P::Inx>;
 
-// The rank at an index.
-fn tell_rank<P: ShownPtr, A: ShowsKnots<P>>(
-    arena: &A,
-    transcript: &mut Transcript,
-    call: &Call<'_>,
-) {
-    match arena.knot(call.index()) {
-        Some(knot) => transcript.answer(call.line, &knot.rank),
-        None => transcript.answer(call.line, &"not live"),
-    }
+    /// The entry at an index.
+    fn node(&self, i: P::Inx) -> Option<Node<P::Inx>>;
+
+    /// The pointer to it.
+    fn ptr(&self, i: P::Inx) -> Option<P>;
+
+    /// Whether no key is greater than the next one.
+    fn ascends(&self) -> bool;
 }

@@ -1,6 +1,6 @@
 //! The searches by their names, and what is told of the places that they find.
 use crate::finds::{Finds, Found, search};
-use crate::knots::ShowsKnots;
+use crate::nodes::ShowsNodes;
 use crate::work::{Counting, Limit, Work, most};
 use std::cmp::Ordering;
 use test_kit::{Call, ShownPtr, Transcript, pointer};
@@ -24,7 +24,7 @@ pub enum Place<P> {
 }
 
 /// Makes a search, and says whether there is one of that name.
-pub fn searches<P: ShownPtr, K: Counting, A: Finds<P, K> + ShowsKnots<P>>(
+pub fn searches<P: ShownPtr, K: Counting, A: Finds<P, K> + ShowsNodes<P>>(
     arena: &A,
     transcript: &mut Transcript,
     call: &Call<'_>,
@@ -46,7 +46,7 @@ pub fn searches<P: ShownPtr, K: Counting, A: Finds<P, K> + ShowsKnots<P>>(
 
 impl<P: PtrCore + PartialEq> Found<P> {
     /// What is told of its comparisons.
-    pub fn work<A: ShowsKnots<P>>(
+    pub fn work<A: ShowsNodes<P>>(
         &self,
         arena: &A,
         verb: &str,
@@ -62,7 +62,7 @@ impl<P: PtrCore + PartialEq> Found<P> {
 
 // How many comparisons a search may make. One for a key that is not there goes on from the root,
 // and else their number depends on the list alone if one along it came to its end there.
-fn limit_of_search<P: PtrCore + PartialEq, A: ShowsKnots<P>>(
+fn limit_of_search<P: PtrCore + PartialEq, A: ShowsNodes<P>>(
     arena: &A,
     verb: &str,
     num: u64,
@@ -83,8 +83,9 @@ fn limit_of_search<P: PtrCore + PartialEq, A: ShowsKnots<P>>(
     }
 }
 
-/// The same of one that goes along the list from an index until it comes to the place.
-pub fn limit_from<P: PtrCore, A: ShowsKnots<P>>(
+/// How many comparisons a search may make that goes along the list from an index until it comes to
+/// the place of the key.
+pub fn limit_from<P: PtrCore, A: ShowsNodes<P>>(
     arena: &A,
     start: P::Inx,
     num: u64,
@@ -101,7 +102,7 @@ pub fn limit_from<P: PtrCore, A: ShowsKnots<P>>(
 }
 
 /// What is told of a place.
-pub fn place_of<P: PtrCore + PartialEq, A: ShowsKnots<P>>(
+pub fn place_of<P: PtrCore + PartialEq, A: ShowsNodes<P>>(
     arena: &A,
     place: Option<(P, Ordering)>,
     ascends: bool,
@@ -119,7 +120,7 @@ pub fn place_of<P: PtrCore + PartialEq, A: ShowsKnots<P>>(
     }
 }
 
-fn anywhere<P: PtrCore + PartialEq, A: ShowsKnots<P>>(
+fn anywhere<P: PtrCore + PartialEq, A: ShowsNodes<P>>(
     arena: &A,
     place: Option<(P, Ordering)>,
 ) -> Place<P> {
@@ -134,13 +135,13 @@ fn anywhere<P: PtrCore + PartialEq, A: ShowsKnots<P>>(
 }
 
 // The entry of a pointer, or its key, if a neighbor has the same.
-fn at<P: PtrCore, A: ShowsKnots<P>>(arena: &A, p: P) -> Place<P> {
-    match arena.knot(p.inx()) {
-        Some(knot) => {
-            let is_one_of = key_at(arena, knot.prev) == Some(knot.key)
-                || key_at(arena, knot.next) == Some(knot.key);
+fn at<P: PtrCore, A: ShowsNodes<P>>(arena: &A, p: P) -> Place<P> {
+    match arena.node(p.inx()) {
+        Some(node) => {
+            let is_one_of = key_at(arena, node.prev) == Some(node.key)
+                || key_at(arena, node.next) == Some(node.key);
             if is_one_of {
-                Place::OneOf(knot.key)
+                Place::OneOf(node.key)
             } else {
                 Place::At(p)
             }
@@ -150,10 +151,10 @@ fn at<P: PtrCore, A: ShowsKnots<P>>(arena: &A, p: P) -> Place<P> {
 }
 
 // The key at an index, if there is an entry.
-fn key_at<P: PtrCore, A: ShowsKnots<P>>(arena: &A, i: Option<P::Inx>) -> Option<u64> {
+fn key_at<P: PtrCore, A: ShowsNodes<P>>(arena: &A, i: Option<P::Inx>) -> Option<u64> {
     match i {
-        Some(i) => match arena.knot(i) {
-            Some(knot) => Some(knot.key),
+        Some(i) => match arena.node(i) {
+            Some(node) => Some(node.key),
             None => None,
         },
         None => None,
@@ -161,10 +162,10 @@ fn key_at<P: PtrCore, A: ShowsKnots<P>>(arena: &A, i: Option<P::Inx>) -> Option<
 }
 
 // The pointer to the neighbor of an entry, before it or after it.
-fn beside<P: PtrCore, A: ShowsKnots<P>>(arena: &A, p: P, is_before: bool) -> Option<P> {
-    match arena.knot(p.inx()) {
-        Some(knot) => {
-            let i = if is_before { knot.prev } else { knot.next };
+fn beside<P: PtrCore, A: ShowsNodes<P>>(arena: &A, p: P, is_before: bool) -> Option<P> {
+    match arena.node(p.inx()) {
+        Some(node) => {
+            let i = if is_before { node.prev } else { node.next };
             match i {
                 Some(i) => arena.ptr(i),
                 None => None,

@@ -23,11 +23,11 @@ pub trait GoesAlong {
     /// Goes along the list from a pointer.
     fn walk_ordered(&self, transcript: &mut Transcript, call: &Call<'_>);
 
-    /// The same, and removes each entry that it comes to.
+    /// Goes along the list from a pointer, and removes each entry that it comes to.
     fn walk_and_remove(&mut self, transcript: &mut Transcript, call: &Call<'_>);
 
-    /// The same over an arena that changes: after the first step the entry at an index is removed,
-    /// and an item is put in.
+    /// Goes along the list from a pointer over an arena that changes: after the first step the
+    /// entry at an index is removed, and an item is put in.
     fn walk_over_a_change(&mut self, transcript: &mut Transcript, call: &Call<'_>);
 
     /// Takes so many items of a drain along the list, and tells how many are left when it is let

@@ -15,7 +15,7 @@ mod entries;
 mod finds;
 mod insertions;
 mod items;
-mod knots;
+mod nodes;
 mod reads;
 
 use items::{CountingKey, Item, Key, Pairs, Slot, item};

@@ -29,7 +29,8 @@ pub fn play(alloc: Global, book: &Book<'_>, lines: &str, cut: Cut) -> Result<Str
     tell_refusal(&heap, text)
 }
 
-/// The same of a store that becomes one of another kind.
+/// Makes a store, plays a section over it and, from the line of the move on, over the store of
+/// another kind that it becomes: what they write, or why there is no store.
 pub fn play_to(
     alloc: Global,
     book: &Book<'_>,

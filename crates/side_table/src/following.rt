@@ -15,6 +15,7 @@ ghost use Rattle.triple_arena.specs.Recaster.{IsRecaster};
 ghost use Rattle.side_table.specs.SideTable.{Rises, NeverGoesUp, IsCarried, with_moved, beside};
 
 use crate::storing::put;
+use proof_marks::recall;
 use triple_arena::{
     Advancer, Arena, ArenaSlots, ArenaTrait, DirectArena, DirectSlots, PtrCore, ReallocationError,
     compress_recaster_into,
@@ -38,7 +39,7 @@ where
     ensures formed { IsWellFormed table.new }
 {
     // Each live index is within the capacity.
-    let _ = table.capacity();
+    recall!(table.capacity());
     if let Some(value) = table.remove(old).allow() {
         if let Some(new) = map.get(old) {
             let _ = put(table, *new, value);
@@ -65,7 +66,7 @@ where
     ensures formed { IsWellFormed table.new }
 {
     // The table is well-formed before.
-    let _ = table.len();
+    recall!(table.len());
     let mut walk = table.advancer();
     while let Some(old) = walk.advance(table) {
         follow_one(table, map, old);
@@ -102,8 +103,7 @@ where
     ensures renamed { OnOk result (IsRecaster P.index P.generation (live_entries arena.old)
         (live_entries arena.new) (entries_of map.new)) }
     ensures room { table.new.room ≡ table.old.room }
-    ensures map_room { OnOk result (map.new.room
-        ≡ room_with (last_index arena.old) map.old.room) }
+    ensures map_room { OnOk result (map.new.room ≡ room_with (last_index arena.old) map.old.room) }
     ensures arena_formed { OnOk result (IsArenaFormed arena.new) }
     ensures formed { OnOk result (IsWellFormed table.new) }
     ensures map_formed { IsWellFormed map.new }

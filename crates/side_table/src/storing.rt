@@ -11,6 +11,7 @@ ghost use Rattle.triple_arena.specs.DirectContent.{IsPlace, IsWellFormed};
 ghost use Rattle.triple_arena.specs.Entries.{with_entry};
 ghost use Rattle.side_table.specs.SideTable.{IsTaken};
 
+use proof_marks::recall;
 use triple_arena::{
     ArenaDirectInsertEntryTrait, ArenaDirectInsertTrait, ArenaTrait, DirectArena, DirectSlots,
     PtrCore, PtrInxCore, ReallocationError,
@@ -96,8 +97,7 @@ pub fn put_beside<P: PtrCore, T: Drop, S: DirectSlots<P, T>>(
         ≡ with_entry (entry_at table.old) (P.index p) (P.generation p, value) j) }
     ensures replaced { IfOk result (λ old. old
         ≡ option_map (λ e. e.1) (entry_at table.old (P.index p))) }
-    ensures grown { OnOk result (table.new.room
-        ≡ room_with (max room (P.index p)) table.old.room) }
+    ensures grown { OnOk result (table.new.room ≡ room_with (max room (P.index p)) table.old.room) }
     ensures formed { OnOk result (IsWellFormed table.new) }
     ensures succeeds { max room (P.index p) ≤ arena_capacity table.old → IsOk result }
     ensures beyond { IsErrOf result ReallocationError.BeyondMaxCapacity
@@ -107,7 +107,7 @@ pub fn put_beside<P: PtrCore, T: Drop, S: DirectSlots<P, T>>(
 {
     let Some(index) = p.inx().try_into_usize() else {
         // The capacity is a `usize`.
-        let _ = table.capacity();
+        recall!(table.capacity());
         return Err(ReallocationError::BeyondMaxCapacity);
     };
     table.reallocate_min_capacity(room.max(index.get()))?;

@@ -3,11 +3,11 @@ ghost use Rattle.std.specs.Prelude.{◌≡◌, Option, Some, None};
 ghost use Rattle.slot_map_c.specs.Held.{Kept, raw_kept, box_kept};
 
 use crate::slot_map::SlotMap;
+use proof_marks::unreached;
 use raw_box::RawBox;
 use std::alloc::Global;
 use std::marker::Model;
 use std::{mem, ptr};
-use unreached::unreached;
 
 /// What C keeps of a map: its box as a pointer. It is made of zeros, and keeps none then. It is not
 /// `Drop`, so that nothing lets one go that keeps a map.

@@ -1,8 +1,8 @@
-//! What tests share and no library has: a pointer type whose generations start again soon, an
-//! allocator that refuses a request, and scripts of calls. A `Call` is the words of a line, a
-//! `Transcript` what was called and what came of it. The programs `script_..` read sections of
-//! calls, one a line, and write each line again with the call's answer behind it. What they must
-//! write stands beside them in `stdout`.
+//! What tests share and no library has: a pointer type whose generations wrap soon, an allocator
+//! that refuses a request, and scripts of calls. A `Call` is the words of a line, a `Transcript`
+//! what was called and what came of it. The programs `script_..` read sections of calls, one a
+//! line, and write each line again with the call's answer behind it. What they must write stands
+//! beside them in `stdout`.
 #![tactic(auto)]
 
 mod call;

@@ -1,4 +1,4 @@
-//! A pointer type for tests, with 255 indexes and the generations 1 to 3, which start again soon.
+//! A pointer type for tests, with 255 indexes and the generations 1 to 3, which wrap soon.
 
 ghost use Rattle.std.specs.Prelude.{Some, codes};
 ghost use Rattle.std.specs.Cmp.Rules.{comparing};

@@ -10,7 +10,8 @@ use Rattle.std.proofs.lemmas.Bool.{cases_lt, lt-ltb, le-ltb}
 use Rattle.std.proofs.lemmas.Bool.Decides.{eqb_tells}
 use Rattle.std.proofs.lemmas.List.{length-map}
 use Rattle.rank_tree.specs.Comparisons.{most_comparisons}
-use Rattle.rank_tree.specs.Search.{AllIn, asked_down, led_by}
+use Rattle.rank_tree.specs.Search.{asked_down, led_by}
+use Rattle.rank_tree.specs.DescentLaws.{all-front, all-back}
 use Rattle.rank_tree.specs.Tree.{Tree, leaf, node, walk}
 use Rattle.triple_arena_ord.specs.Ordered.{Ordered, asked_of, entry_in, order_in, ordered_entries}
 use Rattle.triple_arena_ord.specs.Ordered.{size_in, tree_in}
@@ -25,20 +26,12 @@ AreAlike t u entries =
 
 -- ---- a tree
 
-AllIn-front : (P : ℕ → Type 0) (v w : List ℕ) → AllIn P (v ++ w) → AllIn P v
-AllIn-front P [] w all = tt
-AllIn-front P (x ∷ v) w all = (all.0, AllIn-front P v w all.1)
-
-AllIn-back : (P : ℕ → Type 0) (v w : List ℕ) → AllIn P (v ++ w) → AllIn P w
-AllIn-back P [] w all = all
-AllIn-back P (x ∷ v) w all = AllIn-back P v w all.1
-
-same_down : (f g : ℕ → Ordering) (t : Tree) → AllIn (λ j. f j ≡ g j) (walk t)
+same_down : (f g : ℕ → Ordering) (t : Tree) → AllByRecursion (λ j. f j ≡ g j) (walk t)
     → asked_down f t ≡ asked_down g t
 same_down f g leaf all = refl
 same_down f g (node l i k r) all =
-    let here = AllIn-back (λ j. f j ≡ g j) (walk l) (i ∷ walk r) all in
-    let left = same_down f g l (AllIn-front (λ j. f j ≡ g j) (walk l) (i ∷ walk r) all) in
+    let here = all-back (λ j. f j ≡ g j) (walk l) (i ∷ walk r) all in
+    let left = same_down f g l (all-front (λ j. f j ≡ g j) (walk l) (i ∷ walk r) all) in
     let right = same_down f g r here.1 in
     ap (λ d. 1 + led_by d (asked_down f l) (asked_down f r)) here.0
     ∙ ap (λ n. 1 + led_by (g i) n (asked_down f r)) left
@@ -47,19 +40,19 @@ same_down f g (node l i k r) all =
 -- ---- an arena
 
 alike_along : (at : ℕ → Option (ℕ × Entry)) (t u : ℕ) (w : List ℕ) → AreAlike t u (along at w)
-    → AllIn (λ j. asked_of nat_cmp (λ (e : Entry). e.ticket) t (at j)
+    → AllByRecursion (λ j. asked_of nat_cmp (λ (e : Entry). e.ticket) t (at j)
     ≡ asked_of nat_cmp (λ (e : Entry). e.ticket) u (at j)) w
 alike_along at t u [] all = tt
 alike_along at t u (j ∷ w) all = by (at j) refl (alike_along at t u w) all
   where
     by : (o : Option (ℕ × Entry)) → at j ≡ o
         → (AreAlike t u (along at w)
-        → AllIn (λ k. asked_of nat_cmp (λ (e : Entry). e.ticket) t (at k)
+        → AllByRecursion (λ k. asked_of nat_cmp (λ (e : Entry). e.ticket) t (at k)
         ≡ asked_of nat_cmp (λ (e : Entry). e.ticket) u (at k)) w)
         → AreAlike t u (along at (j ∷ w))
         → (asked_of nat_cmp (λ (e : Entry). e.ticket) t (at j)
         ≡ asked_of nat_cmp (λ (e : Entry). e.ticket) u (at j))
-        × AllIn (λ k. asked_of nat_cmp (λ (e : Entry). e.ticket) t (at k)
+        × AllByRecursion (λ k. asked_of nat_cmp (λ (e : Entry). e.ticket) t (at k)
         ≡ asked_of nat_cmp (λ (e : Entry). e.ticket) u (at k)) w
     by None is rest all =
         let skip : along at (j ∷ w) ≡ along at w = rw is refl in
@@ -119,29 +112,29 @@ asked_is f (e ∷ entries) low t rise least alike from = elim (cases_lt t e.tick
     behind (x ∷ xs) all = (let more = all.0 in omega (arith, more), behind xs all.1)
 
 -- the number that stands for a search in the list is that of its comparisons
-pub asked_there : {I : Type 0} (number : I → ℕ) (o : Ordered I Entry) (t : ℕ)
-    → TicketsRise (entries_of number o)
-    → asked_among (asked_in number o 0) (entries_of number o) (asked_beside number o) t
-    ≡ asked_in number o t
-asked_there number o t rise =
-    asked_is (asked_in number o) (entries_of number o) 0 t rise (each (entries_of number o))
-    (λ a b one two all. same_down _ _ (tree_in number o)
-    (alike_along (entry_in o) a b (order_in number o) all)) (omega arith)
+pub asked_there : (o : Ordered Entry) (t : ℕ)
+    → TicketsRise (entries_of o)
+    → asked_among (asked_in o 0) (entries_of o) (asked_beside o) t
+    ≡ asked_in o t
+asked_there o t rise =
+    asked_is (asked_in o) (entries_of o) 0 t rise (each (entries_of o))
+    (λ a b one two all. same_down _ _ (tree_in o)
+    (alike_along (entry_in o) a b (order_in o) all)) (omega arith)
   where
     each : (xs : List Entry) → AllByRecursion (λ (x : Entry). 0 ≤ x.ticket) xs
     each [] = tt
     each (x ∷ xs) = (omega arith, each xs)
 
 -- and it is within the bound
-pub asked_within : {I : Type 0} (number : I → ℕ) (o : Ordered I Entry) (t old new : ℕ)
-    → TicketsRise (entries_of number o) → new ≡ old + asked_in number o t
-    → new ≤ old + most_comparisons (size_in o) → length (ordered_entries number o) ≡ size_in o
-    → asked_among (asked_in number o 0) (entries_of number o) (asked_beside number o) t
-    ≤ most_comparisons (length (entries_of number o))
-asked_within number o t old new rise ticks bound count =
-    let is = asked_there number o t rise in
-    let size : length (entries_of number o) ≡ size_in o =
-    length-map (ordered_entries number o) (λ x. x.1.1) ∙ count in
-    let most : most_comparisons (length (entries_of number o)) ≡ most_comparisons (size_in o) =
+pub asked_within : (o : Ordered Entry) (t old new : ℕ)
+    → TicketsRise (entries_of o) → new ≡ old + asked_in o t
+    → new ≤ old + most_comparisons (size_in o) → length (ordered_entries o) ≡ size_in o
+    → asked_among (asked_in o 0) (entries_of o) (asked_beside o) t
+    ≤ most_comparisons (length (entries_of o))
+asked_within o t old new rise ticks bound count =
+    let is = asked_there o t rise in
+    let size : length (entries_of o) ≡ size_in o =
+    length-map (ordered_entries o) (λ x. x.1.1) ∙ count in
+    let most : most_comparisons (length (entries_of o)) ≡ most_comparisons (size_in o) =
     ap most_comparisons size in
     omega (arith, is, most, ticks, bound)

@@ -71,17 +71,17 @@ along_without at at' i entries (j ∷ w) off = by (at j) refl (along_without at 
     by (Some e) is rest = along_some at' j w e (now ∙ is) ∙ ap (λ l. e.1 ∷ l) rest
         ∙ sym (along_some at j w e is)
 
-module _ {I : Type 0} (number : I → ℕ) (old new : Ordered I Entry) (ordered : IsOrdered number old)
-    (rise : TicketsRise (entries_of number old)) where
-  entry_out : (last : Option ℕ) (i : ℕ) (e : ℕ × Entry) → IsEntryRemoved number last i old new
+module _ (old new : Ordered Entry) (ordered : IsOrdered old)
+    (rise : TicketsRise (entries_of old)) where
+  entry_out : (last : Option ℕ) (i : ℕ) (e : ℕ × Entry) → IsEntryRemoved last i old new
       → entry_in old i ≡ Some e
-      → entries_of number new ≡ without_ticket e.1.ticket (entries_of number old)
+      → entries_of new ≡ without_ticket e.1.ticket (entries_of old)
   entry_out last i e removed is =
       let apart = Apart-split removed.order.before removed.order.after i
       (subst Apart removed.order.was
-      (linear_apart (ends_in number old.chains) None (order_in number old) ordered.linear)) in
+      (linear_apart (ends_in old.chains) None (order_in old) ordered.linear)) in
       let at = entry_in old in
-      let split : entries_of number old
+      let split : entries_of old
       ≡ along at removed.order.before ++ e.1 ∷ along at removed.order.after =
       ap (along at) removed.order.was
       ∙ along-append at removed.order.before (i ∷ removed.order.after)
@@ -102,7 +102,7 @@ module _ {I : Type 0} (number : I → ℕ) (old new : Ordered I Entry) (ordered 
       (taken : G × Entry) (is : option_map value answer ≡ Some taken)
       (found : option_map {U = ℕ × Entry} (λ a. (generation (value a).0, (value a).1)) answer
       ≡ entry_in old i)
-      (removed : OnSome answer (IsEntryRemoved number last i old new)) where
+      (removed : OnSome answer (IsEntryRemoved last i old new)) where
     pub taken_stood : entry_in old i ≡ Some (generation taken.0, taken.1)
     taken_stood = sym found ∙ by answer is
       where
@@ -112,12 +112,12 @@ module _ {I : Type 0} (number : I → ℕ) (old new : Ordered I Entry) (ordered 
         by None none = absurd (let no : ◌≡◌ {A = Option (G × Entry)} None (Some taken) = none in cc)
         by (Some a) some = ap (option_map {U = ℕ × Entry} (λ x. (generation x.0, x.1))) some
 
-    gone : IsEntryRemoved number last i old new
+    gone : IsEntryRemoved last i old new
     gone = by answer is removed
       where
         by : (o : Option A) → option_map value o ≡ Some taken
-            → OnSome o (IsEntryRemoved number last i old new)
-            → IsEntryRemoved number last i old new
+            → OnSome o (IsEntryRemoved last i old new)
+            → IsEntryRemoved last i old new
         by None none h = absurd
             (let no : ◌≡◌ {A = Option (G × Entry)} None (Some taken) = none in cc)
         by (Some a) some h = h
@@ -132,12 +132,12 @@ module _ {I : Type 0} (number : I → ℕ) (old new : Ordered I Entry) (ordered 
     pub others_stand : (k : ℕ) → k ≢ i → entry_in new k ≡ entry_in old k
     others_stand k other = gone.entries k ∙ rw (ne_eqb k i other) refl
 
-    pub entry_taken : entries_of number new ≡ without_ticket taken.1.ticket (entries_of number old)
+    pub entry_taken : entries_of new ≡ without_ticket taken.1.ticket (entries_of old)
     entry_taken = entry_out last i (generation taken.0, taken.1) gone taken_stood
 
-    pub rise_taken : TicketsRise (entries_of number new)
+    pub rise_taken : TicketsRise (entries_of new)
     rise_taken = subst TicketsRise (sym entry_taken)
-        (still_rise taken.1.ticket (entries_of number old) rise)
+        (still_rise taken.1.ticket (entries_of old) rise)
 
 -- a removal that finds nothing, though an entry stands
 pub none_taken : {A B : Type 0} (value : A → B) (entry : A → ℕ × Entry) (answer : Option A)

@@ -26,14 +26,6 @@ use Rattle.ticket_book.proofs.TicketLemmas.{lookup_missing}
 
 -- ---- how many comparisons are made
 
-pub asked_by_look : (b : Tickets) (t : ℕ) → nat_lt t b.first_elsewhere ≡ true
-    → look_count (entry_at b t) ≡ asked b t
-asked_by_look b t low = sym (rw low refl)
-
-pub asked_by_search : (b : Tickets) (t : ℕ) → nat_lt t b.first_elsewhere ≡ false
-    → asked_among b.asked_below b.entries b.asked_along t ≡ asked b t
-asked_by_search b t high = sym (rw high refl)
-
 one_at_most : (o : Option Entry) → look_count o ≤ 1
 one_at_most None = omega arith
 one_at_most (Some e) = omega arith
@@ -64,13 +56,13 @@ looked_at_one n o e is = let one : look_count o ≡ 1 = ap look_count is in omeg
 -- ---- what a look finds
 
 -- no entry stands at index 0, or past the greatest index
-pub nowhere : {I : Type 0} (o : Ordered I Entry) (greatest t : ℕ) → IsWellFormed o.chains
+pub nowhere : (o : Ordered Entry) (greatest t : ℕ) → IsWellFormed o.chains
     → arena_capacity o.chains ≤ max_index_of greatest → (t ≡ 0) ⊎ (greatest < t)
     → entry_in o t ≡ None
-nowhere {I} o greatest t formed bounded (inl zero_is) = ap (entry_in o) zero_is
-nowhere {I} o greatest t formed bounded (inr past) = by (link_at o.chains t) refl
+nowhere o greatest t formed bounded (inl zero_is) = ap (entry_in o) zero_is
+nowhere o greatest t formed bounded (inr past) = by (link_at o.chains t) refl
   where
-    by : (e : Option (ℕ × IndexLink I (IndexNode I Entry))) → link_at o.chains t ≡ e
+    by : (e : Option (ℕ × IndexLink (IndexNode Entry))) → link_at o.chains t ≡ e
         → entry_in o t ≡ None
     by None is = ap (λ e. option_map itemed (option_map valued e)) is
     by (Some e) is =
@@ -78,12 +70,12 @@ nowhere {I} o greatest t formed bounded (inr past) = by (link_at o.chains t) ref
         absurd (omega (arith, within, bounded, past))
 
 -- a ticket that stands nowhere but at its own number is missing, if it is not there
-pub missing_there : {I : Type 0} (number : I → ℕ) (o : Ordered I Entry) (first t : ℕ)
+pub missing_there : (o : Ordered Entry) (first t : ℕ)
     → StandByNumber first (entry_in o)
     → ((e : ℕ × Entry) → entry_in o t ≡ Some e → e.1.ticket ≡ t → ⊥)
-    → t < first → lookup (entries_of number o) t ≡ None
-missing_there number o first t stand apart low =
-    sym (lookup_missing number o t (λ i some equal. other i (entry_in o i) refl some equal))
+    → t < first → lookup (entries_of o) t ≡ None
+missing_there o first t stand apart low =
+    sym (lookup_missing o t (λ i some equal. other i (entry_in o i) refl some equal))
   where
     other : (i : ℕ) (x : Option (ℕ × Entry)) → entry_in o i ≡ x → IsSome (entry_in o i)
         → asked_of nat_cmp (λ (e : Entry). e.ticket) t (entry_in o i) ≡ Equal → ⊥
@@ -167,12 +159,6 @@ numbered_renewed f first at at' same each stand k e is less = by (at k) refl
         let own : f d.1 ≡ e.1 = cc in
         let ticket : d.1.ticket ≡ e.1.ticket = sym (same d.1) ∙ ap (λ (x : Entry). x.ticket) own in
         stand k d was (omega (arith, ticket, less)) ∙ ticket
-
--- no entry, or no ticket below the first
-pub numbered_none : (first : ℕ) (at : ℕ → Option (ℕ × Entry)) → ((k : ℕ) → at k ≡ None)
-    → StandByNumber first at
-numbered_none first at none k e is less =
-    absurd (let no : ◌≡◌ {A = Option (ℕ × Entry)} None (Some e) = sym (none k) ∙ is in cc)
 
 pub numbered_from_zero : (at : ℕ → Option (ℕ × Entry)) → StandByNumber 0 at
 numbered_from_zero at k e is less = absurd (omega (arith, less))

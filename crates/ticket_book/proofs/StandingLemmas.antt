@@ -71,17 +71,17 @@ pub stands_renewed : (f : Entry → Entry) (old new : Option (ℕ × Entry))
 stands_renewed f None new is = ap (option_map (λ (e : ℕ × Entry). e.1)) is
 stands_renewed f (Some e) new is = ap (option_map (λ (e : ℕ × Entry). e.1)) is
 
-module _ {I : Type 0} (number : I → ℕ) (law : AllStand number) where
-  pub stands_there : (o : Ordered I Entry) → IsOrdered number o → (i : ℕ)
+module _ (law : AllStand) where
+  pub stands_there : (o : Ordered Entry) → IsOrdered o → (i : ℕ)
       → option_map (λ (x : ℕ × Entry). x.1)
-      (find (λ (x : ℕ × Entry). x.0 == i) (standing_in number o))
+      (find (λ (x : ℕ × Entry). x.0 == i) (standing_in o))
       ≡ option_map (λ (e : ℕ × Entry). e.1) (entry_in o i)
   stands_there o ordered i = by (entry_in o i) refl
     where
       by : (e : Option (ℕ × Entry)) → entry_in o i ≡ e
-          → found (entry_in o) i (order_in number o)
+          → found (entry_in o) i (order_in o)
           ≡ option_map (λ (e : ℕ × Entry). e.1) (entry_in o i)
-      by None is = found_nowhere (entry_in o) i (order_in number o) is
+      by None is = found_nowhere (entry_in o) i (order_in o) is
           ∙ sym (ap (option_map (λ (e : ℕ × Entry). e.1)) is)
       by (Some e) is =
           let there = law o i ordered (rw is refl) in
@@ -89,13 +89,13 @@ module _ {I : Type 0} (number : I → ℕ) (law : AllStand number) where
           ∙ sym (ap (option_map (λ (e : ℕ × Entry). e.1)) is)
 
   -- the entries that stood still stand if there is one more
-  pub still_stand : (old new : Ordered I Entry) (j g : ℕ) (t : Entry)
-      → IsOrdered number old → IsOrdered number new → IsAdded number j g t old new
+  pub still_stand : (old new : Ordered Entry) (j g : ℕ) (t : Entry)
+      → IsOrdered old → IsOrdered new → IsAdded j g t old new
       → (i : ℕ) (e : Entry)
       → option_map (λ (x : ℕ × Entry). x.1)
-      (find (λ (x : ℕ × Entry). x.0 == i) (standing_in number old)) ≡ Some e
+      (find (λ (x : ℕ × Entry). x.0 == i) (standing_in old)) ≡ Some e
       → option_map (λ (x : ℕ × Entry). x.1)
-      (find (λ (x : ℕ × Entry). x.0 == i) (standing_in number new)) ≡ Some e
+      (find (λ (x : ℕ × Entry). x.0 == i) (standing_in new)) ≡ Some e
   still_stand old new j g t ordered ordered' added i e stood =
       let there : option_map (λ (x : ℕ × Entry). x.1) (entry_in old i) ≡ Some e =
       sym (stands_there old ordered i) ∙ stood in
@@ -110,10 +110,10 @@ module _ {I : Type 0} (number : I → ℕ) (law : AllStand number) where
       stands_there new ordered' i ∙ now
 
   -- and the one more stands at its index
-  pub added_stands : (old new : Ordered I Entry) (j g : ℕ) (t : Entry)
-      → IsOrdered number new → IsAdded number j g t old new → (i : ℕ) → i ≡ j
+  pub added_stands : (old new : Ordered Entry) (j g : ℕ) (t : Entry)
+      → IsOrdered new → IsAdded j g t old new → (i : ℕ) → i ≡ j
       → option_map (λ (x : ℕ × Entry). x.1)
-      (find (λ (x : ℕ × Entry). x.0 == i) (standing_in number new)) ≡ Some t
+      (find (λ (x : ℕ × Entry). x.0 == i) (standing_in new)) ≡ Some t
   added_stands old new j g t ordered added i same =
       let here : entry_in new i ≡ Some (g, t) = added.entries i ∙ rw (eq-eqb i j same) refl in
       stands_there new ordered i ∙ ap (option_map (λ (e : ℕ × Entry). e.1)) here

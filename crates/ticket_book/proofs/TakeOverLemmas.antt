@@ -12,13 +12,12 @@ module _ (f : Entry → Entry) where
   mapped [] = refl
   mapped (x ∷ l) = ap (λ es. f x.1.1 ∷ es) (mapped l)
 
-  pub taken_over : {J I : Type 0} (old_number : J → ℕ) (number : I → ℕ)
-      → (old : Ordered J Entry) (new : Ordered I Entry)
-      → ordered_entries number new ≡ indexed new
-      → map value_of (indexed new) ≡ map (λ e. f e.1.1) (ordered_entries old_number old)
-      → entries_of number new ≡ map f (entries_of old_number old)
-  taken_over old_number number old new listed values =
-      ap (map (λ x. x.1.1)) listed ∙ values ∙ mapped (ordered_entries old_number old)
+  pub taken_over : (old : Ordered Entry) (new : Ordered Entry)
+      → ordered_entries new ≡ indexed new
+      → map value_of (indexed new) ≡ map (λ e. f e.1.1) (ordered_entries old)
+      → entries_of new ≡ map f (entries_of old)
+  taken_over old new listed values =
+      ap (map (λ x. x.1.1)) listed ∙ values ∙ mapped (ordered_entries old)
 
   pub rise_over : ((e : Entry) → (f e).ticket ≡ e.ticket) → (l : List Entry)
       → TicketsRise l → TicketsRise (map f l)

@@ -8,11 +8,10 @@ use Rattle.std.specs.Cmp.{ranked, nat_cmp_is}
 use Rattle.std.specs.Ordering.{nat_cmp, is_lt}
 use Rattle.std.specs.declared.cmp.Ordering.TheVariants.{Equal, Greater}
 use Rattle.std.proofs.lemmas.Bool.{eq-eqb, ne_eqb}
-use Rattle.rank_tree.specs.Search.{AllIn}
 use Rattle.rank_tree.specs.declared.side.Side.TheVariants.{Right}
 use Rattle.triple_arena.specs.Content.{entry_at}
 use Rattle.triple_arena.specs.Entries.{with_entry}
-use Rattle.triple_arena_chain.specs.Chains.{Ends, Stands, On, first_or, last_or, next_in}
+use Rattle.triple_arena_chain.specs.Chains.{Ends, IsSegment, On, first_or, last_or, next_in}
 use Rattle.triple_arena_chain.specs.Links.{ends_in}
 use Rattle.triple_arena_chain.specs.LinkShape.{IndexLink}
 use Rattle.triple_arena_ord.specs.NodeShape.{IndexNode}
@@ -109,7 +108,7 @@ none_along at t other (i ∷ w) = by (at i) refl (other i) (none_along at t othe
 
 -- an entry more leaves those along a list of live indexes
 along_with : (at at' : ℕ → Option (ℕ × Entry)) (i : ℕ) (x : ℕ × Entry) → at i ≡ None
-    → ((k : ℕ) → at' k ≡ with_entry at i x k) → (w : List ℕ) → AllIn (λ j. IsSome (at j)) w
+    → ((k : ℕ) → at' k ≡ with_entry at i x k) → (w : List ℕ) → AllByRecursion (λ j. IsSome (at j)) w
     → along at' w ≡ along at w
 along_with at at' i x vacant entries [] all = refl
 along_with at at' i x vacant entries (j ∷ w) all =
@@ -128,12 +127,12 @@ along_with at at' i x vacant entries (j ∷ w) all =
 
 module _ (ends : ℕ → Option Ends) where
   stands_at : (b : Option ℕ) (xs : List ℕ) (h : ℕ) (after : List ℕ)
-      → Stands ends b (xs ++ h ∷ after) None
+      → IsSegment ends b (xs ++ h ∷ after) None
       → (prev : Option ℕ) × (ends h ≡ Some (prev, first_or after None))
   stands_at b [] h after stands = (b, stands.0)
   stands_at b (x ∷ xs) h after stands = stands_at (Some x) xs h after stands.1
 
-  last_stands : (b : Option ℕ) (x : ℕ) (xs : List ℕ) (h : ℕ) → Stands ends b (x ∷ xs) None
+  last_stands : (b : Option ℕ) (x : ℕ) (xs : List ℕ) (h : ℕ) → IsSegment ends b (x ∷ xs) None
       → last_or (Some x) xs ≡ Some h → (prev : Option ℕ) × (ends h ≡ Some (prev, None))
   last_stands b x [] h stands is =
       (b, subst (λ k. ends k ≡ Some (b, None)) (some_same x h is) stands.0)
@@ -144,124 +143,123 @@ module _ (ends : ℕ → Option Ends) where
   no_first (a ∷ after) none = absurd (let no : Some a ≡ None = none in cc)
 
   -- nothing follows the last of a list
-  none_behind : (xs : List ℕ) (h : ℕ) (after : List ℕ) → Stands ends None (xs ++ h ∷ after) None
+  none_behind : (xs : List ℕ) (h : ℕ) (after : List ℕ) → IsSegment ends None (xs ++ h ∷ after) None
       → last_or None (xs ++ h ∷ after) ≡ Some h → after ≡ []
   none_behind xs h after stands last =
       let one = stands_at None xs h after stands in
       let other = ended xs stands last in
       no_first after (ap next_in (sym one.1 ∙ other.1))
     where
-      ended : (xs : List ℕ) → Stands ends None (xs ++ h ∷ after) None
+      ended : (xs : List ℕ) → IsSegment ends None (xs ++ h ∷ after) None
           → last_or None (xs ++ h ∷ after) ≡ Some h
           → (prev : Option ℕ) × (ends h ≡ Some (prev, None))
       ended [] stands last = last_stands None h after h stands last
       ended (x ∷ xs) stands last = last_stands None x (xs ++ h ∷ after) h stands last
 
 -- each live index of an ordered arena is in its list
-abbrev pub AllStand : {I : Type 0} → (I → ℕ) → Type 0
-AllStand {I = I} number = (o : Ordered I Entry) (i : ℕ) → IsOrdered number o
-    → IsSome (entry_in o i) → On (order_in number o) i
+abbrev pub AllStand : Type 0
+AllStand = (o : Ordered Entry) (i : ℕ) → IsOrdered o
+    → IsSome (entry_in o i) → On (order_in o) i
 
-module _ {I : Type 0} (number : I → ℕ) where
-  -- each index of the list is live
-  live_along : (o : Ordered I Entry) (b : Option ℕ) (w : List ℕ)
-      → Stands (ends_in number o.chains) b w None → AllIn (λ j. IsSome (entry_in o j)) w
-  live_along o b [] stands = tt
-  live_along o b (j ∷ w) stands =
-      (live (entry_at o.chains j) refl stands.0, live_along o (Some j) w stands.1)
+-- each index of the list is live
+live_along : (o : Ordered Entry) (b : Option ℕ) (w : List ℕ)
+    → IsSegment (ends_in o.chains) b w None → AllByRecursion (λ j. IsSome (entry_in o j)) w
+live_along o b [] stands = tt
+live_along o b (j ∷ w) stands =
+    (live (entry_at o.chains j) refl stands.0, live_along o (Some j) w stands.1)
+  where
+    live : (c : Option (ℕ × IndexLink (IndexNode Entry))) → entry_at o.chains j ≡ c
+        → ends_in o.chains j ≡ Some (b, first_or w None) → IsSome (entry_in o j)
+    live None is ends = absurd
+        (let no : ◌≡◌ {A = Option Ends} None (Some (b, first_or w None)) = sym (rw is refl)
+        ∙ ends in cc)
+    live (Some c) is ends = rw is refl
+
+-- an entry of the arena is found under its ticket
+pub lookup_standing : AllStand → (o : Ordered Entry) (i : ℕ) (e : ℕ × Entry)
+    → IsOrdered o → TicketsRise (entries_of o) → entry_in o i ≡ Some e
+    → lookup (entries_of o) e.1.ticket ≡ Some e.1
+lookup_standing law o i e ordered rise is =
+    let at = entry_in o in
+    let there = law o i ordered (rw is refl) in
+    let split : entries_of o ≡ along at there.front ++ e.1 ∷ along at there.back =
+    ap (along at) there.is ∙ along-append at there.front (i ∷ there.back)
+    ∙ ap (λ l. along at there.front ++ l) (along_some at i there.back e is) in
+    ap (λ l. lookup l e.1.ticket) split
+    ∙ lookup_at (along at there.front) (along at there.back) e.1 (subst TicketsRise split rise)
+
+-- a search that found an entry
+pub lookup_found : AllStand → {P : Type 0} (index generation : P → ℕ)
+    (o : Ordered Entry) (t : ℕ) (p : P)
+    → IsOrdered o → TicketsRise (entries_of o)
+    → Answers index generation (asked_at nat_cmp (λ (e : Entry). e.ticket) t o) o p Equal
+    → (e : Entry) × ((option_map (λ (x : ℕ × Entry). x.1) (entry_in o (index p)) ≡ Some e)
+    × (lookup (entries_of o) t ≡ Some e))
+lookup_found law index generation o t p ordered rise answers =
+    by (entry_in o (index p)) refl answers.live answers.way
+  where
+    at : ℕ → Option (ℕ × Entry)
+    at = entry_in o
+
+    by : (x : Option (ℕ × Entry)) → at (index p) ≡ x
+        → option_map (λ (e : ℕ × Entry). e.0) (at (index p)) ≡ Some (generation p)
+        → asked_of nat_cmp (λ (e : Entry). e.ticket) t (at (index p)) ≡ Equal
+        → (e : Entry) × ((option_map (λ (x : ℕ × Entry). x.1) (at (index p)) ≡ Some e)
+        × (lookup (entries_of o) t ≡ Some e))
+    by None is live way =
+        absurd (let no : ◌≡◌ {A = Option ℕ} None (Some (generation p)) = sym (rw is refl)
+        ∙ live in cc)
+    by (Some e) is live way =
+        let way_there : nat_cmp t e.1.ticket ≡ Equal = sym (rw is refl) ∙ way in
+        let same : t ≡ e.1.ticket = ranked t e.1.ticket Equal (sym way_there) in (
+          e.1,
+          (
+            ap (option_map (λ (x : ℕ × Entry). x.1)) is,
+            ap (lookup (entries_of o)) same
+                ∙ lookup_standing law o (index p) e ordered rise is,
+          ),
+        )
+
+-- a search that found none
+pub lookup_missing : (o : Ordered Entry) (t : ℕ)
+    → ((i : ℕ) → IsSome (entry_in o i) → asked_at nat_cmp (λ (e : Entry). e.ticket) t o i ≢ Equal)
+    → None ≡ lookup (entries_of o) t
+lookup_missing o t other = sym (none_along (entry_in o) t other (order_in o))
+
+module _ (old new : Ordered Entry) (i g : ℕ) (e : Entry) (ordered : IsOrdered old)
+    (added : IsAdded i g e old new) where
+  added_last : order_in new ≡ order_in old ++ i ∷ []
+      → entries_of new ≡ entries_of old ++ e ∷ []
+  added_last order =
+      let here : entry_in new i ≡ Some (g, e) = added.entries i ∙ rw (eq-eqb i i refl) refl in
+      ap (along (entry_in new)) order
+      ∙ along-append (entry_in new) (order_in old) (i ∷ [])
+      ∙ ap (λ l. l ++ along (entry_in new) (i ∷ []))
+      (along_with (entry_in old) (entry_in new) i (g, e) added.vacant added.entries
+      (order_in old)
+      (live_along old None (order_in old) ordered.linear))
+      ∙ ap (λ l. entries_of old ++ l) (along_some (entry_in new) i [] (g, e) here)
+
+  -- an entry behind the last one
+  pub added_behind : (h : ℕ)
+      → StandsAt (Some (h, Greater)) (order_in old) (order_in new) i
+      → last_or None (order_in old) ≡ Some h
+      → entries_of new ≡ entries_of old ++ e ∷ []
+  added_behind h stands last = added_last (behind stands)
     where
-      live : (c : Option (ℕ × IndexLink I (IndexNode I Entry))) → entry_at o.chains j ≡ c
-          → ends_in number o.chains j ≡ Some (b, first_or w None) → IsSome (entry_in o j)
-      live None is ends = absurd
-          (let no : ◌≡◌ {A = Option Ends} None (Some (b, first_or w None)) = sym (rw is refl)
-          ∙ ends in cc)
-      live (Some c) is ends = rw is refl
+      behind : StandsBeside Right (order_in old) (order_in new) h i
+          → order_in new ≡ order_in old ++ i ∷ []
+      behind beside =
+          let none : beside.after ≡ [] =
+          none_behind (ends_in old.chains) beside.before h beside.after
+          (subst (λ w. IsSegment (ends_in old.chains) None w None) beside.was ordered.linear)
+          (ap (last_or None) (sym beside.was) ∙ last) in
+          beside.is ∙ ap (λ after. beside.before ++ h ∷ i ∷ after) none
+          ∙ sym (append_assoc beside.before (h ∷ []) (i ∷ []))
+          ∙ ap (λ w. w ++ i ∷ [])
+          (sym (beside.was ∙ ap (λ after. beside.before ++ h ∷ after) none))
 
-  -- an entry of the arena is found under its ticket
-  pub lookup_standing : AllStand number → (o : Ordered I Entry) (i : ℕ) (e : ℕ × Entry)
-      → IsOrdered number o → TicketsRise (entries_of number o) → entry_in o i ≡ Some e
-      → lookup (entries_of number o) e.1.ticket ≡ Some e.1
-  lookup_standing law o i e ordered rise is =
-      let at = entry_in o in
-      let there = law o i ordered (rw is refl) in
-      let split : entries_of number o ≡ along at there.front ++ e.1 ∷ along at there.back =
-      ap (along at) there.is ∙ along-append at there.front (i ∷ there.back)
-      ∙ ap (λ l. along at there.front ++ l) (along_some at i there.back e is) in
-      ap (λ l. lookup l e.1.ticket) split
-      ∙ lookup_at (along at there.front) (along at there.back) e.1 (subst TicketsRise split rise)
-
-  -- a search that found an entry
-  pub lookup_found : AllStand number → {P : Type 0} (index generation : P → ℕ)
-      (o : Ordered I Entry) (t : ℕ) (p : P)
-      → IsOrdered number o → TicketsRise (entries_of number o)
-      → Answers index generation (asked_at nat_cmp (λ (e : Entry). e.ticket) t o) o p Equal
-      → (e : Entry) × ((option_map (λ (x : ℕ × Entry). x.1) (entry_in o (index p)) ≡ Some e)
-      × (lookup (entries_of number o) t ≡ Some e))
-  lookup_found law index generation o t p ordered rise answers =
-      by (entry_in o (index p)) refl answers.live answers.way
-    where
-      at : ℕ → Option (ℕ × Entry)
-      at = entry_in o
-
-      by : (x : Option (ℕ × Entry)) → at (index p) ≡ x
-          → option_map (λ (e : ℕ × Entry). e.0) (at (index p)) ≡ Some (generation p)
-          → asked_of nat_cmp (λ (e : Entry). e.ticket) t (at (index p)) ≡ Equal
-          → (e : Entry) × ((option_map (λ (x : ℕ × Entry). x.1) (at (index p)) ≡ Some e)
-          × (lookup (entries_of number o) t ≡ Some e))
-      by None is live way =
-          absurd (let no : ◌≡◌ {A = Option ℕ} None (Some (generation p)) = sym (rw is refl)
-          ∙ live in cc)
-      by (Some e) is live way =
-          let way_there : nat_cmp t e.1.ticket ≡ Equal = sym (rw is refl) ∙ way in
-          let same : t ≡ e.1.ticket = ranked t e.1.ticket Equal (sym way_there) in (
-            e.1,
-            (
-              ap (option_map (λ (x : ℕ × Entry). x.1)) is,
-              ap (lookup (entries_of number o)) same
-                  ∙ lookup_standing law o (index p) e ordered rise is,
-            ),
-          )
-
-  -- a search that found none
-  pub lookup_missing : (o : Ordered I Entry) (t : ℕ)
-      → ((i : ℕ) → IsSome (entry_in o i) → asked_at nat_cmp (λ (e : Entry). e.ticket) t o i ≢ Equal)
-      → None ≡ lookup (entries_of number o) t
-  lookup_missing o t other = sym (none_along (entry_in o) t other (order_in number o))
-
-  module _ (old new : Ordered I Entry) (i g : ℕ) (e : Entry) (ordered : IsOrdered number old)
-      (added : IsAdded number i g e old new) where
-    added_last : order_in number new ≡ order_in number old ++ i ∷ []
-        → entries_of number new ≡ entries_of number old ++ e ∷ []
-    added_last order =
-        let here : entry_in new i ≡ Some (g, e) = added.entries i ∙ rw (eq-eqb i i refl) refl in
-        ap (along (entry_in new)) order
-        ∙ along-append (entry_in new) (order_in number old) (i ∷ [])
-        ∙ ap (λ l. l ++ along (entry_in new) (i ∷ []))
-        (along_with (entry_in old) (entry_in new) i (g, e) added.vacant added.entries
-        (order_in number old)
-        (live_along old None (order_in number old) ordered.linear))
-        ∙ ap (λ l. entries_of number old ++ l) (along_some (entry_in new) i [] (g, e) here)
-
-    -- an entry behind the last one
-    pub added_behind : (h : ℕ)
-        → StandsAt (Some (h, Greater)) (order_in number old) (order_in number new) i
-        → last_or None (order_in number old) ≡ Some h
-        → entries_of number new ≡ entries_of number old ++ e ∷ []
-    added_behind h stands last = added_last (behind stands)
-      where
-        behind : StandsBeside Right (order_in number old) (order_in number new) h i
-            → order_in number new ≡ order_in number old ++ i ∷ []
-        behind beside =
-            let none : beside.after ≡ [] =
-            none_behind (ends_in number old.chains) beside.before h beside.after
-            (subst (λ w. Stands (ends_in number old.chains) None w None) beside.was ordered.linear)
-            (ap (last_or None) (sym beside.was) ∙ last) in
-            beside.is ∙ ap (λ after. beside.before ++ h ∷ i ∷ after) none
-            ∙ sym (append_assoc beside.before (h ∷ []) (i ∷ []))
-            ∙ ap (λ w. w ++ i ∷ [])
-            (sym (beside.was ∙ ap (λ after. beside.before ++ h ∷ after) none))
-
-    -- an entry in an empty arena
-    pub added_first : StandsAt None (order_in number old) (order_in number new) i
-        → entries_of number new ≡ entries_of number old ++ e ∷ []
-    added_first stands = added_last (stands.1 ∙ ap (λ w. w ++ i ∷ []) (sym stands.0))
+  -- an entry in an empty arena
+  pub added_first : StandsAt None (order_in old) (order_in new) i
+      → entries_of new ≡ entries_of old ++ e ∷ []
+  added_first stands = added_last (stands.1 ∙ ap (λ w. w ++ i ∷ []) (sym stands.0))

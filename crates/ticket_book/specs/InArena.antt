@@ -10,21 +10,20 @@ abbrev pub StandByNumber : ℕ → (ℕ → Option (ℕ × Entry)) → Type 0
 StandByNumber first at = (i : ℕ) (e : ℕ × Entry) → at i ≡ Some e → e.1.ticket < first
     → i ≡ e.1.ticket
 
-module _ {I : Type 0} (number : I → ℕ) where
-  -- the entries along the list
-  abbrev pub entries_of : Ordered I Entry → List Entry
-  entries_of o = map (λ x. x.1.1) (ordered_entries number o)
+-- the entries along the list
+abbrev pub entries_of : Ordered Entry → List Entry
+entries_of o = map (λ x. x.1.1) (ordered_entries o)
 
-  -- the same beside their indexes
-  abbrev pub standing_in : Ordered I Entry → List (ℕ × Entry)
-  standing_in o = map (λ x. (x.0, x.1.1)) (ordered_entries number o)
+-- the same beside their indexes
+abbrev pub standing_in : Ordered Entry → List (ℕ × Entry)
+standing_in o = map (λ x. (x.0, x.1.1)) (ordered_entries o)
 
-  -- how many entries the search for a ticket compares with
-  abbrev pub asked_in : Ordered I Entry → ℕ → ℕ
-  asked_in o ticket = asked_down (asked_at nat_cmp (λ (e : Entry). e.ticket) ticket o)
-      (tree_in number o)
+-- how many entries the search for a ticket compares with
+abbrev pub asked_in : Ordered Entry → ℕ → ℕ
+asked_in o ticket = asked_down (asked_at nat_cmp (λ (e : Entry). e.ticket) ticket o)
+    (tree_in o)
 
-  -- the same beside each entry: for its ticket, and for one behind it
-  abbrev pub asked_beside : Ordered I Entry → List (ℕ × ℕ)
-  asked_beside o = map (λ (e : Entry). (asked_in o e.ticket, asked_in o (e.ticket + 1)))
-      (entries_of o)
+-- the same beside each entry: for its ticket, and for one behind it
+abbrev pub asked_beside : Ordered Entry → List (ℕ × ℕ)
+asked_beside o = map (λ (e : Entry). (asked_in o e.ticket, asked_in o (e.ticket + 1)))
+    (entries_of o)

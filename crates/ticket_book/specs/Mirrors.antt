@@ -1,5 +1,5 @@
 -- A mirror leads from an old pointer to the new one. What it makes of the pointers of entries.
-use Rattle.std.specs.Prelude.{ℕ, Option, unwrap_or}
+use Rattle.std.specs.Prelude.{◌≡◌, ℕ, Option, unwrap_or}
 use Rattle.std.specs.Option.{option_map}
 use Rattle.triple_arena.specs.Entries.{value_if}
 use Rattle.ticket_book.specs.declared.entry.Kind.{Kind}
@@ -30,3 +30,15 @@ renewed_entry places stops marks e =
       index = (renewed_under places stops marks e.kind e.index e.generation).0;
       generation = (renewed_under places stops marks e.kind e.index e.generation).1;
     }
+
+-- an entry renewed by mirrors whose pointers have these indexes and generations
+abbrev pub renewed_by : {P : Type 0} → (P → ℕ) → (P → ℕ) → (ℕ → Option (ℕ × P))
+    → (ℕ → Option (ℕ × P)) → (ℕ → Option (ℕ × P)) → Entry → Entry
+renewed_by index generation places stops marks =
+    renewed_entry (numbers index generation places) (numbers index generation stops)
+    (numbers index generation marks)
+
+-- this is made of each value, whose index and generation stay
+abbrev pub AreCast : {V : Type 0} → (V → V) → (ℕ → Option (ℕ × V)) → (ℕ → Option (ℕ × V))
+    → Type 0
+AreCast cast old new = (j : ℕ) → new j ≡ option_map (λ e. (e.0, cast e.1)) (old j)

@@ -1,5 +1,5 @@
 -- What a contract sees of a ticket book.
-use Rattle.std.specs.Prelude.{ℕ, ◌==◌, ◌<◌, min, List, [], ◌∷◌, Option, Some, None, filter}
+use Rattle.std.specs.Prelude.{◌≡◌, ℕ, ◌==◌, ◌<◌, min, List, [], ◌∷◌, Option, Some, None, filter}
 use Rattle.std.specs.Prelude.{find, not, nat_lt, if◌then◌else◌}
 use Rattle.std.specs.List.{AllByRecursion}
 use Rattle.std.specs.Option.{option_map}
@@ -58,6 +58,15 @@ elsewhere_after first index ticket = if index == ticket then first else min firs
 -- the entry of a ticket
 abbrev pub lookup : List Entry → ℕ → Option Entry
 lookup entries ticket = find (λ (e : Entry). e.ticket == ticket) entries
+
+-- the entry that a ticket gets, with the kind of its item and the pointer to it
+abbrev pub new_entry : ℕ → Kind → ℕ → ℕ → Entry
+new_entry ticket kind index generation =
+    record { ticket = ticket; kind = kind; index = index; generation = generation }
+
+-- the entry of a ticket stands at this index
+abbrev pub IsLocated : Tickets → ℕ → ℕ → Type 0
+IsLocated b ticket i = (e : Entry) × (entry_at b i ≡ Some e) × (lookup b.entries ticket ≡ Some e)
 
 -- the entries but that of a ticket
 abbrev pub without_ticket : ℕ → List Entry → List Entry

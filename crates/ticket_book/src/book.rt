@@ -4,11 +4,11 @@ ghost use Rattle.std.specs.Prelude.{◌∷◌, length, map, Some, None, IsTrue, 
 ghost use Rattle.std.specs.Prelude.{IfSome, IfNone, IsSome, ⊤};
 ghost use Rattle.std.specs.Option.{option_map};
 ghost use Rattle.rank_tree.specs.Comparisons.{most_comparisons};
-ghost use Rattle.ticket_book.specs.Mirrors.{numbers, renewed_entry};
+ghost use Rattle.ticket_book.specs.Mirrors.{renewed_by};
 ghost use Rattle.ticket_book.specs.InArena.{entries_of};
-ghost use Rattle.ticket_book.specs.Tickets.{AreBelow, Entry as EntryView, asked, asked_among};
-ghost use Rattle.ticket_book.specs.Tickets.{elsewhere_after, entry_at, look_count, lookup};
-ghost use Rattle.ticket_book.specs.Tickets.{without_ticket};
+ghost use Rattle.ticket_book.specs.Tickets.{AreBelow, Entry as EntryView, IsLocated, asked};
+ghost use Rattle.ticket_book.specs.Tickets.{asked_among, elsewhere_after, entry_at, new_entry};
+ghost use Rattle.ticket_book.specs.Tickets.{look_count, lookup, without_ticket};
 ghost use Rattle.triple_arena.specs.ArenaRoom.{room_of};
 ghost use Rattle.triple_arena.specs.Content.{arena_capacity};
 ghost use Rattle.triple_arena_ord.specs.Inserted.{IsAdded};
@@ -17,6 +17,7 @@ ghost use Rattle.triple_arena_stack.specs.Room.{capacity as capacity_of, IsBeyon
 
 use crate::entry::{Entry, Kind};
 use crate::renewal::renew_entries;
+use proof_marks::{recall, unreached};
 use std::cmp::Ordering;
 use std::marker::Model;
 use std::num::NonZeroUsize;
@@ -25,7 +26,6 @@ use triple_arena_chain::LinkNoGen;
 use triple_arena_ord::laws::{entries_stand_in_the_list, the_list_has_as_many_entries_as_are_live};
 use triple_arena_ord::{OrdSlots, SimpleOrdArena, SimpleOrdArenaNode};
 use triple_arena_ptr::{Probes, PtrCore, PtrInxCore, ReallocationError};
-use unreached::unreached;
 
 /// A slot of a ticket book.
 pub type TicketSlot<P> = ArenaSlot<P, LinkNoGen<P, SimpleOrdArenaNode<P, Entry<P>>>>;
@@ -50,16 +50,16 @@ impl<P: PtrCore, S: OrdSlots<P, Entry<P>>> Model for TicketBook<P, S> {
     ghost use Rattle.triple_arena_ord.specs.Ordered.{entry_in};
 
     ghost view = { λ b. record {
-      entries = entries_of P.Inx.number b.arena;
-      standing = standing_in P.Inx.number b.arena;
+      entries = entries_of b.arena;
+      standing = standing_in b.arena;
       capacity = arena_capacity b.arena.chains;
       next_index = index_of_next b.arena.chains;
       first_elsewhere = b.first_elsewhere;
-      asked_below = asked_in P.Inx.number b.arena 0;
-      asked_along = asked_beside P.Inx.number b.arena;
+      asked_below = asked_in b.arena 0;
+      asked_along = asked_beside b.arena;
     } };
 
-    ghost invariant = { λ b. TicketsRise (entries_of P.Inx.number b.arena)
+    ghost invariant = { λ b. TicketsRise (entries_of b.arena)
         × StandByNumber b.first_elsewhere (entry_in b.arena) };
 }
 
@@ -96,15 +96,13 @@ fn put_last<P: PtrCore, S: OrdSlots<P, Entry<P>>>(
     entry: Entry<P>,
 ) -> P
     requires { size_in arena.old < arena_capacity arena.old.chains }
-    ensures added { IsAdded P.Inx.number (P.index result) (P.generation result) entry
-        arena.old arena.new }
-    ensures entries { entries_of P.Inx.number arena.new
-        ≡ entries_of P.Inx.number arena.old ++ entry ∷ [] }
+    ensures added { IsAdded (P.index result) (P.generation result) entry arena.old arena.new }
+    ensures entries { entries_of arena.new ≡ entries_of arena.old ++ entry ∷ [] }
     ensures room { arena.new.chains.room ≡ arena.old.chains.room }
-    ensures ordered { IsOrdered P.Inx.number arena.new }
+    ensures ordered { IsOrdered arena.new }
 {
     // The list is as it must be.
-    let _ = arena.len();
+    recall!(arena.len());
     match arena.last() {
         Some(last) => {
             let behind = Some((last.inx(), Ordering::Greater));
@@ -115,7 +113,8 @@ fn put_last<P: PtrCore, S: OrdSlots<P, Entry<P>>>(
 }
 
 impl<P: PtrCore, S: OrdSlots<P, Entry<P>>> TicketBook<P, S> {
-    /// A book without a ticket, with room for so many.
+    /// A book without a ticket, with room for so many. It returns `BeyondMaxCapacity` if no book of
+    /// this type has so much room, and `AllocError` if the memory was refused.
     pub fn with_room(alloc: S::Alloc, room: usize) -> Result<Self, ReallocationError>
         ensures empty { IfOk result (λ book. book.entries ≡ []) }
         ensures fits { IfOk result (λ book. room ≤ book.capacity) }
@@ -139,9 +138,7 @@ impl<P: PtrCore, S: OrdSlots<P, Entry<P>>> TicketBook<P, S> {
     /// [`entry`](TicketBook::entry) and [`take`](TicketBook::take) until a ticket is added or taken
     /// out; a renewal leaves it.
     pub fn locate(&self, ticket: u64, probes: &mut Probes) -> Option<P::Inx>
-        ensures found { IfSome result (λ at. (e : EntryView)
-            × (entry_at self.now (P.Inx.number at) ≡ Some e)
-            × (lookup self.now.entries ticket ≡ Some e)) }
+        ensures found { IfSome result (λ at. IsLocated self.now ticket (P.Inx.number at)) }
         ensures none { IfNone result (lookup self.now.entries ticket ≡ None) }
         ensures ticks { probes.new ≡ probes.old + asked self.now ticket }
         ensures bound { asked self.now ticket ≤ most_comparisons (length self.now.entries) }
@@ -155,9 +152,7 @@ impl<P: PtrCore, S: OrdSlots<P, Entry<P>>> TicketBook<P, S> {
 
     // The index with the ticket's own number, if the entry there has the ticket.
     fn look(&self, ticket: u64, probes: &mut Probes) -> Option<P::Inx>
-        ensures found { IfSome result (λ at. (e : EntryView)
-            × (entry_at self.now (P.Inx.number at) ≡ Some e)
-            × (lookup self.now.entries ticket ≡ Some e)) }
+        ensures found { IfSome result (λ at. IsLocated self.now ticket (P.Inx.number at)) }
         ensures none { IfNone result
             (ticket < self.now.first_elsewhere → lookup self.now.entries ticket ≡ None) }
         ensures ticks { probes.new ≡ probes.old + look_count (entry_at self.now ticket) }
@@ -166,8 +161,8 @@ impl<P: PtrCore, S: OrdSlots<P, Entry<P>>> TicketBook<P, S> {
     {
         entries_stand_in_the_list::<P, Entry<P>>();
         // The list is as it must be, and its indexes are within the capacity.
-        let _ = self.arena.len();
-        let _ = self.arena.capacity();
+        recall!(self.arena.len());
+        recall!(self.arena.capacity());
         match index_of::<P::Inx>(ticket) {
             Some(at) => match self.arena.get_inx(at) {
                 Some(found) => {
@@ -186,9 +181,7 @@ impl<P: PtrCore, S: OrdSlots<P, Entry<P>>> TicketBook<P, S> {
 
     // Where the entry of a ticket stands, by a search.
     fn search(&self, ticket: u64, probes: &mut Probes) -> Option<P::Inx>
-        ensures found { IfSome result (λ at. (e : EntryView)
-            × (entry_at self.now (P.Inx.number at) ≡ Some e)
-            × (lookup self.now.entries ticket ≡ Some e)) }
+        ensures found { IfSome result (λ at. IsLocated self.now ticket (P.Inx.number at)) }
         ensures none { IfNone result (lookup self.now.entries ticket ≡ None) }
         ensures ticks { probes.new ≡ probes.old
             + asked_among self.now.asked_below self.now.entries self.now.asked_along ticket }
@@ -199,7 +192,7 @@ impl<P: PtrCore, S: OrdSlots<P, Entry<P>>> TicketBook<P, S> {
         entries_stand_in_the_list::<P, Entry<P>>();
         the_list_has_as_many_entries_as_are_live::<P, Entry<P>>();
         // The list is as it must be.
-        let _ = self.arena.len();
+        recall!(self.arena.len());
         match self.arena.find_key_counted(&ticket, probes) {
             Some(p) => Some(p.inx()),
             None => None,
@@ -214,14 +207,15 @@ impl<P: PtrCore, S: OrdSlots<P, Entry<P>>> TicketBook<P, S> {
     {
         entries_stand_in_the_list::<P, Entry<P>>();
         // The list is as it must be.
-        let _ = self.arena.len();
+        recall!(self.arena.len());
         match self.arena.get_inx(at) {
             Some(found) => found.1,
             None => unreached!(),
         }
     }
 
-    /// The entry of a ticket, found as by [`locate`](TicketBook::locate).
+    /// The entry of a ticket, or `None` if the book does not have the ticket. It is found as by
+    /// [`locate`](TicketBook::locate), and each comparison is a tick.
     pub fn find_counted(&self, ticket: u64, probes: &mut Probes) -> Option<&Entry<P>>
         ensures found { option_map (λ e. e.now) result ≡ lookup self.now.entries ticket }
         ensures ticks { probes.new ≡ probes.old + asked self.now ticket }
@@ -233,26 +227,18 @@ impl<P: PtrCore, S: OrdSlots<P, Entry<P>>> TicketBook<P, S> {
         }
     }
 
-    /// A ticket above all others. It is compared with none, and its entry stands at the next index.
+    /// Adds a ticket above all others, with the kind of its item and the pointer to it. The caller
+    /// owes that it is above them and that there is room. The ticket is compared with none, and its
+    /// entry stands at the next index.
     pub fn add(&mut self, ticket: u64, kind: Kind, at: P)
         requires above { AreBelow self.old.entries ticket }
         requires room { length self.old.entries < self.old.capacity }
-        ensures stands { entry_at self.new self.old.next_index ≡ Some (record {
-          ticket = ticket;
-          kind = kind;
-          index = P.index at;
-          generation
-              = P.generation at;
-        }) }
+        ensures stands { entry_at self.new self.old.next_index
+            ≡ Some (new_entry ticket kind (P.index at) (P.generation at)) }
         ensures stay { (i : ℕ) (e : EntryView) → entry_at self.old i ≡ Some e
             → entry_at self.new i ≡ Some e }
-        ensures entries { self.new.entries ≡ self.old.entries ++ record {
-          ticket = ticket;
-          kind = kind;
-          index = P.index at;
-          generation
-              = P.generation at;
-        } ∷ [] }
+        ensures entries { self.new.entries ≡ self.old.entries
+            ++ new_entry ticket kind (P.index at) (P.generation at) ∷ [] }
         ensures capacity { self.new.capacity ≡ self.old.capacity }
         ensures elsewhere { self.new.first_elsewhere
             ≡ elsewhere_after self.old.first_elsewhere self.old.next_index ticket }
@@ -260,7 +246,7 @@ impl<P: PtrCore, S: OrdSlots<P, Entry<P>>> TicketBook<P, S> {
         entries_stand_in_the_list::<P, Entry<P>>();
         the_list_has_as_many_entries_as_are_live::<P, Entry<P>>();
         // The list is as it must be.
-        let _ = self.arena.len();
+        recall!(self.arena.len());
         let entry = Entry::new(ticket, kind, at);
         let p = put_last(&mut self.arena, entry);
         self.first_elsewhere = elsewhere_after(self.first_elsewhere, p.inx(), ticket);
@@ -273,22 +259,21 @@ impl<P: PtrCore, S: OrdSlots<P, Entry<P>>> TicketBook<P, S> {
         ensures entry { entry_at self.old (P.Inx.number at) ≡ Some result }
         ensures found { lookup self.old.entries result.ticket ≡ Some result }
         ensures out { self.new.entries ≡ without_ticket result.ticket self.old.entries }
-        ensures stay { (i : ℕ) → i ≢ P.Inx.number at
-            → entry_at self.new i ≡ entry_at self.old i }
+        ensures stay { (i : ℕ) → i ≢ P.Inx.number at → entry_at self.new i ≡ entry_at self.old i }
         ensures capacity { self.new.capacity ≡ self.old.capacity }
         ensures elsewhere { self.new.first_elsewhere ≡ self.old.first_elsewhere }
     {
         entries_stand_in_the_list::<P, Entry<P>>();
         // The list is as it must be.
-        let _ = self.arena.len();
+        recall!(self.arena.len());
         match self.arena.remove_inx(at).allow() {
             Some(taken) => taken.1,
             None => unreached!(),
         }
     }
 
-    /// Each pointer becomes what the mirror of its kind has under it. One that the mirror has not
-    /// stays, and so does each entry where it is.
+    /// Replaces the pointer of each entry by the one that the mirror of its kind has under it. A
+    /// pointer that the mirror does not have stays, and each entry stays at its index.
     pub fn renew<M: ArenaTrait<P, P>, N: ArenaTrait<P, P>, O: ArenaTrait<P, P>>(
         &mut self,
         places: &M,
@@ -296,20 +281,18 @@ impl<P: PtrCore, S: OrdSlots<P, Entry<P>>> TicketBook<P, S> {
         marks: &O,
     )
         ensures entries { self.new.entries
-            ≡ map (renewed_entry (numbers P.index P.generation (M.entry_at places.now))
-            (numbers P.index P.generation (N.entry_at stops.now))
-            (numbers P.index P.generation (O.entry_at marks.now))) self.old.entries }
-        ensures stands { (i : ℕ) → entry_at self.new i ≡ option_map (renewed_entry
-            (numbers P.index P.generation (M.entry_at places.now))
-            (numbers P.index P.generation (N.entry_at stops.now))
-            (numbers P.index P.generation (O.entry_at marks.now))) (entry_at self.old i) }
+            ≡ map (renewed_by P.index P.generation (M.entry_at places.now) (N.entry_at stops.now)
+            (O.entry_at marks.now)) self.old.entries }
+        ensures stands { (i : ℕ) → entry_at self.new i
+            ≡ option_map (renewed_by P.index P.generation (M.entry_at places.now)
+            (N.entry_at stops.now) (O.entry_at marks.now)) (entry_at self.old i) }
         ensures capacity { self.new.capacity ≡ self.old.capacity }
         ensures elsewhere { self.new.first_elsewhere ≡ self.old.first_elsewhere }
     {
         entries_stand_in_the_list::<P, Entry<P>>();
         // The list is as it must be, before and after.
-        let _ = self.arena.len();
+        recall!(self.arena.len());
         renew_entries(&mut self.arena, places, stops, marks);
-        let _ = self.arena.len();
+        recall!(self.arena.len());
     }
 }

@@ -6,6 +6,7 @@ ghost use Rattle.ticket_book.specs.Moving.{entry_over};
 
 use crate::book::TicketBook;
 use crate::entry::Entry;
+use proof_marks::{recall, unreached};
 use std::marker::PhantomData;
 use triple_arena::ArenaTrait;
 use triple_arena_ord::OrdSlots;
@@ -13,7 +14,6 @@ use triple_arena_ord::laws::{
     canonical_transfers_list_by_index, the_list_has_as_many_entries_as_are_live,
 };
 use triple_arena_ptr::{PtrCore, PtrGenCore, at_index_of};
-use unreached::unreached;
 
 impl<P: PtrCore> Entry<P> {
     // The entry of the same ticket over other pointers. A closure that calls this has to name its
@@ -43,7 +43,7 @@ impl<P: PtrCore, S: OrdSlots<P, Entry<P>>> TicketBook<P, S> {
         the_list_has_as_many_entries_as_are_live::<Q, Entry<Q>>();
         let mut arena = source.arena;
         // The list is as it must be.
-        let _ = arena.len();
+        recall!(arena.len());
         let to = PhantomData::<Entry<P>>;
         let taken = self.arena.transfer_canonical_reallocating(
             P::Gen::two(),

@@ -1,10 +1,10 @@
 //! Entries whose items got other pointers.
-ghost use Rattle.std.specs.Prelude.{◌≡◌, ℕ};
-ghost use Rattle.std.specs.Option.{option_map};
-ghost use Rattle.ticket_book.specs.Mirrors.{numbers, renewed_entry, renewed_pointer};
+ghost use Rattle.std.specs.Prelude.{◌≡◌};
+ghost use Rattle.ticket_book.specs.Mirrors.{AreCast, numbers, renewed_by, renewed_pointer};
 ghost use Rattle.triple_arena_ord.specs.Ordered.{entry_in, order_in};
 
 use crate::entry::{Entry, Kind};
+use proof_marks::recall;
 use triple_arena::{Advancer, ArenaTrait};
 use triple_arena_ord::laws::writes_keep_the_list;
 use triple_arena_ord::{OrdSlots, SimpleOrdArena};
@@ -30,9 +30,8 @@ impl<P: PtrCore> Entry<P> {
         stops: &N,
         marks: &O,
     )
-        ensures { self.new ≡ renewed_entry (numbers P.index P.generation (M.entry_at places.now))
-            (numbers P.index P.generation (N.entry_at stops.now))
-            (numbers P.index P.generation (O.entry_at marks.now)) self.old }
+        ensures { self.new ≡ renewed_by P.index P.generation (M.entry_at places.now)
+            (N.entry_at stops.now) (O.entry_at marks.now) self.old }
     {
         match self.kind {
             Kind::Place => self.at = renewed(places, self.at),
@@ -50,19 +49,14 @@ pub(crate) fn renew_entries<
     N: ArenaTrait<P, P>,
     O: ArenaTrait<P, P>,
 >(arena: &mut SimpleOrdArena<P, Entry<P>, S>, places: &M, stops: &N, marks: &O)
-    ensures entries { (j : ℕ) → entry_in arena.new j ≡ option_map (λ e. (
-      e.0,
-      renewed_entry
-          (numbers P.index P.generation (M.entry_at places.now))
-          (numbers P.index P.generation (N.entry_at stops.now))
-          (numbers P.index P.generation (O.entry_at marks.now)) e.1,
-    )) (entry_in arena.old j) }
-    ensures order { order_in P.Inx.number arena.new ≡ order_in P.Inx.number arena.old }
+    ensures entries { AreCast (renewed_by P.index P.generation (M.entry_at places.now)
+        (N.entry_at stops.now) (O.entry_at marks.now)) (entry_in arena.old) (entry_in arena.new) }
+    ensures order { order_in arena.new ≡ order_in arena.old }
     ensures room { arena.new.chains.room ≡ arena.old.chains.room }
 {
     writes_keep_the_list::<P, Entry<P>>();
     // The list is as it must be.
-    let _ = arena.len();
+    recall!(arena.len());
     let mut walk = arena.advancer();
     while let Some(p) = walk.advance(arena) {
         if let Some(entry) = arena.get_mut(p) {

@@ -8,7 +8,7 @@ use Rattle.std.proofs.lemmas.Bool.Decides.{eqb_tells}
 use Rattle.std.proofs.lemmas.List.Elements.{filter-append}
 use Rattle.std.specs.Option.{option_map}
 use Rattle.triple_arena.specs.Content.{Lacks}
-use Rattle.triple_arena.specs.FreeLinks.{Ends, first_or, Stands, neighbors_behind, with_next_at}
+use Rattle.triple_arena.specs.FreeLinks.{Ends, first_or, IsSegment, neighbors_behind, with_next_at}
 use Rattle.triple_arena.specs.FreeLinks.{with_prev_at}
 use Rattle.triple_arena.specs.Layout.{head_after}
 use Rattle.triple_arena.specs.Slot.{index_up_to}
@@ -149,7 +149,7 @@ next_stays e (Some i) n j w at =
 module _ (e : ℕ → Option Ends) where
   -- a list is known from its first index
   pub same_list : (b b' : Option ℕ) (xs ys : List ℕ) → first_or xs None ≡ first_or ys None
-      → Stands e b xs None → Stands e b' ys None → xs ≡ ys
+      → IsSegment e b xs None → IsSegment e b' ys None → xs ≡ ys
   same_list b b' [] [] first s t = refl
   same_list b b' [] (y ∷ ys) first s t = absurd (cc)
   same_list b b' (x ∷ xs) [] first s t = absurd (cc)
@@ -160,8 +160,8 @@ module _ (e : ℕ → Option Ends) where
       let rest : xs ≡ ys = same_list (Some x) (Some y) xs ys (ap next_in both) s.1 t.1 in
       cc
 
-  lacks_shorter : (b b' : Option ℕ) (i : ℕ) (m l : List ℕ) → Stands e b (i ∷ m) None
-      → length l ≤ length m → Stands e b' l None → Lacks l i
+  lacks_shorter : (b b' : Option ℕ) (i : ℕ) (m l : List ℕ) → IsSegment e b (i ∷ m) None
+      → length l ≤ length m → IsSegment e b' l None → Lacks l i
   lacks_shorter b b' i m [] whole fewer s = tt
   lacks_shorter b b' i m (j ∷ l) whole fewer s =
       let differs : j ≢ i = λ same. let again =
@@ -170,34 +170,34 @@ module _ (e : ℕ → Option Ends) where
       (differs, lacks_shorter b (Some j) i m l whole (omega (arith, fewer)) s.1)
 
   -- the first of a list comes once
-  pub once : (b : Option ℕ) (i : ℕ) (l : List ℕ) → Stands e b (i ∷ l) None → Lacks l i
+  pub once : (b : Option ℕ) (i : ℕ) (l : List ℕ) → IsSegment e b (i ∷ l) None → Lacks l i
   once b i l s = lacks_shorter b (Some i) i l l s (omega arith) s.1
 
   -- and so does each other one
   pub once-front : (b : Option ℕ) (xs : List ℕ) (i : ℕ) (ys : List ℕ)
-      → Stands e b (xs ++ i ∷ ys) None → Lacks xs i
+      → IsSegment e b (xs ++ i ∷ ys) None → Lacks xs i
   once-front b [] i ys s = tt
   once-front b (x ∷ xs) i ys s =
       let rest = lacks_back x xs (i ∷ ys) (once b x (xs ++ i ∷ ys) s) in
       (λ same. rest.0 (sym same), once-front (Some x) xs i ys s.1)
 
-  stands_back : (b : Option ℕ) (xs ys : List ℕ) → Stands e b (xs ++ ys) None
-      → Stands e (last_or b xs) ys None
+  stands_back : (b : Option ℕ) (xs ys : List ℕ) → IsSegment e b (xs ++ ys) None
+      → IsSegment e (last_or b xs) ys None
   stands_back b [] ys s = s
   stands_back b (x ∷ xs) ys s = stands_back (Some x) xs ys s.1
 
   pub once-back : (b : Option ℕ) (xs : List ℕ) (i : ℕ) (ys : List ℕ)
-      → Stands e b (xs ++ i ∷ ys) None → Lacks ys i
+      → IsSegment e b (xs ++ i ∷ ys) None → Lacks ys i
   once-back b xs i ys s = once (last_or b xs) i ys (stands_back b xs (i ∷ ys) s)
 
-  stands_append : (b : Option ℕ) (xs ys : List ℕ) → Stands e b xs (first_or ys None)
-      → Stands e (last_or b xs) ys None → Stands e b (xs ++ ys) None
+  stands_append : (b : Option ℕ) (xs ys : List ℕ) → IsSegment e b xs (first_or ys None)
+      → IsSegment e (last_or b xs) ys None → IsSegment e b (xs ++ ys) None
   stands_append b [] ys s t = t
   stands_append b (x ∷ []) ys s t = (s.0, t)
   stands_append b (x ∷ y ∷ xs) ys s t = (s.0, stands_append (Some x) (y ∷ xs) ys s.1 t)
 
   -- the last before an index is on no list that is behind it
-  last_off : (b : Option ℕ) (xs ys : List ℕ) → Stands e b (xs ++ ys) None
+  last_off : (b : Option ℕ) (xs ys : List ℕ) → IsSegment e b (xs ++ ys) None
       → ((x : ℕ) → b ≡ Some x → Lacks ys x) → (x : ℕ)
       → last_or b xs ≡ Some x → Lacks ys x
   last_off b [] ys s off x is = off x is
@@ -208,7 +208,7 @@ module _ (e : ℕ → Option Ends) where
 
   -- what stands at an index is the pair of its neighbors on the list, if what is on no list has
   -- none
-  pub listed_neighbors : (b : Option ℕ) (l : List ℕ) (i : ℕ) → Stands e b l None
+  pub listed_neighbors : (b : Option ℕ) (l : List ℕ) (i : ℕ) → IsSegment e b l None
       → (Lacks l i → e i ≡ None) → e i ≡ neighbors_behind b l i
   listed_neighbors b [] i s off = off tt
   listed_neighbors b (x ∷ l) i s off =
@@ -218,7 +218,7 @@ module _ (e : ℕ → Option Ends) where
       ]
 
   -- the first of a list has links
-  pub first_links : (b : Option ℕ) (l : List ℕ) → Stands e b l None → (j : ℕ)
+  pub first_links : (b : Option ℕ) (l : List ℕ) → IsSegment e b l None → (j : ℕ)
       → first_or l None ≡ Some j → (w : Ends) × (e j ≡ Some w)
   first_links b [] s j is = absurd (cc)
   first_links b (x ∷ l) s j is =
@@ -226,7 +226,7 @@ module _ (e : ℕ → Option Ends) where
       ((b, first_or l None), ap e (sym same) ∙ s.0)
 
   -- what has no links is on no list
-  pub none_off : (b : Option ℕ) (l : List ℕ) (i : ℕ) → Stands e b l None → e i ≡ None → Lacks l i
+  pub none_off : (b : Option ℕ) (l : List ℕ) (i : ℕ) → IsSegment e b l None → e i ≡ None → Lacks l i
   none_off b [] i s none = tt
   none_off b (x ∷ l) i s none = (
     λ same. let both : None ≡ Some (b, first_or l None) = sym none ∙ ap e (sym same)
@@ -236,11 +236,11 @@ module _ (e : ℕ → Option Ends) where
 
 -- the neighbors of an index on a list have links too
 pub next_links : (e : ℕ → Option Ends) (b : Option ℕ) (xs ys : List ℕ) (i : ℕ) (v : Ends) (j : ℕ)
-    → Stands e b (xs ++ i ∷ ys) None → e i ≡ Some v
+    → IsSegment e b (xs ++ i ∷ ys) None → e i ≡ Some v
     → v.1 ≡ Some j → (w : Ends) × (e j ≡ Some w)
 next_links e b xs ys i v j s at is = by_back ys (stands_back e b xs (i ∷ ys) s)
   where
-    by_back : (zs : List ℕ) → Stands e (last_or b xs) (i ∷ zs) None → (w : Ends) × (e j ≡ Some w)
+    by_back : (zs : List ℕ) → IsSegment e (last_or b xs) (i ∷ zs) None → (w : Ends) × (e j ≡ Some w)
     by_back [] t =
         let both : Some v ≡ Some (last_or b xs, None) = sym at ∙ t.0 in
         let none : None ≡ Some j = sym (ap next_in both) ∙ is in
@@ -252,7 +252,7 @@ next_links e b xs ys i v j s at is = by_back ys (stands_back e b xs (i ∷ ys) s
         ((Some i, first_or zs None), ap e (sym same) ∙ t.1.0)
 
 pub prev_links : (e : ℕ → Option Ends) (b : Option ℕ) (xs ys : List ℕ) (i : ℕ) (v : Ends) (j : ℕ)
-    → Stands e b (xs ++ i ∷ ys) None → e i ≡ Some v
+    → IsSegment e b (xs ++ i ∷ ys) None → e i ≡ Some v
     → v.0 ≡ Some j → ((x : ℕ) → b ≡ Some x → (w : Ends) × (e x ≡ Some w))
     → (w : Ends) × (e j ≡ Some w)
 prev_links e b [] ys i v j s at is before =
@@ -269,7 +269,7 @@ last_some y (z ∷ ys) = last_some z ys
 
 -- the head of a list that an index left
 pub head_taken : (e : ℕ → Option Ends) (xs ys : List ℕ) (i : ℕ) (head prev next : Option ℕ)
-    → Stands e None (xs ++ i ∷ ys) None
+    → IsSegment e None (xs ++ i ∷ ys) None
     → e i ≡ Some (prev, next) → head ≡ first_or (xs ++ i ∷ ys) None
     → head_after head prev next ≡ first_or (xs ++ ys) None
 head_taken e [] ys i head prev next s at is =
@@ -288,15 +288,15 @@ prev_same f g None n k same = same
 prev_same f g (Some j) n k same = rw same refl
 
 module _ (e e' : ℕ → Option Ends) where
-  pub stands_all : ((k : ℕ) → e' k ≡ e k) → (b a : Option ℕ) (xs : List ℕ) → Stands e b xs a
-      → Stands e' b xs a
+  pub stands_all : ((k : ℕ) → e' k ≡ e k) → (b a : Option ℕ) (xs : List ℕ) → IsSegment e b xs a
+      → IsSegment e' b xs a
   stands_all same b a [] s = tt
   stands_all same b a (x ∷ xs) s = (same x ∙ s.0, stands_all same (Some x) a xs s.1)
 
   -- a list stays where the links of its indexes do
   pub stands_kept : (i j : ℕ) (o : Option ℕ) → ((k : ℕ) → k ≢ i → k ≢ j → o ≢ Some k → e' k ≡ e k)
       → (b a : Option ℕ) (xs : List ℕ) → Lacks xs i
-      → Lacks xs j → ((x : ℕ) → o ≡ Some x → Lacks xs x) → Stands e b xs a → Stands e' b xs a
+      → Lacks xs j → ((x : ℕ) → o ≡ Some x → Lacks xs x) → IsSegment e b xs a → IsSegment e' b xs a
   stands_kept i j o same b a [] off_i off_j off_o s = tt
   stands_kept i j o same b a (x ∷ xs) off_i off_j off_o s = (
     same x off_i.0 off_j.0 (λ is. (off_o x is).0 refl) ∙ s.0,
@@ -305,10 +305,10 @@ module _ (e e' : ℕ → Option Ends) where
 
   -- an index that is not on a list goes to its front
   pub put_first : (e1 : ℕ → Option Ends) (head : Option ℕ) (i : ℕ) (l : List ℕ)
-      → Stands e None l None → head ≡ first_or l None → Lacks l i
+      → IsSegment e None l None → head ≡ first_or l None → Lacks l i
       → e1 i ≡ Some (None, head) → ((k : ℕ) → k ≢ i → e1 k ≡ e k)
       → ((k : ℕ) → e' k ≡ with_prev_at e1 head (Some i) k)
-      → Stands e' None (i ∷ l) None
+      → IsSegment e' None (i ∷ l) None
   put_first e1 head i [] s is off at others written =
       let none : e' i ≡ e1 i = written i ∙ ap (λ o. with_prev_at e1 o (Some i) i) is in
       (none ∙ at ∙ ap (λ o. Some (None, o)) is, tt)
@@ -327,9 +327,9 @@ module _ (e e' : ℕ → Option Ends) where
       )
 
   -- the first of a list leaves it
-  pub first_gone : (i : ℕ) (l : List ℕ) → Stands e None (i ∷ l) None
+  pub first_gone : (i : ℕ) (l : List ℕ) → IsSegment e None (i ∷ l) None
       → ((k : ℕ) → k ≢ i → e' k ≡ with_prev_at e (first_or l None) None k)
-      → Stands e' None l None
+      → IsSegment e' None l None
   first_gone i [] s written = tt
   first_gone i (h ∷ t) s written =
       let off = once e None i (h ∷ t) s in (
@@ -340,10 +340,10 @@ module _ (e e' : ℕ → Option Ends) where
             (once e (Some i) h t s.1) (λ x is. absurd (cc)) s.1.1,
       )
 
-  front_joined : (b : Option ℕ) (xs ys : List ℕ) (i : ℕ) → Stands e b (xs ++ i ∷ ys) None
+  front_joined : (b : Option ℕ) (xs ys : List ℕ) (i : ℕ) → IsSegment e b (xs ++ i ∷ ys) None
       → ((k : ℕ) → k ≢ i → first_or ys None ≢ Some k
       → e' k ≡ with_next_at e (last_or b xs) (first_or ys None) k)
-      → Stands e' b xs (first_or ys None)
+      → IsSegment e' b xs (first_or ys None)
   front_joined b [] ys i s written = tt
   front_joined b (x ∷ []) ys i s written =
       let off = once e b x (i ∷ ys) s in (
@@ -361,10 +361,10 @@ module _ (e e' : ℕ → Option Ends) where
         front_joined (Some x) (y ∷ xs) ys i s.1 written,
       )
 
-  back_joined : (o prev : Option ℕ) (i : ℕ) (ys : List ℕ) → Stands e o (i ∷ ys) None
+  back_joined : (o prev : Option ℕ) (i : ℕ) (ys : List ℕ) → IsSegment e o (i ∷ ys) None
       → ((x : ℕ) → prev ≡ Some x → Lacks ys x)
       → ((k : ℕ) → k ≢ i → prev ≢ Some k → e' k ≡ with_prev_at e (first_or ys None) prev k)
-      → Stands e' prev ys None
+      → IsSegment e' prev ys None
   back_joined o prev i [] s off written = tt
   back_joined o prev i (y ∷ ys) s off written =
       let apart = once e o i (y ∷ ys) s in (
@@ -377,10 +377,10 @@ module _ (e e' : ℕ → Option Ends) where
       )
 
   -- an index leaves its list, and its neighbors are joined
-  pub taken : (xs ys : List ℕ) (i : ℕ) (prev next : Option ℕ) → Stands e None (xs ++ i ∷ ys) None
+  pub taken : (xs ys : List ℕ) (i : ℕ) (prev next : Option ℕ) → IsSegment e None (xs ++ i ∷ ys) None
       → e i ≡ Some (prev, next)
       → ((k : ℕ) → k ≢ i → e' k ≡ with_prev_at (with_next_at e prev next) next prev k)
-      → Stands e' None (xs ++ ys) None
+      → IsSegment e' None (xs ++ ys) None
   taken xs ys i prev next s at written =
       let back = stands_back e None xs (i ∷ ys) s in
       let both : Some (prev, next) ≡ Some (last_or None xs, first_or ys None) = sym at ∙ back.0 in

@@ -7,7 +7,7 @@ use Rattle.std.proofs.lemmas.List.{map-set, map_push, length-map, length_push, g
 use Rattle.std.proofs.lemmas.List.{get_or-set_same, get_or-set_other, set-set, set-get_or, set_at}
 use Rattle.std.proofs.lemmas.List.Sums.{sum_by-set, sum_by_push}
 use Rattle.std.proofs.lemmas.Option.{slice_get_within, get_or_from_slice_get}
-use Rattle.triple_arena.specs.FreeLinks.{Ends, first_or, Stands, with_prev_at}
+use Rattle.triple_arena.specs.FreeLinks.{Ends, first_or, IsSegment, with_prev_at}
 use Rattle.triple_arena.specs.Slot.{Slot, free, used, entry_of, links_of, value_of, with_slot_value}
 use Rattle.triple_arena.specs.Slot.{with_slot_generation}
 use Rattle.std.proofs.Common.{IsSome, IfSome, Bor, option_copied, option_to_list, true, false, true≢false, eqb}
@@ -129,7 +129,7 @@ module _ {T : Type 0} where
   none_free es = record { first = refl; stands = tt }
 
   chain_links : (es : List (Slot T)) (n : ℕ) (b : Option ℕ) (l : List ℕ) → length l ≤ n
-      → Stands (links_at es) b l None
+      → IsSegment (links_at es) b l None
       → links es n (first_or l None) ≡ l
   chain_links es zero b [] h s = refl
   chain_links es zero b (i ∷ l) h s = absurd (omega (arith, h))
@@ -156,7 +156,7 @@ module _ {T : Type 0} where
 
   -- the first of a list is free after a write elsewhere
   pub first_free : (es : List (Slot T)) (i : ℕ) (new : Slot T) (b : Option ℕ) (l : List ℕ) → 0 < i
-      → i - 1 < length es → Stands (links_at es) b l None
+      → i - 1 < length es → IsSegment (links_at es) b l None
       → Lacks l i → (j : ℕ) → first_or l None ≡ Some j → IsSome (links_at (set es (i - 1) new) j)
   first_free es i new b l positive within s off j is =
       let w = first_links (links_at es) b l s j is in
@@ -245,7 +245,7 @@ module _ {T : Type 0} where
     pub slot : FreeAt es i (None, first_or rest None)
     pub free_is : links es (length es) (Some i) ≡ i ∷ rest
     pub total : len + (length rest + 1) ≡ length es
-    pub stands : Stands (links_at es) None (i ∷ rest) None
+    pub stands : IsSegment (links_at es) None (i ∷ rest) None
 
   pub head_of : (es : List (Slot T)) (len i : ℕ) (room : Room) → IsSound es len (Some i) room
       → Heads es len i
@@ -257,7 +257,7 @@ module _ {T : Type 0} where
       by_list (j ∷ l) e total f =
           let first = f.first in
           let same : j ≡ i = cc in
-          let stands = subst (λ k. Stands (links_at es) None (k ∷ l) None) same f.stands in
+          let stands = subst (λ k. IsSegment (links_at es) None (k ∷ l) None) same f.stands in
           record {
             rest = l;
             slot = free_at es i (None, first_or l None) stands.0;
@@ -272,19 +272,16 @@ module _ {T : Type 0} where
   head_within {es} {len} {i} {room} is s = (head_of es len i room (rw is at s)).slot.within
 
   -- an index of a free slot is within what the number of slots is within
-  pub place_fits : {I : Type 0} (number : I → ℕ) (o : Option I) (es : List (Slot T)) {n m : ℕ}
-      → n ≡ length es → n < m
-      → ((i : ℕ) → option_map number o ≡ Some i → IsSome (links_at es i))
-      → IfSome o (λ i. number i < m)
-  place_fits number None es count small vacant = tt
-  place_fits number (Some i) es count small vacant =
-      omega (arith, free_within es (number i) (vacant (number i) refl), count, small)
+  pub place_fits : (o : Option ℕ) (es : List (Slot T)) {n m : ℕ} → n ≡ length es → n < m
+      → ((i : ℕ) → o ≡ Some i → IsSome (links_at es i)) → IfSome o (λ i. i < m)
+  place_fits None es count small vacant = tt
+  place_fits (Some i) es count small vacant =
+      omega (arith, free_within es i (vacant i refl), count, small)
 
-  pub head_fits : {I : Type 0} (number : I → ℕ) (o : Option I) {es : List (Slot T)}
-      {len n m : ℕ} {room : Room} → n ≡ length es → n < m → IsSound es len (option_map number o) room
-      → IfSome o (λ i. number i < m)
-  head_fits number None count small sound = tt
-  head_fits number (Some i) count small sound =
+  pub head_fits : (o : Option ℕ) {es : List (Slot T)} {len n m : ℕ} {room : Room}
+      → n ≡ length es → n < m → IsSound es len o room → IfSome o (λ i. i < m)
+  head_fits None count small sound = tt
+  head_fits (Some i) count small sound =
       omega (arith, head_within refl sound, count, small)
 
   -- its slot is free, and what follows it is one of the slots
@@ -648,7 +645,7 @@ module _ {T : Type 0} where
       }
 
   all_vacant : (es : List (Slot T)) (c : Content T) (b : Option ℕ) (l : List ℕ)
-      → c.slots ≡ map entry_of es → Stands (links_at es) b l None → AllVacant c l
+      → c.slots ≡ map entry_of es → IsSegment (links_at es) b l None → AllVacant c l
   all_vacant es c b [] same s = tt
   all_vacant es c b (i ∷ l) same s =
       let f = free_at es i _ s.0 in

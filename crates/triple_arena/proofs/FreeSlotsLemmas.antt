@@ -13,7 +13,7 @@ use Rattle.std.proofs.lemmas.List.{get_or-map, length-map, length_push, map_push
 use Rattle.std.proofs.lemmas.List.Sums.{sum_by_push}
 use Rattle.std.proofs.lemmas.Option.{slice_get_within, get_or_from_slice_get}
 use Rattle.triple_arena_stack.specs.Room.{Room, capacity}
-use Rattle.triple_arena.specs.FreeLinks.{Ends, first_or, Stands, neighbors, renext, reprev}
+use Rattle.triple_arena.specs.FreeLinks.{Ends, first_or, IsSegment, neighbors, renext, reprev}
 use Rattle.triple_arena.specs.FreeLinks.{with_next_at, with_prev_at}
 use Rattle.triple_arena.specs.Slot.{Slot, free, used, entry_of, links_of, free_links, index_up_to}
 use Rattle.triple_arena.specs.Slot.{value_of, with_links, with_prev, with_next}
@@ -456,7 +456,7 @@ module _ {T : Type 0} where
       elim (on_or_off (links es (length es) head) n) [
         | inr off ↦ absurd (each_listed es len head room n v sound (sym at) off)
         | inl on ↦
-            let stands = subst (λ l. Stands (links_at es) None l None) on.is sound.listed.stands in
+            let stands = subst (λ l. IsSegment (links_at es) None l None) on.is sound.listed.stands in
             let p = prev_links (links_at es) None on.front on.back n v j stands (sym at) is
             (λ x none. absurd (cc)) in
             ap is_some p.1
@@ -470,7 +470,7 @@ module _ {T : Type 0} where
       elim (on_or_off (links es (length es) head) n) [
         | inr off ↦ absurd (each_listed es len head room n v sound (sym at) off)
         | inl on ↦
-            let stands = subst (λ l. Stands (links_at es) None l None) on.is sound.listed.stands in
+            let stands = subst (λ l. IsSegment (links_at es) None l None) on.is sound.listed.stands in
             let p = next_links (links_at es) None on.front on.back n v j stands (sym at) is in
             subst IsSome (sym (linked j)) (next_stays (links_at es) v.0 v.1 j p.0 p.1)
       ]
@@ -541,7 +541,7 @@ module _ {T : Type 0} where
       elim (on_or_off l n) [
         | inr off ↦ absurd (each_listed es len head room n v sound (sym at) off)
         | inl on ↦
-            let stands = subst (λ m. Stands (links_at es) None m None) on.is sound.listed.stands in
+            let stands = subst (λ m. IsSegment (links_at es) None m None) on.is sound.listed.stands in
             let rest = on.front ++ on.back in
             let written : (k : ℕ) → k ≢ n
             → links_at es3 k ≡ with_prev_at (with_next_at (links_at es) v.0 v.1) v.1 v.0 k =
@@ -599,7 +599,7 @@ module _ {T : Type 0} where
       ]
     where
       listed_up_to : (xs : List (Slot T)) (m : ℕ) (b : Option ℕ) (k : List ℕ) → m ≡ length xs
-          → Stands (links_at xs) b k None → AllUpTo m k
+          → IsSegment (links_at xs) b k None → AllUpTo m k
       listed_up_to xs m b [] all s = tt
       listed_up_to xs m b (i ∷ k) all s =
           (omega (arith, (free_at xs i _ s.0).within, all), listed_up_to xs m (Some i) k all s.1)

@@ -4,7 +4,7 @@ use Rattle.std.proofs.Common.{◌∷◌, length, map}
 use Rattle.std.specs.Prelude.{Option, Some, None, is_some, count_by, slice_index_or}
 use Rattle.std.specs.Option.{option_map}
 use Rattle.triple_arena_stack.specs.Room.{Room, capacity}
-use Rattle.triple_arena.specs.FreeLinks.{Ends, Stands}
+use Rattle.triple_arena.specs.FreeLinks.{Ends, IsSegment}
 use Rattle.triple_arena.specs.Slot.{
   Slot,
   free,
@@ -26,7 +26,7 @@ use Rattle.triple_arena.specs.IterMut.{value_in, with_entry_value, values_at, wi
 use Rattle.triple_arena.specs.IterMut.{entry_for, holding}
 
 stands_alike : (f g : ℕ → Option Ends) → ((i : ℕ) → g i ≡ f i) →
-    (b : Option ℕ) (l : List ℕ) (a : Option ℕ) → Stands f b l a → Stands g b l a
+    (b : Option ℕ) (l : List ℕ) (a : Option ℕ) → IsSegment f b l a → IsSegment g b l a
 stands_alike f g e b [] a s = tt
 stands_alike f g e b (x ∷ xs) a s = (e x ∙ s.0, stands_alike f g e (Some x) xs a s.1)
 

@@ -12,8 +12,15 @@ use Rattle.triple_arena.specs.ArenaRoom.{room_with}
 use Rattle.triple_arena.specs.Entries.{generation_at}
 use Rattle.triple_arena.specs.Changes.{IsNew}
 use Rattle.triple_arena.specs.Compression.{index_of, value_of, listed_under}
-use Rattle.triple_arena.specs.Content.{Content, vacant_from}
-use Rattle.triple_arena.specs.DirectContent.{DirectContent}
+use Rattle.triple_arena.specs.Content.{Content, vacant_from, entry_at, live_count, some_counter}
+use Rattle.triple_arena.specs.Content.{cleared, reallocated}
+use Rattle.triple_arena.specs.DirectContent.{DirectContent, no_counter}
+use Rattle.triple_arena.specs.DirectContent.{entry_at as direct_entry_at}
+use Rattle.triple_arena.specs.DirectContent.{live_count as direct_live_count}
+use Rattle.triple_arena.specs.DirectContent.{live_entries as direct_live_entries}
+use Rattle.triple_arena.specs.DirectContent.{cleared as directly_cleared}
+use Rattle.triple_arena.specs.DirectContent.{reallocated as directly_reallocated}
+use Rattle.triple_arena.specs.LiveEntries.{live_entries}
 
 module _ {T : Type 0} where
   -- the index of the last of these entries, or 0 where there is none
@@ -112,3 +119,26 @@ module _ {S T : Type 0} (entry_of : S → ℕ → Option (ℕ × T)) (live_of : 
       ⊎ (refused × IsNew entry_of live_of counter_of room_of
       (option_map (next_generation last_generation) (counter_of old))
       (room_with last (room_of old)) new × (new ≡ emptied old))
+
+module _ {T : Type 0} where
+  -- the last live index, or 0 if nothing is live
+  abbrev pub last_inx : Content T → ℕ
+  last_inx c = last_listed (live_entries c)
+
+  -- the same of an arena without a counter
+  abbrev pub direct_last_inx : DirectContent T → ℕ
+  direct_last_inx d = last_listed (direct_live_entries d)
+
+  -- why a copy to an arena was not made, and what it left: the arena as it was, or one that was
+  -- grown to the last index of the source and cleared
+  abbrev pub IsUnmade : Bool → Option ℕ → ℕ → Type 0 → Content T → Content T → Type 0
+  IsUnmade takes_memory last_generation last refused old new =
+      IsUnmadeCopy entry_at live_count some_counter (λ c. c.room) takes_memory last_generation last
+      (λ c. cleared last_generation (reallocated c last)) refused old new
+
+  -- the same of an arena without a counter
+  abbrev pub IsDirectlyUnmade : Bool → Option ℕ → ℕ → Type 0 → DirectContent T → DirectContent T
+      → Type 0
+  IsDirectlyUnmade takes_memory last_generation last refused old new =
+      IsUnmadeCopy direct_entry_at direct_live_count no_counter (λ d. d.room) takes_memory
+      last_generation last (λ d. directly_cleared (directly_reallocated d last)) refused old new

@@ -1,15 +1,10 @@
 -- The list that free slots make, over a plain function from an index to its two neighbors. It has a
 -- value if the slot is free.
 use Rattle.std.specs.Prelude.{◌≡◌, ℕ, ◌==◌, List, [], ◌∷◌, Option, Some, None, if◌then◌else◌}
-use Rattle.std.specs.Option.{option_map}
 
 -- the previous and the next index
 abbrev pub Ends : Type 0
 Ends = Option ℕ × Option ℕ
-
--- the numbers of two optional indexes
-abbrev pub numbered : {I : Type 0} → (I → ℕ) → Option I × Option I → Ends
-numbered number ends = (option_map number ends.0, option_map number ends.1)
 
 -- the first of a list, or what follows the list
 abbrev pub first_or : List ℕ → Option ℕ → Option ℕ
@@ -17,10 +12,10 @@ first_or [] after = after
 first_or (x ∷ xs) after = Some x
 
 -- these indexes stand one after another, the first behind `before` and the last in front of `after`
-abbrev pub Stands : (ℕ → Option Ends) → Option ℕ → List ℕ → Option ℕ → Type 0
-Stands ends before [] after = Unit {0}
-Stands ends before (x ∷ xs) after = (ends x ≡ Some (before, first_or xs after))
-    × Stands ends (Some x) xs after
+abbrev pub IsSegment : (ℕ → Option Ends) → Option ℕ → List ℕ → Option ℕ → Type 0
+IsSegment ends before [] after = Unit {0}
+IsSegment ends before (x ∷ xs) after = (ends x ≡ Some (before, first_or xs after))
+    × IsSegment ends (Some x) xs after
 
 -- the neighbors of an index on a list, if it is there; the first of the list stands behind `before`
 abbrev pub neighbors_behind : Option ℕ → List ℕ → ℕ → Option Ends

@@ -33,14 +33,14 @@ module _ {T : Type 0} (answers : T → Bool → Type 0) where
 
   -- among slots that have the indexes from this one on: the entry behind those that fail, and those
   -- before it
-  record Stands (n : ℕ) (xs : List (Option (ℕ × T))) (i g : ℕ) (t : T) : Type 0 where
+  record IsFirstToAnswer (n : ℕ) (xs : List (Option (ℕ × T))) (i g : ℕ) (t : T) : Type 0 where
     pub from : n ≤ i
     pub read : get_or xs (i - n) None ≡ Some (g, t)
     pub before : (k h : ℕ) (u : T) → n + k < i → get_or xs k None ≡ Some (h, u) → answers u false
 
   stands : (n : ℕ) (xs : List (Option (ℕ × T))) (passed rest : List (ℕ × (ℕ × T))) (i g : ℕ) (t : T)
       → listed_from n xs ≡ passed ++ (i, (g, t)) ∷ rest → EachFails answers passed
-      → Stands n xs i g t
+      → IsFirstToAnswer n xs i g t
   stands n [] [] rest i g t split failed = absurd (cc)
   stands n [] (p ∷ passed) rest i g t split failed = absurd (cc)
   stands n (None ∷ xs) passed rest i g t split failed =
@@ -53,7 +53,7 @@ module _ {T : Type 0} (answers : T → Bool → Type 0) where
         before = earlier behind;
       }
     where
-      earlier : Stands (n + 1) xs i g t → (k h : ℕ) (u : T) → n + k < i
+      earlier : IsFirstToAnswer (n + 1) xs i g t → (k h : ℕ) (u : T) → n + k < i
           → get_or (None ∷ xs) k None ≡ Some (h, u) → answers u false
       earlier behind zero h u below read = absurd (cc)
       earlier behind (suc k) h u below read = behind.before k h u (omega (arith, below)) read
@@ -79,7 +79,7 @@ module _ {T : Type 0} (answers : T → Bool → Type 0) where
         before = earlier here behind;
       }
     where
-      earlier : (n, e) ≡ p → Stands (n + 1) xs i g t → (k h : ℕ) (u : T) → n + k < i
+      earlier : (n, e) ≡ p → IsFirstToAnswer (n + 1) xs i g t → (k h : ℕ) (u : T) → n + k < i
           → get_or (Some e ∷ xs) k None ≡ Some (h, u) → answers u false
       earlier here behind zero h u below read =
           let entry : e ≡ (h, u) = cc in
@@ -104,7 +104,7 @@ module _ {T : Type 0} (answers : T → Bool → Type 0) where
         before = earlier s;
       }
     where
-      earlier : Stands 1 c.slots i g t → (j h : ℕ) (u : T) → j < i → entry_at c j ≡ Some (h, u)
+      earlier : IsFirstToAnswer 1 c.slots i g t → (j h : ℕ) (u : T) → j < i → entry_at c j ≡ Some (h, u)
           → answers u false
       earlier s zero h u below read = absurd (cc)
       earlier s (suc k) h u below read = s.before k h u (omega (arith, below)) read

@@ -20,13 +20,13 @@ use Rattle.triple_arena.specs.Recaster.{pointer_in, IsRecaster, IsRenaming}
 
 module _ {T : Type 0} where
   -- a listed entry stands in its slot
-  pub record Stands (n : ℕ) (xs : List (Option (ℕ × T))) (e : ℕ × (ℕ × T)) : Type 0 where
+  pub record IsListedAt (n : ℕ) (xs : List (Option (ℕ × T))) (e : ℕ × (ℕ × T)) : Type 0 where
     pub at : ℕ
     pub index : index_of e ≡ n + at
     pub slot : get_or xs at None ≡ Some (entry_of_listed e)
 
   pub stands : (n : ℕ) (xs : List (Option (ℕ × T))) (k : ℕ) (e : ℕ × (ℕ × T))
-      → slice_get (listed_from n xs) k ≡ Some e → Stands n xs e
+      → slice_get (listed_from n xs) k ≡ Some e → IsListedAt n xs e
   stands n [] k e found = absurd (cc)
   stands n (None ∷ xs) k e found =
       let rest = stands (n + 1) xs k e found in

@@ -4,12 +4,13 @@ use Rattle.triple_arena.specs.Slot.{Slot, free, used}
 use Rattle.triple_arena.specs.declared.slot.SlotState.{SlotState}
 use Rattle.triple_arena.specs.declared.slot.SlotState.TheVariants.{Free, Used}
 
-module _ {O G T : Type 0} where
-  -- where a word tells the number of a free index, and a generation its own
-  abbrev pub slot_of : (O → Option ℕ) → (G → ℕ) → SlotState O G T → Slot T
-  slot_of place number (Free mark next prev) = free (place prev) (place next)
-  slot_of place number (Used g t) = used (number g) t
+module _ {G T : Type 0} where
+  -- where a generation tells its number
+  abbrev pub slot_of : (G → ℕ) → SlotState (Option ℕ) G T → Slot T
+  slot_of number (Free mark next prev) = free prev next
+  slot_of number (Used g t) = used (number g) t
 
+module _ {O G T : Type 0} where
   abbrev pub state_value : SlotState O G T → Option T
   state_value (Free _ _ _) = None
   state_value (Used g t) = Some t

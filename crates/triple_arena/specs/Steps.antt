@@ -10,6 +10,8 @@ use Rattle.triple_arena.specs.Entries.{generation_at, with_value_at, IsOneOf}
 use Rattle.triple_arena.specs.Transfer.{steps_wrap, IsGivenUp}
 use Rattle.triple_arena.specs.Changes.{IsNew, IsInserted, IsRemoved, IsInvalidated, IsCleared}
 use Rattle.triple_arena.specs.Changes.{IsStepped, IsCompressed, IsExchanged, IsReallocated}
+use Rattle.triple_arena.specs.Content.{Content, entry_at, live_count, some_counter}
+use Rattle.triple_arena.specs.LiveEntries.{live_entries}
 
 -- an entry stored at an index under a generation; the entry at an index removed; its pointer ended,
 -- and one with this generation given in its place; all entries removed at once; each of them taken
@@ -107,3 +109,8 @@ module _ {S T : Type 0} (entry_of : S → ℕ → Option (ℕ × T)) (live_of : 
       × (steps_wrap last (counts moment.0 (live_of s)) (counter_of s)
       ≡ replicate (counts moment.0 (live_of s)) false)
       × Happens moment.1 later
+
+-- what the calls say of a step of an `Arena`
+abbrev pub IsStep : {T : Type 0} → Option ℕ → Step T → Content T → Content T → Type 0
+IsStep last step old new = Takes entry_at live_count some_counter (λ c. c.room) live_entries last
+    step old new

@@ -1,7 +1,7 @@
 //! Going over the pointers of an arena, by their indexes.
 ghost use Rattle.std.specs.Prelude.{◌≡◌, ℕ, ◌+◌, ◌-◌, ◌^◌, ◌<◌, min, if◌then◌else◌, true, false};
 ghost use Rattle.std.specs.Prelude.{length, Option, Some, None, IfSome, IfNone, ⊤};
-ghost use Rattle.std.specs.Int.NonZero.{non_zero_usize_get};
+ghost use Rattle.std.specs.Int.NonZero.{non_zero_usize_get as at};
 ghost use Rattle.std.specs.Option.{option_map};
 ghost use Rattle.triple_arena.specs.Entries.{pointer_at, generation_at};
 ghost use Rattle.triple_arena.specs.Content.{Content, entry_at, last_index as last_index_of};
@@ -9,10 +9,10 @@ ghost use Rattle.triple_arena.specs.DirectContent.{entry_at as entry_of, as_cont
 ghost use Rattle.triple_arena.specs.Walk.{past, to_come, Finds, IsOver, Steps};
 
 use crate::{Arena, ArenaSlots, DirectArena, DirectSlots};
+use proof_marks::unreached;
 use std::marker::{Model, PhantomData};
 use std::num::NonZeroUsize;
 use triple_arena_ptr::{Advancer, AllocError, PtrCore, PtrInxCore};
-use unreached::unreached;
 
 /// Gives the pointers to the entries of an arena, one a call, by rising or by falling index. The
 /// arena is free between the calls.
@@ -125,7 +125,7 @@ pub(crate) trait LivePointers<P: PtrCore, T> {
     // The pointer to the entry at `i`, if it is live.
     fn pointer_of(&self, i: NonZeroUsize) -> Option<P>
         ensures { option_map (λ p. (P.index p, P.generation p)) result
-            ≡ pointer_at (entry_at (content self.now)) (non_zero_usize_get i) };
+            ≡ pointer_at (entry_at (content self.now)) (at i) };
 
     // The pointer to the first live entry at the indexes after `start`, up to `end`.
     final fn first_live(&self, start: usize, end: usize) -> Option<P>

@@ -5,7 +5,7 @@ ghost use Rattle.triple_arena_ptr.specs.InvalidationResult.{answer_of};
 
 use triple_arena_ptr::{InvalidationOption, InvalidationResult};
 
-// The answer with this value, of a step that started the generations again or did not.
+// The answer with this value, of a step that wrapped the generations or did not.
 pub(crate) fn answer<T>(wrapped: bool, value: T) -> InvalidationOption<T>
     ensures value { value_of result ≡ value }
     ensures overflow { overflowed result ≡ wrapped }

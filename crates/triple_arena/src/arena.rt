@@ -1,6 +1,6 @@
 //! The generational arena.
 ghost use Rattle.std.specs.Prelude.{◌≡◌, ◌<◌, ◌≤◌, ℕ, [], Some, length, map, ⊤};
-ghost use Rattle.std.specs.Int.NonZero.{non_zero_usize_get};
+ghost use Rattle.std.specs.Int.NonZero.{non_zero_usize_get as at};
 ghost use Rattle.triple_arena_ptr.specs.Generation.{second_generation};
 ghost use Rattle.triple_arena_ptr.specs.Index.{max_index_of};
 ghost use Rattle.triple_arena.specs.ArenaRoom.{room_of};
@@ -33,6 +33,7 @@ use crate::free_inx::FreeInx;
 use crate::{ArenaSlot, ArenaSlots};
 pub(crate) use compression::{compact, keep_first, take_entry};
 pub use entry::{ArenaInsertEntries, ArenaInsertEntry, ArenaInsertEntryTrait};
+use proof_marks::{recall, unreached};
 pub(crate) use reading::ValueAtMut;
 pub(crate) use recast::{RecastByIndex, recast_values};
 pub use recaster::{compress_recaster, compress_recaster_into};
@@ -44,13 +45,12 @@ use triple_arena_ptr::{OptionalInx, PtrCore, PtrGenCore, PtrInxCore};
 use triple_arena_stack::{
     NonZeroInxArray, NonZeroInxBoxedSlice, NonZeroInxLimitedVec, NonZeroInxVec,
 };
-use unreached::unreached;
 
 /// A generational arena, which keeps its slots in the stack `S`.
 ///
 /// Each value that is inserted gets a pointer of type `P`: an index of a slot, and the generation
 /// of the arena's counter. Each removal steps the counter. If generations are counted, a pointer
-/// finds its own value or nothing, until they start again or a call sets, resets or copies the
+/// finds its own value or nothing, until the generations wrap, or a call sets, resets or copies the
 /// counter.
 #[derive(Drop)]
 pub struct Arena<P: PtrCore, T: Drop, S: ArenaSlots<P, T>> {
@@ -64,7 +64,6 @@ pub struct Arena<P: PtrCore, T: Drop, S: ArenaSlots<P, T>> {
 }
 
 impl<P: PtrCore, T: Drop, S: ArenaSlots<P, T>> Model for Arena<P, T, S> {
-    ghost use Rattle.std.specs.Option.{option_map};
     ghost use Rattle.triple_arena.specs.ArenaRoom.{room_of};
     ghost use Rattle.triple_arena.specs.Content.{Content, content_code};
     ghost use Rattle.triple_arena.specs.Layout.{content_of, IsSound};
@@ -74,10 +73,10 @@ impl<P: PtrCore, T: Drop, S: ArenaSlots<P, T>> Model for Arena<P, T, S> {
     ghost coded = { content_code T.code };
 
     ghost view = { λ a. content_of (S.items a.slots) (room_of P.Inx.greatest (S.room a.slots))
-        (P.Gen.number a.counter) (option_map P.Inx.number a.head) };
+        (P.Gen.number a.counter) a.head };
 
-    ghost invariant = { λ a. IsSound (S.items a.slots) a.len
-        (option_map P.Inx.number a.head) (room_of P.Inx.greatest (S.room a.slots)) };
+    ghost invariant = { λ a. IsSound (S.items a.slots) a.len a.head
+        (room_of P.Inx.greatest (S.room a.slots)) };
 }
 
 /// An arena in a vector, which grows without a limit of its own.
@@ -108,9 +107,9 @@ pub(crate) fn max_index<P: PtrCore>() -> usize
 
 // The pointer with this index and generation.
 pub(crate) fn pointer_at<P: PtrCore>(index: NonZeroUsize, generation: P::Gen) -> P
-    requires fits { non_zero_usize_get index ≤ P.Inx.greatest }
+    requires fits { at index ≤ P.Inx.greatest }
     requires no_more { ⊤ }
-    ensures has_index { P.index result ≡ non_zero_usize_get index }
+    ensures has_index { P.index result ≡ at index }
     ensures has_generation { P.generation result ≡ P.Gen.number generation }
 {
     match P::Inx::try_from_usize(index) {
@@ -169,7 +168,7 @@ impl<P: PtrCore, T: Drop, S: ArenaSlots<P, T>> Arena<P, T, S> {
         ensures room { room_of P.Inx.greatest (S.room result.now) ≡ self.now.room }
     {
         // The slots are within the capacity, and so are their indexes.
-        let _ = self.own_capacity();
+        recall!(self.own_capacity());
         &self.slots
     }
 }

@@ -25,10 +25,10 @@ ghost use Rattle.triple_arena.specs.Compression.{value_of as value_of_entry, IsM
 
 use crate::answers::{answer, valid};
 use crate::drain::Drain;
+use proof_marks::{recall, unreached};
 use triple_arena_ptr::{
     Advancer, InvalidationOption, InvalidationResult, PtrCore, PtrGenCore, ReallocationError,
 };
-use unreached::unreached;
 
 /// An arena of values of type `T`, to which pointers of type `P` point.
 pub trait ArenaTrait<P: PtrCore, T: Drop> {
@@ -215,9 +215,9 @@ pub trait ArenaTrait<P: PtrCore, T: Drop> {
             → (walk result).high ≡ min (P.Inx.number i) (2 ^ 64 - 1) };
 
     /// Removes the entry at an index that is live, steps the counter, if there is one, and says
-    /// whether the generations started again. The caller owes that the index is live: the call
-    /// makes no test. The entry is not wrapped in the answer, so that a caller who keeps a part of
-    /// it copies no more than that.
+    /// whether the generations wrapped. The caller owes that the index is live: the call makes no
+    /// test. The entry stands in the answer as it is, so that a caller who keeps a part of it
+    /// copies no more than that.
     fn take_inx_unwrap(&mut self, i: P::Inx) -> ((P::Gen, T), bool)
         requires { IsSome (entry_at self.old (P.Inx.number i)) }
         ensures value { Some (P.Gen.number result.0.0, result.0.1)
@@ -254,8 +254,7 @@ pub trait ArenaTrait<P: PtrCore, T: Drop> {
     /// there was no entry.
     fn clear(&mut self) -> InvalidationOption<()>
         ensures overflow { overflowed result ≡ counter_wraps P.Gen.last (counter self.old) }
-        ensures cleared { IsCleared entry_at live_count counter room P.Gen.last
-            self.old self.new }
+        ensures cleared { IsCleared entry_at live_count counter room P.Gen.last self.old self.new }
         ensures exact { self.new ≡ cleared self.old }
         ensures formed { is_formed self.new };
 
@@ -269,10 +268,11 @@ pub trait ArenaTrait<P: PtrCore, T: Drop> {
     /// each what `map` makes of its value. `map` is called once for each, in that order, with the
     /// old pointer, the value and the new pointer. No memory is taken.
     ///
-    /// With `reset` the generations start again at the second one, and the answer is `Success`; an
-    /// old pointer may then find an entry that it was not given for. Else the counter steps once,
-    /// every entry gets the stepped generation, and the answer is `GenerationOverflow` if that step
-    /// started the generations again. An arena without a counter steps each entry's own generation.
+    /// With `reset` every entry and the counter, if there is one, get the second generation, and
+    /// the answer is `Success`; an old pointer may then find an entry that it was not given for.
+    /// Else the counter steps once, every entry gets the stepped generation, and the answer is
+    /// `GenerationOverflow` if that step wrapped. An arena without a counter steps each entry's own
+    /// generation.
     fn compress_with<F: FnMut(P, T, P) -> T>(
         &mut self,
         reset: bool,
@@ -345,7 +345,13 @@ pub trait ArenaTrait<P: PtrCore, T: Drop> {
     }
 
     /// Moves the live entries, in the order of their indexes, to the indexes from 1 on, with their
-    /// values as they are. What `reset` does and what is answered is said at `compress_with`.
+    /// values as they are. No memory is taken.
+    ///
+    /// With `reset` every entry and the counter, if there is one, get the second generation, and
+    /// the answer is `Success`; an old pointer may then find an entry that it was not given for.
+    /// Else the counter steps once, every entry gets the stepped generation, and the answer is
+    /// `GenerationOverflow` if that step wrapped. An arena without a counter steps each entry's own
+    /// generation.
     final fn compress(&mut self, reset: bool) -> InvalidationOption<()>
         ensures values { list_map value_of_entry (live_entries self.new)
             ≡ list_map value_of_entry (live_entries self.old) }
@@ -363,8 +369,7 @@ pub trait ArenaTrait<P: PtrCore, T: Drop> {
 
     /// The value that `p` points to, if it is live.
     final fn get(&self, p: P) -> Option<&T>
-        ensures { option_copied result ≡ value_if (P.generation p)
-            (entry_at self.now (P.index p)) }
+        ensures { option_copied result ≡ value_if (P.generation p) (entry_at self.now (P.index p)) }
     {
         if self.contains(p) {
             Some(self.get_inx_unwrap(p.inx()))
@@ -402,7 +407,7 @@ pub trait ArenaTrait<P: PtrCore, T: Drop> {
         ensures invalid { IfNone (answer_of result) (self.new ≡ self.old) }
     {
         // The arena is well-formed.
-        let _ = self.len();
+        recall!(self.len());
         if !self.contains(p) {
             return InvalidationResult::InvalidPtr;
         }
@@ -425,7 +430,7 @@ pub trait ArenaTrait<P: PtrCore, T: Drop> {
         ensures invalid { IfNone (answer_of result) (self.new ≡ self.old) }
     {
         // The arena is well-formed.
-        let _ = self.len();
+        recall!(self.len());
         if self.get_inx(i).is_none() {
             return InvalidationResult::InvalidPtr;
         }

@@ -12,10 +12,10 @@ use crate::ArenaTrait;
 use crate::arena::pointer_at;
 use crate::iterators::LentEntry;
 use crate::slot::EntrySlot;
+use proof_marks::unreached;
 use std::num::NonZeroUsize;
 use triple_arena_ptr::{AllocError, PtrCore, ReallocationError};
 use triple_arena_stack::NonZeroInxGenericStack;
-use unreached::unreached;
 
 /// The arenas that copies are made of: an `Arena` or a `DirectArena`, with any stack.
 pub trait ArenaCloneSource<P: PtrCore, U: Drop>: ArenaTrait<P, U> {
@@ -83,8 +83,7 @@ pub trait ArenaCloneFromWith<P: PtrCore, T: Drop>: ArenaTrait<P, T> {
 pub(crate) fn up_to_last<P: PtrCore, U, E: LentEntry<P, U>>(slots: &[E]) -> &[E]
     ensures entries { listed_from 1 (list_map E.shown result.now)
         ≡ listed_from 1 (list_map E.shown slots.now) }
-    ensures last { length result.now
-        ≡ last_listed (listed_from 1 (list_map E.shown slots.now)) }
+    ensures last { length result.now ≡ last_listed (listed_from 1 (list_map E.shown slots.now)) }
     ensures fewer { length result.now ≤ length slots.now }
 {
     let mut left = slots;

@@ -5,9 +5,9 @@ ghost use Rattle.triple_arena.specs.DirectSlot.{value_of, with_slot_value, with_
 
 use crate::lent_slots::{LentValue, SlotKey};
 use crate::slot::{EntrySlot, ValueMut};
+use proof_marks::unreached;
 use std::marker::Model;
 use triple_arena_ptr::PtrCore;
-use unreached::unreached;
 
 /// A slot of a `DirectArena`: free, or allocated, with a generation and a value.
 #[derive(Drop)]

@@ -7,9 +7,10 @@ ghost use Rattle.triple_arena.specs.Changes.{IsExchanged};
 ghost use Rattle.triple_arena.specs.Entries.{value_if};
 
 use crate::ArenaTrait;
+use proof_marks::recall;
 use triple_arena_ptr::{GetDisjointMutError, PtrCore};
 
-/// The arenas that lend two of their values at once, and in which two change places.
+/// The arenas of which two values can be borrowed for writing at once, and can change places.
 pub trait DisjointableArenaTrait<P: PtrCore, T: Drop>: ArenaTrait<P, T> {
     // The arena with the values at two indexes exchanged, if both are live.
     ghost exchanged: { Self → ℕ → ℕ → Self };
@@ -25,9 +26,9 @@ pub trait DisjointableArenaTrait<P: PtrCore, T: Drop>: ArenaTrait<P, T> {
         ensures formed { Self.is_formed self.new };
 
     /// The values at two indexes that are live, for writing. Afterwards these two are what was
-    /// written, and all else is as it was.
+    /// written, and all else is as it was. The caller owes that the indexes are live and differ.
     ///
-    /// The arena is lent as the one item of a slice, as `slice::from_mut` makes it.
+    /// The arena is borrowed as the one item of a slice, as `slice::from_mut` makes it.
     fn lend_two(these: &mut [Self], i: P::Inx, j: P::Inx) -> (&mut T, &mut T)
         requires one { length these.old ≡ 1 }
         requires two { P.Inx.number i ≢ P.Inx.number j }
@@ -103,18 +104,18 @@ pub trait DisjointableArenaTrait<P: PtrCore, T: Drop>: ArenaTrait<P, T> {
         ensures err { OnErr result (self.new ≡ self.old) }
     {
         // The arena is well-formed.
-        let _ = self.len();
+        recall!(self.len());
         self.check_disjoint(p, q)?;
         self.swap_inx(p.inx(), q.inx());
         Ok(())
     }
 }
 
-/// The values that `p` and `q` point to, for writing, if both point to one and they are two.
-/// Afterwards these two are what was written, and all else is as it was; without an answer nothing
-/// changes. `check_disjoint` tells which of the two fails.
+/// The values that `p` and `q` point to, for writing, if each points to an entry and these are two.
+/// Afterwards the two values are what was written, and all else is as it was. Else it returns
+/// `None` and changes nothing; `check_disjoint` tells why.
 ///
-/// The arena is lent as the one item of a slice, as `slice::from_mut` makes it.
+/// The arena is borrowed as the one item of a slice, as `slice::from_mut` makes it.
 pub fn get_disjoint_mut<P: PtrCore, T: Drop, A: DisjointableArenaTrait<P, T>>(
     these: &mut [A],
     p: P,
@@ -138,11 +139,11 @@ pub fn get_disjoint_mut<P: PtrCore, T: Drop, A: DisjointableArenaTrait<P, T>>(
     }
 }
 
-/// The values at two indexes, for writing, if both are live and they are two. Afterwards these two
-/// are what was written, and all else is as it was; without an answer nothing changes.
-/// `check_disjoint_inx` tells which of the two fails, and `get_inx` the generations.
+/// The values at two indexes, for writing, if both are live and they are two. Afterwards the two
+/// values are what was written, and all else is as it was. Else it returns `None` and changes
+/// nothing; `check_disjoint_inx` tells why. `get_inx` tells the generations.
 ///
-/// The arena is lent as the one item of a slice, as `slice::from_mut` makes it.
+/// The arena is borrowed as the one item of a slice, as `slice::from_mut` makes it.
 pub fn get_disjoint_inx_mut<P: PtrCore, T: Drop, A: DisjointableArenaTrait<P, T>>(
     these: &mut [A],
     i: P::Inx,

@@ -12,7 +12,7 @@ use triple_arena_ptr::{Advancer, InvalidationOption, InvalidationResult, PtrCore
 /// values.
 ///
 /// Each item is one removal: the counter steps, if there is one, and the item is
-/// `GenerationOverflow` if that step started the generations again. Dropped, at whatever item, it
+/// `GenerationOverflow` if that step wrapped. If the iterator is dropped, at whatever item, it
 /// takes those that are left in the same way, and leaves no slot.
 ///
 /// A caller is told nothing of what it leaves if the values hold references.

@@ -1,11 +1,11 @@
 //! An optional index of a free slot, in a word as wide as the index.
 ghost use Rattle.std.specs.Prelude.{◌≡◌, ◌≤◌, ◌<◌, ◌^◌, Some, IfSome, ⊤};
-ghost use Rattle.std.specs.Int.NonZero.{non_zero_usize_get};
+ghost use Rattle.std.specs.Int.NonZero.{non_zero_usize_get as at};
 ghost use Rattle.std.specs.Option.{option_map};
 
+use proof_marks::unreached;
 use std::num::NonZeroUsize;
 use triple_arena_ptr::{OptionalInx, PtrCore, PtrInxCore};
-use unreached::unreached;
 
 // The index of a free slot, or none, in a word as wide as the index.
 pub(crate) type FreeInx<P> = OptionalInx<
@@ -16,9 +16,9 @@ pub(crate) type FreeInx<P> = OptionalInx<
 // The index with this number.
 #[inline(always)]
 pub(crate) fn free_at<P: PtrCore>(i: NonZeroUsize) -> FreeInx<P>
-    requires fits { non_zero_usize_get i ≤ P.Inx.greatest }
+    requires fits { at i ≤ P.Inx.greatest }
     requires no_more { ⊤ }
-    ensures { option_map P.Inx.number result ≡ Some (non_zero_usize_get i) }
+    ensures { result ≡ Some (at i) }
 {
     match P::Inx::try_from_usize(i) {
         Some(i) => OptionalInx::some(i),
@@ -29,9 +29,9 @@ pub(crate) fn free_at<P: PtrCore>(i: NonZeroUsize) -> FreeInx<P>
 // The number of the index, which is a `usize`, if there is one.
 #[inline(always)]
 pub(crate) fn place_of<P: PtrCore>(i: FreeInx<P>) -> Option<NonZeroUsize>
-    requires fits { IfSome i (λ i. P.Inx.number i < 2 ^ 64) }
+    requires fits { IfSome i (λ i. i < 2 ^ 64) }
     requires no_more { ⊤ }
-    ensures { option_map non_zero_usize_get result ≡ option_map P.Inx.number i }
+    ensures { option_map at result ≡ i }
 {
     match i.get() {
         Some(i) => match i.try_into_usize() {

@@ -52,8 +52,9 @@ pub trait ArenaInsertTrait<P: PtrCore, T: Drop>: ArenaTrait<P, T> {
     ghost next_index_with_value: { (s : Self) (i : ℕ) (t : T)
         → next_index (Self.with_value s i t) ≡ next_index s };
 
-    /// Stores `t`. If there is no room, the arena grows; the growth and the errors are those of
-    /// `insert_reallocating`.
+    /// Stores `t`: another name of `insert_reallocating`. If there is no room, the arena grows. It
+    /// returns `BeyondMaxCapacity` if as many entries are live as the greatest capacity, and
+    /// `AllocError` if the memory was refused. The arena is then as it was, and `t` is dropped.
     #[inline]
     final fn insert(&mut self, t: T) -> Result<P, ReallocationError>
         ensures inserted { IfOk result (λ p. IsInserted Self.entry_at Self.live_count Self.counter

@@ -1,4 +1,4 @@
-//! Going over the live entries of an arena that lends each value for writing, in the order of the
+//! Going over the live entries of an arena, each value borrowed for writing, in the order of the
 //! indexes.
 ghost use Rattle.std.specs.Prelude.{◌≡◌, ◌≤◌, length, map, refl};
 ghost use Rattle.std.specs.Iterator.{at_most, YieldsFirstBy, YieldsFirstMut};
@@ -10,13 +10,13 @@ ghost use Rattle.triple_arena.specs.Iterators.{IsExact};
 use crate::arena::pointer_at;
 use crate::lent_slots::{LentSlots, LentValue, SlotKey};
 use crate::{ArenaSlot, DirectSlot};
+use proof_marks::unreached;
 use std::iter::FusedIterator;
 use std::marker::{Model, PhantomData};
 use std::num::NonZeroUsize;
 use triple_arena_ptr::PtrCore;
-use unreached::unreached;
 
-/// A slot whose value an iterator lends for writing, beside its generation.
+/// A slot whose value an iterator borrows for writing, beside its generation.
 pub trait LentEntryMut<P: PtrCore, T>: LentValue<T> + SlotKey<P::Gen> {
     // Its key is the generation.
     ghost numbers: { (generation : P.Gen) → Self.number_of generation

@@ -1,4 +1,5 @@
-//! Going over the live entries of an arena that is lent for reading, in the order of the indexes.
+//! Going over the live entries of an arena that is borrowed for reading, in the order of the
+//! indexes.
 ghost use Rattle.std.specs.Prelude.{◌≡◌, ℕ, Option, length, map as list_map, ⊤};
 ghost use Rattle.std.specs.Iterator.{YieldsFirstBy, item_count};
 ghost use Rattle.std.specs.Option.{option_map};
@@ -10,11 +11,11 @@ ghost use Rattle.triple_arena.specs.Slot.{entry_of};
 
 use crate::arena::pointer_at;
 use crate::{ArenaSlot, DirectSlot, Part, Whole};
+use proof_marks::unreached;
 use std::iter::FusedIterator;
 use std::marker::{Model, PhantomData};
 use std::num::NonZeroUsize;
 use triple_arena_ptr::PtrCore;
-use unreached::unreached;
 
 /// A slot, of which an iterator gives what it holds.
 pub trait LentEntry<P: PtrCore, T> {

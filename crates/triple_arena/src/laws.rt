@@ -1,13 +1,12 @@
-//! What follows from the calls of an arena for those who keep pointers, and for those who go over
-//! them.
+//! What follows from the calls of an arena: laws on the pointers that a caller keeps, and on walks
+//! over the entries.
 //!
-//! `specs/Steps.antt` has the words for the first: a history is a list of steps, each with the
-//! arena that it left, and what a step changes is what the calls' contracts say.
+//! `specs/Steps.antt` has the words of the laws on pointers: a history is a list of steps, each
+//! with the arena that it left, and what a step changes is what the calls' contracts say. If
+//! generations are counted (`P::Gen` is no `()`), and as long as no step wraps the counter and
+//! nobody sets, resets or copies it, a pointer never comes to mean another entry.
 //!
-//! If generations are counted (`P::Gen` is no `()`), and as long as no step of the counter starts
-//! them again and nobody sets, resets or copies it, a pointer never comes to mean another entry.
-//!
-//! `specs/Walk.antt` has them for the second.
+//! `specs/Walk.antt` has the words of the laws on walks.
 ghost use Rattle.std.specs.Prelude.{◌≡◌, ◌≤◌, ◌↔◌, ℕ, List, length, map as list_map, Option, Some};
 ghost use Rattle.std.specs.Prelude.{IsSome, false};
 ghost use Rattle.std.specs.List.{FoldsTo};
@@ -15,11 +14,11 @@ ghost use Rattle.std.specs.Option.{option_map};
 ghost use Rattle.triple_arena.specs.Changes.{IsNew};
 ghost use Rattle.triple_arena.specs.Entries.{generation_at, IsOneOf};
 ghost use Rattle.triple_arena.specs.Steps.{Step, drain, write, give_up_copy, keep, AreNew, Finds};
-ghost use Rattle.triple_arena.specs.Steps.{Takes, Happens, all_given, reached};
+ghost use Rattle.triple_arena.specs.Steps.{Takes, IsStep, Happens, all_given, reached};
 ghost use Rattle.triple_arena.specs.Walk.{Walk, IsAhead, GoInOrder, given_by, pointers_ahead};
 ghost use Rattle.triple_arena.specs.Compression.{live_values, pointer_of, IsCompact};
-ghost use Rattle.triple_arena.specs.Content.{Content, entry_at, live_count, some_counter};
-ghost use Rattle.triple_arena.specs.Content.{without_free_end, canonicalized, with_limit};
+ghost use Rattle.triple_arena.specs.Content.{Content, without_free_end, canonicalized};
+ghost use Rattle.triple_arena.specs.Content.{with_limit};
 ghost use Rattle.triple_arena.specs.Content.{grown_if_full, cleared, reallocated};
 ghost use Rattle.triple_arena.specs.Recasting.{content_recasted};
 ghost use Rattle.triple_arena.specs.DirectContent.{DirectContent, live_entries as live_entries_of};
@@ -63,7 +62,7 @@ pub fn invalid_pointers_find_nothing<P: PtrCore, T: Drop, A: ArenaTrait<P, T>>()
         → Finds A.entry_at (reached made history) (index, 1) → ⊥ }
 {}
 
-/// A value that is written where it was lent is a step of a history.
+/// A write of a value through a borrow is a step of a history.
 pub fn writes_are_steps<P: PtrCore, T: Drop, A: ArenaTrait<P, T>>()
     ensures { (arena : A) (index : ℕ) (value : T) → Takes A.entry_at A.live_count A.counter A.room
         A.live_entries P.Gen.last (write index value) arena (A.with_value arena index value) }
@@ -74,27 +73,22 @@ pub fn writes_are_steps<P: PtrCore, T: Drop, A: ArenaTrait<P, T>>()
 /// the growth for a place that is let go.
 pub fn what_keeps_pointers_is_a_step<I, P: PtrCore, T: Drop>()
     ensures recast { (items : T → List I) (image : I → Option I) (recasted : T → T)
-        (arena : Content T) → Takes entry_at live_count some_counter (λ c. c.room) live_entries
-        P.Gen.last keep arena (content_recasted items image recasted arena) }
-    ensures values { (arena : Content T) (values : List (Option T)) → Takes entry_at live_count
-        some_counter (λ c. c.room) live_entries P.Gen.last keep arena (with_values arena values) }
-    ensures order { (arena : Content T) → Takes entry_at live_count some_counter (λ c. c.room)
-        live_entries P.Gen.last keep arena (canonicalized arena) }
-    ensures free_end { (arena : Content T) → Takes entry_at live_count some_counter (λ c. c.room)
-        live_entries P.Gen.last keep arena (without_free_end arena) }
-    ensures limit { (arena : Content T) (max : ℕ) → Takes entry_at live_count some_counter
-        (λ c. c.room) live_entries P.Gen.last keep arena (with_limit P.Inx.greatest arena max) }
-    ensures growth { (arena : Content T) → Takes entry_at live_count some_counter (λ c. c.room)
-        live_entries P.Gen.last keep arena (grown_if_full arena) }
+        (arena : Content T)
+        → IsStep P.Gen.last keep arena (content_recasted items image recasted arena) }
+    ensures values { (arena : Content T) (values : List (Option T))
+        → IsStep P.Gen.last keep arena (with_values arena values) }
+    ensures order { (arena : Content T) → IsStep P.Gen.last keep arena (canonicalized arena) }
+    ensures free_end { (arena : Content T) → IsStep P.Gen.last keep arena (without_free_end arena) }
+    ensures limit { (arena : Content T) (max : ℕ)
+        → IsStep P.Gen.last keep arena (with_limit P.Inx.greatest arena max) }
+    ensures growth { (arena : Content T) → IsStep P.Gen.last keep arena (grown_if_full arena) }
 {}
 
 /// What a drain of an `Arena` leaves, however far it went, is a step of a history, and so is what a
 /// transfer from here leaves; and what is left of a copy to here whose map refused.
 pub fn what_takes_all_is_a_step<P: PtrCore, T: Drop>()
-    ensures drain { (arena : Content T) → Takes entry_at live_count some_counter (λ c. c.room)
-        live_entries P.Gen.last drain arena (drained P.Gen.last arena) }
-    ensures refused_copy { (arena : Content T) (n : ℕ) → Takes entry_at live_count some_counter
-        (λ c. c.room) live_entries P.Gen.last (give_up_copy n) arena
+    ensures drain { (arena : Content T) → IsStep P.Gen.last drain arena (drained P.Gen.last arena) }
+    ensures refused_copy { (arena : Content T) (n : ℕ) → IsStep P.Gen.last (give_up_copy n) arena
         (cleared P.Gen.last (reallocated arena n)) }
 {}
 

@@ -1,4 +1,4 @@
-//! The values of slots, lent one by one, while each slot keeps all else.
+//! The values of slots, borrowed one by one, while each slot keeps all else.
 ghost use Rattle.std.specs.Prelude.{◌≡◌, ◌<◌, ℕ, List, length, ◌∷◌, Option, map};
 ghost use Rattle.std.specs.Borrow.{sem, follows, LendsIf};
 ghost use Rattle.std.specs.Option.{option_map};
@@ -8,7 +8,7 @@ ghost use Rattle.triple_arena.specs.LentSlots.{row_owned, one_owned};
 
 use std::marker::{Model, PhantomData};
 
-/// A slot that lends its value, if it has one.
+/// A slot whose value can be borrowed, if it has one.
 pub trait LentValue<T> {
     ghost held: { Self → Option T };
 
@@ -28,8 +28,8 @@ pub trait SlotKey<G> {
 
     ghost key_number: { Self → Option ℕ };
 
-    /// The key, if the slot is allocated. It is read through a `&mut`, since a loan of slots lends
-    /// no other.
+    /// The key, if the slot is allocated. It is read through a `&mut`, since a loan of slots gives
+    /// no other borrow.
     fn slot_key(&mut self) -> Option<G>
         ensures same { self.new ≡ self.old }
         ensures key { option_map number_of result ≡ key_number self.old };
@@ -45,15 +45,14 @@ fn key_of<G, E: SlotKey<G>>(slot: &mut E) -> Option<G>
 
 // The value of a slot.
 fn lend_value<T, E: LentValue<T>>(slot: &mut E) -> Option<&mut T>
-    ensures* lends { sem 𝓛 (LendsIf E.row T.row slot.entry result (E.with_held slot.old)
-        slot.old) }
+    ensures* lends { sem 𝓛 (LendsIf E.row T.row slot.entry result (E.with_held slot.old) slot.old) }
     ensures value { option_map (λ r. r.now) result ≡ E.held slot.old }
 {
     slot.value_mut_if()
 }
 
-/// The slots that are still to be lent. `name` is the loan of their values; what holds them ends as
-/// the loan `tie` does.
+/// The slots whose values are still to be borrowed. `name` is the loan of the values; what holds
+/// the slots ends as the loan `tie` does.
 #[derive(Drop)]
 pub struct LentSlots<'a, T, E: LentValue<T>> {
     pub(crate) at: *mut E,
@@ -70,7 +69,7 @@ impl<'a, T, E: LentValue<T>> Model for LentSlots<'a, T, E> {
     ghost also_owns = { λ l. row_owned 'a T.row E.row E.with_held l.name l.block l.offset l.run };
 }
 
-/// A slot whose value is to be lent.
+/// A slot whose value is to be borrowed.
 #[derive(Drop)]
 pub struct LentSlot<'a, T, E: LentValue<T>> {
     at: *mut E,
@@ -122,7 +121,7 @@ impl<'a, T, E: LentValue<T>> LentSlot<'a, T, E> {
     }
 }
 
-// What lends the values of all its slots.
+// A type whose slots can all have their values borrowed.
 pub(crate) trait LendsSlots<T, E: LentValue<T>> {
     // It, with the values of another one.
     ghost with_values_of: { Self → Self → Self };

@@ -31,8 +31,8 @@
 //! A struct over an arena takes `IsWellFormed` into its invariant: each call that changes an arena
 //! ensures it of what it leaves, and `len` of the arena as it is. Only `recast` and
 //! `set_max_capacity`, whose clauses stand below the arenas, leave it to the laws `formed-recasted`
-//! and `formed-with_limit`. What is lent for writing ends as `with_value`, and the rules `writes`
-//! (`specs/ContentLaws.antt`), named on a function as
+//! and `formed-with_limit`. After a borrow for writing the arena is `with_value`, and the rules
+//! `writes` (`specs/ContentLaws.antt`), named on a function as
 //! `#[tactic(auto, using(triple_arena::specs::ContentLaws::writes))]`, say what that changes and
 //! keeps. `specs/CompressionLaws.antt` says what follows from the calls of a compression's map. If
 //! the pointer type is a concrete one, a clause writes `⟦<P0 as PtrCore>⟧.index p` for what is

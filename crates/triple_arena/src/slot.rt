@@ -2,9 +2,8 @@
 ghost use Rattle.std.specs.Prelude.{◌≡◌, ◌≢◌, ◌≤◌, ℕ, length, Option, Some, None, option_copied};
 ghost use Rattle.std.specs.Prelude.{IsTrue, ◌↔◌, IsSome, ⊤};
 ghost use Rattle.std.specs.Borrow.{Lends, sem};
-ghost use Rattle.std.specs.Int.NonZero.{non_zero_usize_get};
+ghost use Rattle.std.specs.Int.NonZero.{non_zero_usize_get as at};
 ghost use Rattle.std.specs.Option.{option_map};
-ghost use Rattle.triple_arena.specs.FreeLinks.{numbered};
 ghost use Rattle.triple_arena.specs.Slot.{Slot, entry_of, free, used, value_of, links_of};
 ghost use Rattle.triple_arena.specs.Slot.{index_up_to, free_links as free_links_of, with_links};
 ghost use Rattle.triple_arena.specs.Slot.{with_prev, with_next, with_slot_value};
@@ -14,12 +13,12 @@ ghost use Rattle.triple_arena.specs.Entries.{value_if};
 
 use crate::free_inx::FreeInx;
 use crate::lent_slots::{LentValue, SlotKey};
+use proof_marks::unreached;
 use std::marker::Model;
 use std::mem;
 use std::num::NonZeroUsize;
 use triple_arena_ptr::{FreeMark, OptionalInx, PtrCore, PtrGenCore, PtrInxCore};
 use triple_arena_stack::{NonZeroInxGenericStack, get_disjoint_mut};
-use unreached::unreached;
 
 /// A slot of an arena: free, with links to the free ones before and after it, or allocated, with a
 /// generation and a value.
@@ -36,7 +35,7 @@ enum SlotState<O, G, T> {
     Used(G, T),
 }
 
-// What keeps one value, if any, and lends it.
+// A type that keeps one value, if any, which can be borrowed.
 pub(crate) trait ValueMut<T> {
     ghost held: { Self → Option T };
 
@@ -95,18 +94,17 @@ pub(crate) trait EntrySlot<P: PtrCore, T> {
 }
 
 impl<P: PtrCore, T> Model for ArenaSlot<P, T> {
-    ghost use Rattle.std.specs.Option.{option_map};
     ghost use Rattle.triple_arena.specs.Slot.{Slot};
     ghost use Rattle.triple_arena.specs.SlotState.{slot_of};
 
     ghost Value = { Slot T };
 
-    ghost view = { λ s. slot_of (option_map P.Inx.number) P.Gen.number s.state };
+    ghost view = { λ s. slot_of P.Gen.number s.state };
 }
 
 impl<P: PtrCore, T> ArenaSlot<P, T> {
     pub(crate) fn free(prev: FreeInx<P>, next: FreeInx<P>) -> Self
-        ensures { result ≡ free (option_map P.Inx.number prev) (option_map P.Inx.number next) }
+        ensures { result ≡ free prev next }
     {
         ArenaSlot {
             state: SlotState::Free(FreeMark::new(), next, prev),
@@ -154,8 +152,7 @@ impl<P: PtrCore, T> ArenaSlot<P, T> {
     // Whether the slot is allocated with this generation. The mark of a free slot lies where an
     // allocated one has its generation, and is none, so one comparison tells both.
     pub(crate) fn is_at(&self, generation: P::Gen) -> bool
-        ensures { IsTrue result
-            ↔ IsSome (value_if (P.Gen.number generation) (entry_of self.now)) }
+        ensures { IsTrue result ↔ IsSome (value_if (P.Gen.number generation) (entry_of self.now)) }
     {
         match &self.state {
             SlotState::Used(own, _) => *own == generation,
@@ -165,7 +162,7 @@ impl<P: PtrCore, T> ArenaSlot<P, T> {
 
     // The links, if the slot is free.
     pub(crate) fn links(&self) -> Option<(FreeInx<P>, FreeInx<P>)>
-        ensures { option_map (numbered P.Inx.number) result ≡ links_of self.now }
+        ensures { result ≡ links_of self.now }
     {
         match &self.state {
             SlotState::Used(_, _) => None,
@@ -188,7 +185,7 @@ impl<P: PtrCore, T> ArenaSlot<P, T> {
 
     // Links a free slot to the next one, with none before it, and says whether the slot is free.
     pub(crate) fn relink(&mut self, next: FreeInx<P>) -> bool
-        ensures value { self.new ≡ with_links self.old None (option_map P.Inx.number next) }
+        ensures value { self.new ≡ with_links self.old None next }
         ensures free { IsTrue result ↔ (value_of self.old ≡ None) }
     {
         match &mut self.state {
@@ -205,7 +202,7 @@ impl<P: PtrCore, T> ArenaSlot<P, T> {
     pub(crate) fn set_prev(&mut self, prev: FreeInx<P>)
         requires free { IsSome (links_of self.old) }
         requires no_more { ⊤ }
-        ensures { self.new ≡ with_prev self.old (option_map P.Inx.number prev) }
+        ensures { self.new ≡ with_prev self.old prev }
     {
         match &mut self.state {
             SlotState::Used(_, _) => unreached!(),
@@ -217,7 +214,7 @@ impl<P: PtrCore, T> ArenaSlot<P, T> {
     pub(crate) fn set_next(&mut self, next: FreeInx<P>)
         requires free { IsSome (links_of self.old) }
         requires no_more { ⊤ }
-        ensures { self.new ≡ with_next self.old (option_map P.Inx.number next) }
+        ensures { self.new ≡ with_next self.old next }
     {
         match &mut self.state {
             SlotState::Used(_, _) => unreached!(),
@@ -231,7 +228,7 @@ impl<P: PtrCore, T> ArenaSlot<P, T> {
         T: Drop,
         requires free { IsSome (links_of self) }
         requires no_more { ⊤ }
-        ensures { option_map (λ l. l.1) (links_of self) ≡ Some (option_map P.Inx.number result) }
+        ensures { option_map (λ l. l.1) (links_of self) ≡ Some result }
     {
         let ArenaSlot { state } = self;
         match state {
@@ -256,8 +253,7 @@ impl<P: PtrCore, T> ArenaSlot<P, T> {
 
 // The index, which is at most the greatest one of the pointer type.
 fn index_of<P: PtrCore>(i: FreeInx<P>) -> Option<P::Inx>
-    ensures { option_map P.Inx.number result
-        ≡ index_up_to P.Inx.greatest (option_map P.Inx.number i) }
+    ensures { option_map P.Inx.number result ≡ index_up_to P.Inx.greatest i }
 {
     match i.get() {
         Some(i) => {
@@ -338,20 +334,18 @@ pub(crate) fn exchange_values<T, L: ValueMut<T> + Drop, S: NonZeroInxGenericStac
     i: NonZeroUsize,
     j: NonZeroUsize,
 )
-    requires i_in_bounds { non_zero_usize_get i ≤ length (S.items slots.old) }
-    requires j_in_bounds { non_zero_usize_get j ≤ length (S.items slots.old) }
-    requires two { non_zero_usize_get i ≢ non_zero_usize_get j }
-    requires i_is_used { (x : L) → Some x ≡ item_at (S.items slots.old) (non_zero_usize_get i)
-        → IsSome (L.held x) }
-    requires j_is_used { (y : L) → Some y ≡ item_at (S.items slots.old) (non_zero_usize_get j)
-        → IsSome (L.held y) }
+    requires i_in_bounds { at i ≤ length (S.items slots.old) }
+    requires j_in_bounds { at j ≤ length (S.items slots.old) }
+    requires two { at i ≢ at j }
+    requires i_is_used { (x : L) → Some x ≡ item_at (S.items slots.old) (at i) → IsSome (L.held x) }
+    requires j_is_used { (y : L) → Some y ≡ item_at (S.items slots.old) (at j) → IsSome (L.held y) }
     ensures items { (x y : L) (t u : T)
-        → Some x ≡ item_at (S.items slots.old) (non_zero_usize_get i)
-        → Some y ≡ item_at (S.items slots.old) (non_zero_usize_get j)
+        → Some x ≡ item_at (S.items slots.old) (at i)
+        → Some y ≡ item_at (S.items slots.old) (at j)
         → L.held x ≡ Some t → L.held y ≡ Some u
         → S.items slots.new ≡ with_item
-        (with_item (S.items slots.old) (non_zero_usize_get i) (L.with_held x u))
-        (non_zero_usize_get j) (L.with_held y t) }
+        (with_item (S.items slots.old) (at i) (L.with_held x u))
+        (at j) (L.with_held y t) }
     ensures room { S.room slots.new ≡ S.room slots.old }
 {
     let (first, second) = get_disjoint_mut(slots.as_mut_slice(), i, j);

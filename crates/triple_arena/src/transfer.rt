@@ -66,8 +66,8 @@ pub trait ArenaTransferTrait<P: PtrCore, T: Drop>: ArenaTrait<P, T> {
     /// `map` is called once for each entry, in that order, with the pointer that it had in
     /// `source`, the value, and the pointer that it gets. `source` is left with no entry and no
     /// slot in the room that it had, and its counter, if it has one, is stepped once for each
-    /// entry, as if they were removed one after another: if that step started the generations
-    /// again, `map` gets the value as a `GenerationOverflow`.
+    /// entry, as if they were removed one after another: if that step wrapped, `map` gets the value
+    /// as a `GenerationOverflow`.
     ///
     /// A pointer of what this arena held before may find an entry that came in, if `new_generation`
     /// is its generation.

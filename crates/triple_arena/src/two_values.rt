@@ -1,4 +1,4 @@
-//! Two values of an arena, lent at once.
+//! Two values of an arena, borrowed at once.
 ghost use Rattle.std.specs.Prelude.{◌≡◌, ◌≢◌, ◌<◌, ℕ, [], ◌∷◌, length, map, slice_index_or};
 ghost use Rattle.std.specs.Prelude.{Option, Some, None, IsSome};
 ghost use Rattle.std.specs.Borrow.{sem, LendsBoth, Array};
@@ -9,7 +9,7 @@ use crate::slot::ValueMut;
 use crate::{ArenaSlot, DirectSlot};
 use triple_arena_ptr::PtrCore;
 
-// Slots that lend two of their values.
+// Slots of which two values can be borrowed at once.
 pub(crate) trait ValuesInOrder<T> {
     ghost held_in: { Self → Option T };
 
@@ -61,8 +61,8 @@ impl<P: PtrCore, T> ValuesInOrder<T> for DirectSlot<P, T> {
     }
 }
 
-// What lends the values of two of its slots. It is the one item of a slice, since a caller learns
-// what two parts leave of a lent slice alone.
+// A type of whose slots two values can be borrowed at once. It is the one item of a slice, since
+// only of a borrowed slice a caller learns what two parts of it leave.
 pub(crate) trait TwoValues<T> {
     // The value of the slot with so many before it, if it is live.
     ghost value_after: { Self → ℕ → Option T };

@@ -66,9 +66,9 @@ module _ (e : ℕ → Option Ends) where
           (live_prev_in (e p) i (agreed.forward i p (ap next_in is ∙ goes)))))
           ∙ sym is
 
-module _ {I T : Type 0} (number : I → ℕ) (last : Option ℕ) (reset : Bool)
-    (old mid : Content (IndexLink I T)) (chained : IsChained number old)
-    (c : IsCompacted number last reset (map value_of (listed_values old)) old mid) where
+module _ {T : Type 0} (last : Option ℕ) (reset : Bool)
+    (old mid : Content (IndexLink T)) (chained : IsChained old)
+    (c : IsCompacted last reset (map value_of (listed_values old)) old mid) where
   -- each link has the counter as its generation
   pub compacted_alike : IsAlike mid
   compacted_alike zero e at = absurd (cc)
@@ -84,57 +84,57 @@ module _ {I T : Type 0} (number : I → ℕ) (last : Option ℕ) (reset : Bool)
           ap (λ (x : ℕ × T). x.0) (sym same)
 
   abbrev new : ℕ → ℕ
-  new = new_index (ends_in number old)
+  new = new_index (ends_in old)
 
-  values_compacted : (i : ℕ) → IsSome (ends_in number old i)
-      → values_in mid (new_index (ends_in number old) i)
+  values_compacted : (i : ℕ) → IsSome (ends_in old i)
+      → values_in mid (new_index (ends_in old) i)
       ≡ option_map (λ e. (renewed last reset old.counter, e.1)) (values_in old i)
   values_compacted zero some = absurd (true≢false (sym some))
   values_compacted (suc k) some = by (slot_at old.slots k) refl
     where
-      by : (o : Option (ℕ × IndexLink I T)) → slot_at old.slots k ≡ o
-          → values_in mid (new_index (ends_in number old) (suc k))
+      by : (o : Option (ℕ × IndexLink T)) → slot_at old.slots k ≡ o
+          → values_in mid (new_index (ends_in old) (suc k))
           ≡ option_map (λ e. (renewed last reset old.counter, e.1)) (values_in old (suc k))
       by None is = absurd (true≢false
-          (sym some ∙ ap (λ o. is_some (option_map (entry_ends number) o)) is))
+          (sym some ∙ ap (λ o. is_some (option_map entry_ends o)) is))
       by (Some e) is =
           let there = listed-ranked 1 k old.slots e is in
           let listed : slice_get (map value_of (listed_values old))
-          (live_below (ends_in number old) (suc k)) ≡ Some e.1.t =
+          (live_below (ends_in old) (suc k)) ≡ Some e.1.t =
           ap (slice_get (map value_of (listed_values old)))
-          (slots_ranked (ends_in number old) old (λ j. sym (live_ends number old j)) k)
+          (slots_ranked (ends_in old) old (λ j. sym (live_ends old j)) k)
           ∙ slice_get-map value_of (listed_values old) (live_below (slot_at old.slots) k)
           ∙ ap (option_map value_of)
           (slice_get-map listed_value (live_entries old) (live_below (slot_at old.slots) k))
           ∙ ap (λ o. option_map value_of (option_map listed_value o)) there in
-          c.values (live_below (ends_in number old) (suc k))
+          c.values (live_below (ends_in old) (suc k))
           ∙ ap (option_map (λ t. (renewed last reset old.counter, t))) listed
           ∙ sym (ap (λ o. option_map
           (λ (x : ℕ × T). (let y : ℕ × T = (renewed last reset old.counter, x.1) in y))
           (option_map valued o)) is)
 
   -- each chain stands at successive indexes
-  pub is_canonical : (now : Content (IndexLink I T)) → IsAllGathered number mid now
-      → IsCanonical number last reset old now
+  pub is_canonical : (now : Content (IndexLink T)) → IsAllGathered mid now
+      → IsCanonical last reset old now
   is_canonical now g =
       record {
-        to = λ i. g.to (new_index (ends_in number old) i);
-        renamed = renamed_after g.to (new_index (ends_in number old)) (ends_in number old)
-            (ends_in number mid) (ends_in number now) c.renamed g.moved.renamed;
+        to = λ i. g.to (new_index (ends_in old) i);
+        renamed = renamed_after g.to (new_index (ends_in old)) (ends_in old)
+            (ends_in mid) (ends_in now) c.renamed g.moved.renamed;
         values = λ i some.
-            g.moved.values (new_index (ends_in number old) i)
-            (some_moved (new_index (ends_in number old)) (ends_in number old)
-            (ends_in number mid) c.renamed i some)
+            g.moved.values (new_index (ends_in old) i)
+            (some_moved (new_index (ends_in old)) (ends_in old)
+            (ends_in mid) c.renamed i some)
             ∙ values_compacted i some;
-        laid_out = subst (IsLaidOut (ends_in number now)) c.slots g.laid_out;
+        laid_out = subst (IsLaidOut (ends_in now)) c.slots g.laid_out;
         stays = λ laid i some.
-            let keeps = λ (j : ℕ) (there : IsSome (ends_in number old j)). laid_rank
-            (ends_in number old) (live_count old) j refl laid there in
-            let same = renamed_same (ends_in number old) (new_index (ends_in number old))
-            (ends_in number mid) chained.agreed c.renamed keeps in
+            let keeps = λ (j : ℕ) (there : IsSome (ends_in old j)). laid_rank
+            (ends_in old) (live_count old) j refl laid there in
+            let same = renamed_same (ends_in old) (new_index (ends_in old))
+            (ends_in mid) chained.agreed c.renamed keeps in
             g.stays (live_count old)
-            (laid_same (ends_in number old) (ends_in number mid) (live_count old) same laid)
-            (new_index (ends_in number old) i) ∙ keeps i some;
+            (laid_same (ends_in old) (ends_in mid) (live_count old) same laid)
+            (new_index (ends_in old) i) ∙ keeps i some;
         live =
             let counted = g.moved.chained.formed.counted in
             let none = ap length (g.moved.kept.free ∙ c.free) in
@@ -147,9 +147,9 @@ module _ {I T : Type 0} (number : I → ℕ) (last : Option ℕ) (reset : Bool)
       }
 
 -- where the layout is canonical already no index changes
-pub canonical_twice : {I T : Type 0} (number : I → ℕ) (last : Option ℕ) (reset again : Bool)
-    (old mid new : Content (IndexLink I T))
-    → IsCanonical number last reset old mid → (second : IsCanonical number last again mid new)
-    → (i : ℕ) → IsSome (ends_in number mid i) → second.to i ≡ i
-canonical_twice number last reset again old mid new first second i some =
-    second.stays (subst (IsLaidOut (ends_in number mid)) (sym first.live) first.laid_out) i some
+pub canonical_twice : {T : Type 0} (last : Option ℕ) (reset again : Bool)
+    (old mid new : Content (IndexLink T))
+    → IsCanonical last reset old mid → (second : IsCanonical last again mid new)
+    → (i : ℕ) → IsSome (ends_in mid i) → second.to i ≡ i
+canonical_twice last reset again old mid new first second i some =
+    second.stays (subst (IsLaidOut (ends_in mid)) (sym first.live) first.laid_out) i some

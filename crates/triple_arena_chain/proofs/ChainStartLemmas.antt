@@ -3,8 +3,8 @@ use Rattle.std.proofs.Common.{◌≡◌, ◌≢◌, ℕ, suc, ◌+◌, ◌<◌, 
 use Rattle.std.proofs.Common.{Some, None, IsSome, is_some, true≢false, refl, sym, ap, subst, ◌∙◌}
 use Rattle.std.proofs.Common.{arith, inl, inr}
 use Rattle.triple_arena_chain.specs.Chains.{Ends, next_in, prev_in, next_at, prev_at, IsAgreed}
-use Rattle.triple_arena_chain.specs.Chains.{first_or, last_or, Stands, Off, On, Apart, IsRing}
-use Rattle.triple_arena_chain.specs.ChainLaws.{Stands-back, few, Below}
+use Rattle.triple_arena_chain.specs.Chains.{first_or, last_or, IsSegment, Off, On, Apart, IsRing}
+use Rattle.triple_arena_chain.specs.ChainLaws.{segment-back, few, Below}
 use Rattle.triple_arena_chain.specs.UniquenessLaws.{ended, Ended, none, some_last}
 use Rattle.triple_arena_chain.specs.ListLaws.{On-first, On-back, off_or_not, on_differs, of_live}
 use Rattle.triple_arena_chain.specs.ListLaws.{live_next_in, live_on, holds_prev, turned}
@@ -16,7 +16,7 @@ module _ (e : ℕ → Option Ends) where
   -- a walk back from `k` has come to `at`
   pub record IsBack (k at steps : ℕ) : Type 0 where
     pub ys : List ℕ
-    pub stands : Stands e (prev_at e at) (at ∷ ys) (next_at e k)
+    pub stands : IsSegment e (prev_at e at) (at ∷ ys) (next_at e k)
     pub ends_with : last_or (Some at) ys ≡ Some k
     pub apart : Apart (at ∷ ys)
     pub long : length ys ≡ steps
@@ -63,8 +63,8 @@ module _ (e : ℕ → Option Ends) where
     off_back p comes other =
         off_or_not (at ∷ b.ys) p
         (λ on.
-        let t = Stands-back e (prev_at e at) (next_at e k) on.front (p ∷ on.back)
-        (subst (λ l. Stands e (prev_at e at) l (next_at e k)) on.is b.stands) in
+        let t = segment-back e (prev_at e at) (next_at e k) on.front (p ∷ on.back)
+        (subst (λ l. IsSegment e (prev_at e at) l (next_at e k)) on.is b.stands) in
         let goes = agreed.backward p at comes in
         by on.front on.back on.is (sym (ap next_in t.0) ∙ goes))
       where
@@ -101,7 +101,7 @@ module _ (e : ℕ → Option Ends) where
           ys = at ∷ b.ys;
           stands = (
             of_live (e p) some ∙ ap (λ o. Some (prev_at e p, o)) goes,
-            subst (λ o. Stands e o (at ∷ b.ys) (next_at e k)) comes b.stands,
+            subst (λ o. IsSegment e o (at ∷ b.ys) (next_at e k)) comes b.stands,
           );
           ends_with = b.ends_with;
           apart = (off_back p comes other, b.apart);
@@ -140,12 +140,12 @@ module _ (e : ℕ → Option Ends) where
     pub back_ring : prev_at e at ≡ Some k → IsHead e k
     back_ring comes =
         let goes = agreed.backward k at comes in
-        let s : Stands e (Some k) (at ∷ b.ys) (Some at) =
-        subst (Stands e (Some k) (at ∷ b.ys)) goes
-        (subst (λ o. Stands e o (at ∷ b.ys) (next_at e k)) comes b.stands) in
+        let s : IsSegment e (Some k) (at ∷ b.ys) (Some at) =
+        subst (IsSegment e (Some k) (at ∷ b.ys)) goes
+        (subst (λ o. IsSegment e o (at ∷ b.ys) (next_at e k)) comes b.stands) in
         let ring : IsRing e (at ∷ b.ys) =
         record {
-          stands = subst (λ o. Stands e o (at ∷ b.ys) (Some at)) (sym b.ends_with) s;
+          stands = subst (λ o. IsSegment e o (at ∷ b.ys) (Some at)) (sym b.ends_with) s;
           apart = b.apart;
         } in
         by ring (ended (at ∷ b.ys))
@@ -164,9 +164,6 @@ module _ (e : ℕ → Option Ends) (agreed : IsAgreed e) (k at steps : ℕ) (b :
   where
     pub back_live : IsSome (e at)
     back_live = live_on e (prev_at e at) (next_at e k) (at ∷ b.ys) at b.stands (On-first at b.ys)
-
-    pub back_same : (c : Chain) → IsChainOf e c → On (members c) k → On (members c) at
-    back_same = b.same
 
     pub back_past : (low : ℕ) → IsClosed e low → low < k → low < at
     back_past = b.past

@@ -65,26 +65,26 @@ next_forwarded e None = refl
 next_forwarded e (Some v) = refl
 
 -- what is named as a next is live, once the links have their numbers
-pub numbered_live : {I T : Type 0} (number : I → ℕ) (c0 c1 : Content (IndexLink I T))
-    → IsChained number c0
-    → IsRelinked number (numbered (ends_in number c0)) c0 c1 → (p q : ℕ)
-    → next_at (ends_in number c1) p ≡ Some q → IsSome (ends_in number c1 q)
-numbered_live number c0 c1 chained first p q goes =
-    let own : next_at (ends_in number c0) p ≡ Some q =
+pub numbered_live : {T : Type 0} (c0 c1 : Content (IndexLink T))
+    → IsChained c0
+    → IsRelinked (numbered (ends_in c0)) c0 c1 → (p q : ℕ)
+    → next_at (ends_in c1) p ≡ Some q → IsSome (ends_in c1 q)
+numbered_live c0 c1 chained first p q goes =
+    let own : next_at (ends_in c0) p ≡ Some q =
     sym (ap next_in (first.ends p)
-    ∙ next_numbered (new_index (ends_in number c0) p) (ends_in number c0 p)) ∙ goes in
-    live_ends number c1 q ∙ live_as c0 c1 first.values q ∙ sym (live_ends number c0 q)
-    ∙ live_prev_in (ends_in number c0 q) p (chained.agreed.forward p q own)
+    ∙ next_numbered (new_index (ends_in c0) p) (ends_in c0 p)) ∙ goes in
+    live_ends c1 q ∙ live_as c0 c1 first.values q ∙ sym (live_ends c0 q)
+    ∙ live_prev_in (ends_in c0 q) p (chained.agreed.forward p q own)
 
-module _ {I T : Type 0} (last : Option ℕ) (reset : Bool) (c2 c3 : Content (IndexLink I T))
+module _ {T : Type 0} (last : Option ℕ) (reset : Bool) (c2 c3 : Content (IndexLink T))
     (compressed : IsCompressed entry_at live_count some_counter room_in last live_entries reset c2
     c3) where
   -- what is listed stands at its place
-  pub entry_placed : (n : ℕ) (f : ℕ × (ℕ × IndexLink I T)) → slice_get (live_entries c3) n ≡ Some f
+  pub entry_placed : (n : ℕ) (f : ℕ × (ℕ × IndexLink T)) → slice_get (live_entries c3) n ≡ Some f
       → entry_at c3 (n + 1) ≡ Some f.1
   entry_placed n f is = compressed.entries n ∙ ap (option_map entry_of_listed) is
 
-module _ {I T : Type 0} (last : Option ℕ) (reset : Bool) (c0 c2 c3 c4 : Content (IndexLink I T))
+module _ {T : Type 0} (last : Option ℕ) (reset : Bool) (c0 c2 c3 c4 : Content (IndexLink T))
   where
     -- links that are compressed, where what is done before and after changes interlinks alone
     pub record AreListed : Type 0 where
@@ -123,7 +123,7 @@ module _ {I T : Type 0} (last : Option ℕ) (reset : Bool) (c0 c2 c3 c4 : Conten
           (ap (option_map value_of) (sym (read_new k))
           ∙ sym (slice_get-map value_of (listed_values c4) k))
         where
-          given : (o : Option (ℕ × (ℕ × IndexLink I T))) → slice_get (live_entries c3) k ≡ o
+          given : (o : Option (ℕ × (ℕ × IndexLink T))) → slice_get (live_entries c3) k ≡ o
               → option_map valued (option_map entry_of_listed o)
               ≡ option_map (λ t. (let e : ℕ × T = (renewed last reset c0.counter, t) in e))
               (option_map value_of (option_map listed_value o))
@@ -134,15 +134,14 @@ module _ {I T : Type 0} (last : Option ℕ) (reset : Bool) (c0 c2 c3 c4 : Conten
               sym (entry_placed last reset c2 c3 m.compressed k f is)
               ∙ ap (λ d. entry_at d (k + 1)) m.exact
               ∙ entry-compacted g (map value_of (live_entries c3)) c2 k
-              ∙ ap (option_map (λ l. (let e : ℕ × IndexLink I T = (g, l) in e)))
+              ∙ ap (option_map (λ l. (let e : ℕ × IndexLink T = (g, l) in e)))
               (slice_get-map value_of (live_entries c3) k ∙ ap (option_map value_of) is) in
-              ap (λ (o : Option (ℕ × IndexLink I T)). option_map valued o) at
+              ap (λ (o : Option (ℕ × IndexLink T)). option_map valued o) at
               ∙ ap (λ n. Some (renewed last reset n, f.1.1.t)) counters
 
-      pub is_compacted : (number : I → ℕ)
-          → FollowsRenaming (new_index (ends_in number c0)) (ends_in number c0) (ends_in number c4)
-          → IsCompacted number last reset (map value_of (listed_values c4)) c0 c4
-      is_compacted number renamed =
+      pub is_compacted : FollowsRenaming (new_index (ends_in c0)) (ends_in c0) (ends_in c4)
+          → IsCompacted last reset (map value_of (listed_values c4)) c0 c4
+      is_compacted renamed =
           record {
             renamed = renamed;
             values = compacted_values;
@@ -160,15 +159,15 @@ module _ {I T : Type 0} (last : Option ℕ) (reset : Bool) (c0 c2 c3 c4 : Conten
             room = m.kept_after.room ∙ ap (λ d. d.room) m.exact ∙ m.kept_before.room;
           }
 
-      generations_of : (l : List (ℕ × (ℕ × IndexLink I T)))
+      generations_of : (l : List (ℕ × (ℕ × IndexLink T)))
           → map generation_of (map listed_value l) ≡ map generation_of l
       generations_of [] = refl
       generations_of (x ∷ l) = ap (λ r. x.1.0 ∷ r) (generations_of l)
 
-      generations_given : (counter : Option ℕ) (l : List (ℕ × (ℕ × IndexLink I T)))
+      generations_given : (counter : Option ℕ) (l : List (ℕ × (ℕ × IndexLink T)))
           → map (λ (e : ℕ × (ℕ × T)). generation_given last reset counter (generation_of e))
           (map listed_value l)
-          ≡ map (λ (e : ℕ × (ℕ × IndexLink I T)). generation_given last reset counter
+          ≡ map (λ (e : ℕ × (ℕ × IndexLink T)). generation_given last reset counter
           (generation_of e)) l
       generations_given counter [] = refl
       generations_given counter (x ∷ l) =
@@ -188,7 +187,7 @@ module _ {I T : Type 0} (last : Option ℕ) (reset : Bool) (c0 c2 c3 c4 : Conten
                 ap (map generation_of) listed_new
                 ∙ generations_of (live_entries c3)
                 ∙ m.compressed.generations
-                ∙ ap (λ n. map (λ (e : ℕ × (ℕ × IndexLink I T)). generation_given last reset
+                ∙ ap (λ n. map (λ (e : ℕ × (ℕ × IndexLink T)). generation_given last reset
                 (Some n)
                 (generation_of e)) (live_entries c2)) counters
                 ∙ sym (generations_given (Some c0.counter) (live_entries c2))
@@ -200,13 +199,13 @@ module _ {I T : Type 0} (last : Option ℕ) (reset : Bool) (c0 c2 c3 c4 : Conten
             room = m.kept_after.room ∙ m.compressed.room ∙ m.kept_before.room;
           }
         where
-          both : (o : Option (ℕ × (ℕ × IndexLink I T)))
+          both : (o : Option (ℕ × (ℕ × IndexLink T)))
               → option_map valued (option_map entry_of_listed o)
               ≡ option_map entry_of_listed (option_map listed_value o)
           both None = refl
           both (Some f) = refl
 
-          compact : (k : ℕ) (entry : ℕ × (ℕ × T)) (o : Option (ℕ × (ℕ × IndexLink I T)))
+          compact : (k : ℕ) (entry : ℕ × (ℕ × T)) (o : Option (ℕ × (ℕ × IndexLink T)))
               → slice_get (live_entries c3) k ≡ o
               → option_map listed_value o ≡ Some entry → index_of entry ≡ k + 1
           compact k entry None is at = absurd (cc)
@@ -214,24 +213,24 @@ module _ {I T : Type 0} (last : Option ℕ) (reset : Bool) (c0 c2 c3 c4 : Conten
               let same : listed_value f ≡ entry = cc in ap index_of (sym same)
               ∙ m.compressed.compact k f is
 
-module _ {I T : Type 0} (number : I → ℕ) (last : Option ℕ) (reset : Bool)
-    (c0 c1 c2 c3 : Content (IndexLink I T)) where
+module _ {T : Type 0} (last : Option ℕ) (reset : Bool)
+    (c0 c1 c2 c3 : Content (IndexLink T)) where
   -- the passes up to the one that moves the links
   pub record AreMoved : Type 0 where
-    pub chained : IsChained number c0
-    pub first : IsRelinked number (numbered (ends_in number c0)) c0 c1
-    pub second : IsRelinked number (forwarded (ends_in number c1)) c1 c2
+    pub chained : IsChained c0
+    pub first : IsRelinked (numbered (ends_in c0)) c0 c1
+    pub second : IsRelinked (forwarded (ends_in c1)) c1 c2
     pub links : AllZip IsLeftWithNext (live_entries c2) (live_entries c3)
     pub compressed : IsCompressed entry_at live_count some_counter room_in last live_entries reset
         c2 c3
     pub exact : c3 ≡ compacted (renewed last reset c2.counter) (map value_of (live_entries c3)) c2
 
   abbrev pub to : ℕ → ℕ
-  to = new_index (ends_in number c0)
+  to = new_index (ends_in c0)
 
   module _ (m : AreMoved) where
     abbrev e0 : ℕ → Option Ends
-    e0 = ends_in number c0
+    e0 = ends_in c0
 
     values02 : (j : ℕ) → values_in c2 j ≡ values_in c0 j
     values02 j = m.second.values j ∙ m.first.values j
@@ -240,19 +239,19 @@ module _ {I T : Type 0} (number : I → ℕ) (last : Option ℕ) (reset : Bool)
     kept02 = kept_on c0 c1 c2 m.first.kept m.second.kept
 
     live_same : (j : ℕ) → is_some (entry_at c2 j) ≡ is_some (e0 j)
-    live_same j = live_as c0 c2 values02 j ∙ sym (live_ends number c0 j)
+    live_same j = live_as c0 c2 values02 j ∙ sym (live_ends c0 j)
 
     -- the nexts under the new indexes, before the links are moved
-    nexts2 : (i : ℕ) → next_at (ends_in number c2) i ≡ option_map to (next_at e0 i)
+    nexts2 : (i : ℕ) → next_at (ends_in c2) i ≡ option_map to (next_at e0 i)
     nexts2 i =
         ap next_in (m.second.ends i)
-        ∙ next_forwarded (ends_in number c1) (ends_in number c1 i)
-        ∙ ap (prev_of (ends_in number c1))
+        ∙ next_forwarded (ends_in c1) (ends_in c1 i)
+        ∙ ap (prev_of (ends_in c1))
         (ap next_in (m.first.ends i) ∙ next_numbered (to i) (e0 i))
         ∙ by_next (next_at e0 i) refl
       where
         by_next : (o : Option ℕ) → next_at e0 i ≡ o
-            → prev_of (ends_in number c1) o ≡ option_map to o
+            → prev_of (ends_in c1) o ≡ option_map to o
         by_next None is = refl
         by_next (Some j) is =
             ap prev_in (m.first.ends j)
@@ -261,10 +260,10 @@ module _ {I T : Type 0} (number : I → ℕ) (last : Option ℕ) (reset : Bool)
 
     -- the link that a live index becomes
     record Moved (i : ℕ) : Type 0 where
-      link : ℕ × (ℕ × IndexLink I T)
+      link : ℕ × (ℕ × IndexLink T)
       listed : slice_get (live_entries c3) (live_below e0 i) ≡ Some link
       alone : link.1.1.prev ≡ None
-      goes : option_map number link.1.1.next ≡ next_at (ends_in number c2) i
+      goes : link.1.1.next ≡ next_at (ends_in c2) i
 
     rank_slots : (k : ℕ) → live_below e0 (suc k) ≡ live_below (slot_at c2.slots) k
     rank_slots k = slots_ranked e0 c2 live_same k
@@ -273,7 +272,7 @@ module _ {I T : Type 0} (number : I → ℕ) (last : Option ℕ) (reset : Bool)
     moved_link zero some = absurd (true≢false (sym some))
     moved_link (suc k) some = by_slot (slot_at c2.slots k) refl
       where
-        by_slot : (o : Option (ℕ × IndexLink I T)) → slot_at c2.slots k ≡ o → Moved (suc k)
+        by_slot : (o : Option (ℕ × IndexLink T)) → slot_at c2.slots k ≡ o → Moved (suc k)
         by_slot None is = absurd (true≢false (sym some ∙ sym (live_same (suc k)) ∙ ap is_some is))
         by_slot (Some e) is =
             let there = listed-ranked 1 k c2.slots e is in
@@ -283,21 +282,21 @@ module _ {I T : Type 0} (number : I → ℕ) (last : Option ℕ) (reset : Bool)
               link = z.0;
               listed = ap (slice_get (live_entries c3)) (rank_slots k) ∙ z.1;
               alone = z.2.0;
-              goes = ap (option_map number) z.2.1
-                  ∙ sym (ap (λ o. next_in (option_map (entry_ends number) o)) is);
+              goes = z.2.1
+                  ∙ sym (ap (λ o. next_in (option_map entry_ends o)) is);
             }
 
     moved_ends : (i : ℕ) → IsSome (e0 i)
-        → ends_in number c3 (to i) ≡ Some (None, option_map to (next_at e0 i))
+        → ends_in c3 (to i) ≡ Some (None, option_map to (next_at e0 i))
     moved_ends i some =
         let l = moved_link i some in
-        let here : Option Ends = Some (None, option_map number l.link.1.1.next) in
-        ap (option_map (entry_ends number))
+        let here : Option Ends = Some (None, l.link.1.1.next) in
+        ap (option_map entry_ends)
         (entry_placed last reset c2 c3 m.compressed (live_below e0 i) l.link l.listed)
-        ∙ ap (λ o. Some (option_map number o, option_map number l.link.1.1.next)) l.alone
+        ∙ ap (λ o. Some (o, l.link.1.1.next)) l.alone
         ∙ ap (λ o. Some (None, o)) (l.goes ∙ nexts2 i)
 
-    pub moved : AreNextsRenamed to e0 (ends_in number c3)
+    pub moved : AreNextsRenamed to e0 (ends_in c3)
     moved =
         record {
           live = λ i some. ap is_some (moved_ends i some);
@@ -305,12 +304,12 @@ module _ {I T : Type 0} (number : I → ℕ) (last : Option ℕ) (reset : Bool)
           onto = onto;
         }
       where
-        by_link : (n : ℕ) (o : Option (ℕ × (ℕ × IndexLink I T))) → slice_get (live_entries c3) n ≡ o
-            → IsSome (ends_in number c3 (n + 1))
+        by_link : (n : ℕ) (o : Option (ℕ × (ℕ × IndexLink T))) → slice_get (live_entries c3) n ≡ o
+            → IsSome (ends_in c3 (n + 1))
             → (i : ℕ) × IsSome (e0 i) × (to i ≡ suc n)
         by_link n None is some =
             absurd (true≢false (sym some
-            ∙ ap (λ o. is_some (option_map (entry_ends number) o))
+            ∙ ap (λ o. is_some (option_map entry_ends o))
             (m.compressed.entries n ∙ ap (option_map entry_of_listed) is)))
         by_link n (Some f) is some =
             let z = zip_back IsLeftWithNext (live_entries c2) (live_entries c3) m.links n f is in
@@ -318,37 +317,37 @@ module _ {I T : Type 0} (number : I → ℕ) (last : Option ℕ) (reset : Bool)
             let ranked = rank_slots o.0 in
             (suc o.0, sym (live_same (suc o.0)) ∙ ap is_some o.1, omega (arith, ranked, o.2))
 
-        onto : (k : ℕ) → IsSome (ends_in number c3 k) → (i : ℕ) × IsSome (e0 i) × (to i ≡ k)
+        onto : (k : ℕ) → IsSome (ends_in c3 k) → (i : ℕ) × IsSome (e0 i) × (to i ≡ k)
         onto zero some = absurd (true≢false (sym some))
         onto (suc n) some =
             let next : suc n ≡ n + 1 = omega arith in
             by_link n (slice_get (live_entries c3) n) refl
-            (subst (λ k. IsSome (ends_in number c3 k)) next some)
+            (subst (λ k. IsSome (ends_in c3 k)) next some)
 
-    pub apart : IsApart to e0 (ends_in number c3)
+    pub apart : IsApart to e0 (ends_in c3)
     apart i j live live' same = live_below-apart e0 i j live live' (omega (arith, same))
 
     -- what the last pass asks for
-    pub alone : (k : ℕ) → prev_at (ends_in number c3) k ≡ None
-    alone k = by_ends (ends_in number c3 k) refl
+    pub alone : (k : ℕ) → prev_at (ends_in c3) k ≡ None
+    alone k = by_ends (ends_in c3 k) refl
       where
-        by_ends : (o : Option Ends) → ends_in number c3 k ≡ o → prev_in o ≡ None
+        by_ends : (o : Option Ends) → ends_in c3 k ≡ o → prev_in o ≡ None
         by_ends None is = refl
         by_ends (Some v) is =
             let from = moved.onto k (ap is_some is) in
-            ap prev_in (sym is ∙ ap (ends_in number c3) (sym from.2) ∙ moved_ends from.0 from.1)
+            ap prev_in (sym is ∙ ap (ends_in c3) (sym from.2) ∙ moved_ends from.0 from.1)
 
-    pub live : (p q : ℕ) → next_at (ends_in number c3) p ≡ Some q → IsSome (ends_in number c3 q)
-    live p q goes = nexts_live to e0 (ends_in number c3) m.chained.agreed moved p q goes
+    pub live : (p q : ℕ) → next_at (ends_in c3) p ≡ Some q → IsSome (ends_in c3 q)
+    live p q goes = nexts_live to e0 (ends_in c3) m.chained.agreed moved p q goes
 
-    pub nexts_one : (p q r : ℕ) → next_at (ends_in number c3) p ≡ Some r
-        → next_at (ends_in number c3) q ≡ Some r → p ≡ q
+    pub nexts_one : (p q r : ℕ) → next_at (ends_in c3) p ≡ Some r
+        → next_at (ends_in c3) q ≡ Some r → p ≡ q
     nexts_one p q r goes goes' =
-        nexts_apart to e0 (ends_in number c3) m.chained.agreed moved apart p q r goes goes'
+        nexts_apart to e0 (ends_in c3) m.chained.agreed moved apart p q r goes goes'
 
-    module _ (c4 : Content (IndexLink I T))
-        (nexts : (k : ℕ) → next_at (ends_in number c4) k ≡ next_at (ends_in number c3) k)
-        (agreed : IsAgreed (ends_in number c4)) (values : (k : ℕ) → values_in c4 k ≡ values_in c3 k)
+    module _ (c4 : Content (IndexLink T))
+        (nexts : (k : ℕ) → next_at (ends_in c4) k ≡ next_at (ends_in c3) k)
+        (agreed : IsAgreed (ends_in c4)) (values : (k : ℕ) → values_in c4 k ≡ values_in c3 k)
         (kept : IsKept c3 c4) where
       pub are_listed : AreListed last reset c0 c2 c3 c4
       are_listed =
@@ -361,12 +360,12 @@ module _ {I T : Type 0} (number : I → ℕ) (last : Option ℕ) (reset : Bool)
             kept_after = kept;
           }
 
-      live34 : (k : ℕ) → is_some (ends_in number c4 k) ≡ is_some (ends_in number c3 k)
-      live34 k = live_ends number c4 k ∙ live_as c3 c4 values k ∙ sym (live_ends number c3 k)
+      live34 : (k : ℕ) → is_some (ends_in c4 k) ≡ is_some (ends_in c3 k)
+      live34 k = live_ends c4 k ∙ live_as c3 c4 values k ∙ sym (live_ends c3 k)
 
-      pub renamed_links : FollowsRenaming to e0 (ends_in number c4)
+      pub renamed_links : FollowsRenaming to e0 (ends_in c4)
       renamed_links =
-          renamed_by to e0 (ends_in number c4) m.chained.agreed
+          renamed_by to e0 (ends_in c4) m.chained.agreed
           (record {
             live = λ i some. live34 (to i) ∙ moved.live i some;
             nexts = λ i some. nexts (to i) ∙ moved.nexts i some;

@@ -12,8 +12,8 @@ use Rattle.triple_arena.specs.Content.{Content, entry_at, get, removed}
 use Rattle.triple_arena.specs.RemovalLaws.{free-removed, slots-removed}
 use Rattle.triple_arena_chain.specs.LinkShape.{IndexLink}
 use Rattle.triple_arena_chain.specs.Chains.{Ends, taken_out, first_or, last_or, On}
-use Rattle.triple_arena_chain.specs.ChainLaws.{Stands-back}
-use Rattle.triple_arena_chain.specs.ListLaws.{Stands-where, chain_where, live_in, off_or_not}
+use Rattle.triple_arena_chain.specs.ChainLaws.{segment-back}
+use Rattle.triple_arena_chain.specs.ListLaws.{segment-where, chain_where, live_in, off_or_not}
 use Rattle.triple_arena_chain.specs.Lists.{members}
 use Rattle.triple_arena_chain.specs.Links.{values_in, link_ends, entry_ends, ends_in, IsChained}
 use Rattle.triple_arena_chain.specs.Links.{IsTakenOut}
@@ -36,11 +36,11 @@ module _ (e f : ℕ → Option Ends) (same : (k : ℕ) → f k ≡ e k) where
   IsWalk-same : (at : Option ℕ) (walk : List ℕ) → IsWalk e at walk → IsWalk f at walk
   IsWalk-same None walk is = is
   IsWalk-same (Some i) walk (along before after s is) =
-      along before after (Stands-where e f None None (before ++ i ∷ after) (λ k on. same k) s) is
+      along before after (segment-where e f None None (before ++ i ∷ after) (λ k on. same k) s) is
   IsWalk-same (Some i) walk (around after r is) =
       around after (record {
         stands =
-            Stands-where e f (last_or None (i ∷ after)) (first_or (i ∷ after) None) (i ∷ after)
+            segment-where e f (last_or None (i ∷ after)) (first_or (i ∷ after) None) (i ∷ after)
             (λ k on. same k) r.stands;
         apart = r.apart;
       }) is
@@ -107,14 +107,14 @@ module _ {T : Type 0} where
       (slots-removed last d x ∙ ap (λ m. if x == m then (x - 1) else m) slots
       ∙ sym (slots-removed last c x))
 
-module _ {I T : Type 0} (number : I → ℕ) (last : Option ℕ) where
+module _ {T : Type 0} (last : Option ℕ) where
   -- where there is no walk left nothing is left to remove
-  pub nothing_left : (c : Content (IndexLink I T)) → IsRestDrained number last None c c
+  pub nothing_left : (c : Content (IndexLink T)) → IsRestDrained last None c c
   nothing_left c walk is =
-      subst (λ w. IsDrained number last w c c) (sym is)
+      subst (λ w. IsDrained last w c c) (sym is)
       (record {
         ends = λ k. refl;
-        lists = chain_gone (ends_in number c) (ends_in number c) [] (λ k. refl);
+        lists = chain_gone (ends_in c) (ends_in c) [] (λ k. refl);
         values = λ k. refl;
         live = omega arith;
         counter = refl;
@@ -124,53 +124,53 @@ module _ {I T : Type 0} (number : I → ℕ) (last : Option ℕ) where
       })
 
   -- what is left of a walk whose first link was taken out
-  pub record Advanced (i : ℕ) (next : Option ℕ) (c d : Content (IndexLink I T)) : Type 0 where
-    pub goes_on : (walk : List ℕ) → IsWalk (ends_in number c) (Some i) walk
-        → (rest : List ℕ) × (walk ≡ i ∷ rest) × IsWalk (ends_in number d) next rest
-    pub leaves : (left : Content (IndexLink I T)) → IsRestDrained number last next d left
-        → IsRestDrained number last (Some i) c left
+  pub record Advanced (i : ℕ) (next : Option ℕ) (c d : Content (IndexLink T)) : Type 0 where
+    pub goes_on : (walk : List ℕ) → IsWalk (ends_in c) (Some i) walk
+        → (rest : List ℕ) × (walk ≡ i ∷ rest) × IsWalk (ends_in d) next rest
+    pub leaves : (left : Content (IndexLink T)) → IsRestDrained last next d left
+        → IsRestDrained last (Some i) c left
 
-  pub advanced : (c d : Content (IndexLink I T)) (i g : ℕ) (l : IndexLink I T) (next : Option ℕ)
-      → IsChained number c → entry_at c i ≡ Some (g, l)
-      → IsTakenOut number last i c d → next ≡ next_or_prev i (link_ends number l)
+  pub advanced : (c d : Content (IndexLink T)) (i g : ℕ) (l : IndexLink T) (next : Option ℕ)
+      → IsChained c → entry_at c i ≡ Some (g, l)
+      → IsTakenOut last i c d → next ≡ next_or_prev i (link_ends l)
       → Advanced i next c d
   advanced c d i g l next chained at taken onward =
-      let e = ends_in number c in
-      let own : e i ≡ Some (option_map number l.prev, option_map number l.next) =
-      ap (option_map (entry_ends number)) at in
+      let e = ends_in c in
+      let own : e i ≡ Some (l.prev, l.next) =
+      ap (option_map entry_ends) at in
       record {
         goes_on =
             λ walk is.
-            let on = walk_goes_on e chained.agreed i (option_map number l.prev)
-            (option_map number l.next) own walk is in (
+            let on = walk_goes_on e chained.agreed i l.prev
+            l.next own walk is in (
               on.rest,
               on.is,
-              subst (λ o. IsWalk (ends_in number d) o on.rest) (sym onward)
-                  (IsWalk-same (taken_out e i) (ends_in number d) taken.ends
-                  (next_or_prev i (link_ends number l)) on.rest on.goes_on),
+              subst (λ o. IsWalk (ends_in d) o on.rest) (sym onward)
+                  (IsWalk-same (taken_out e i) (ends_in d) taken.ends
+                  (next_or_prev i (link_ends l)) on.rest on.goes_on),
             );
         leaves =
             λ left drained walk is.
-            let on = walk_goes_on e chained.agreed i (option_map number l.prev)
-            (option_map number l.next) own walk is in
+            let on = walk_goes_on e chained.agreed i l.prev
+            l.next own walk is in
             let rest =
             drained on.rest
-            (subst (λ o. IsWalk (ends_in number d) o on.rest) (sym onward)
-            (IsWalk-same (taken_out e i) (ends_in number d) taken.ends
-            (next_or_prev i (link_ends number l)) on.rest on.goes_on)) in
+            (subst (λ o. IsWalk (ends_in d) o on.rest) (sym onward)
+            (IsWalk-same (taken_out e i) (ends_in d) taken.ends
+            (next_or_prev i (link_ends l)) on.rest on.goes_on)) in
             let same = removed_all-same last on.rest (removed last c i) d taken.free taken.slots in
             let fewer = rest.live in
             let one = taken.live in
-            let ends : (k : ℕ) → ends_in number left k ≡ dropped_all e (i ∷ on.rest) k =
+            let ends : (k : ℕ) → ends_in left k ≡ dropped_all e (i ∷ on.rest) k =
             λ k.
             rest.ends k
-            ∙ dropped_all-same (taken_out e i) (ends_in number d) taken.ends on.rest k
-            ∙ dropped_with e chained.agreed i (option_map number l.prev) (option_map number l.next)
+            ∙ dropped_all-same (taken_out e i) (ends_in d) taken.ends on.rest k
+            ∙ dropped_with e chained.agreed i l.prev l.next
             own on.rest k (subst (IsWalkFrom e i) on.is is) in
-            subst (λ w. IsDrained number last w c left) (sym on.is)
+            subst (λ w. IsDrained last w c left) (sym on.is)
             (record {
               ends = ends;
-              lists = chain_gone e (ends_in number left) (i ∷ on.rest) ends;
+              lists = chain_gone e (ends_in left) (i ∷ on.rest) ends;
               values = λ k.
                   rest.values k
                   ∙ without_all-same (without (values_in c) i) (values_in d) taken.values on.rest k
@@ -185,40 +185,40 @@ module _ {I T : Type 0} (number : I → ℕ) (last : Option ℕ) where
       }
 
   -- the walk from a link that is live
-  pub walk_from : (c : Content (IndexLink I T)) (i : I) (p g : ℕ) → IsChained number c
-      → number i ≡ p → IsSome (get c p g)
-      → (walk : List ℕ) × IsWalk (ends_in number c) (Some (number i)) walk
+  pub walk_from : (c : Content (IndexLink T)) (i : ℕ) (p g : ℕ) → IsChained c
+      → i ≡ p → IsSome (get c p g)
+      → (walk : List ℕ) × IsWalk (ends_in c) (Some i) walk
   walk_from c i p g chained is_p some =
-      walk_of (ends_in number c) (number i)
-      (in_one_chain number c (number i) chained
-      (ap is_some (ap (ends_in number c) is_p) ∙ live (entry_at c p) some)).stands
+      walk_of (ends_in c) i
+      (in_one_chain c i chained
+      (ap is_some (ap (ends_in c) is_p) ∙ live (entry_at c p) some)).stands
     where
-      live : (o : Option (ℕ × IndexLink I T)) → IsSome (value_if g o)
-          → is_some (option_map (entry_ends number) o) ≡ true
+      live : (o : Option (ℕ × IndexLink T)) → IsSome (value_if g o)
+          → is_some (option_map entry_ends o) ≡ true
       live None missing = absurd (let never : false ≡ true = missing in cc)
       live (Some e) found = refl
 
   module _ {P G : Type 0} (generation_number : G → ℕ) (index generation : P → ℕ) where
     -- a removal that is given as an item
-    pub step_by : (r : Option (InvalidationOption (G × IndexLink I T)))
-        (c d : Content (IndexLink I T)) (i : ℕ) (p : P) (gen : G) (link : IndexLink I T)
-        (wrapped : Bool) (item : InvalidationOption (P × IndexLink I T)) (next : Option ℕ)
-        → IsChained number c → index p ≡ i
+    pub step_by : (r : Option (InvalidationOption (G × IndexLink T)))
+        (c d : Content (IndexLink T)) (i : ℕ) (p : P) (gen : G) (link : IndexLink T)
+        (wrapped : Bool) (item : InvalidationOption (P × IndexLink T)) (next : Option ℕ)
+        → IsChained c → index p ≡ i
         → generation p ≡ generation_number gen → value_of item ≡ (p, link)
         → overflowed item ≡ wrapped
-        → (let t : Option ((G × IndexLink I T) × Bool) = Some ((gen, link), wrapped) in t)
-        ≡ option_map (λ a. (let u : (G × IndexLink I T) × Bool = (value_of a, overflowed a) in u)) r
+        → (let t : Option ((G × IndexLink T) × Bool) = Some ((gen, link), wrapped) in t)
+        ≡ option_map (λ a. (let u : (G × IndexLink T) × Bool = (value_of a, overflowed a) in u)) r
         → option_map (λ a. (generation_number (value_of a).0, (value_of a).1)) r ≡ entry_at c i
         → IfSome r (λ a. overflowed a ≡ next_wraps last c.counter)
-        → OnSome r (IsTakenOut number last i c d) → next ≡ next_or_prev i (link_ends number link)
-        → IsStep number last index generation i item next c d
+        → OnSome r (IsTakenOut last i c d) → next ≡ next_or_prev i (link_ends link)
+        → IsStep last index generation i item next c d
     step_by None c d i p gen link wrapped item next chained is_i is_gen value wraps told entry
         overflow taken onward =
-        absurd (let never : (let t : Option ((G × IndexLink I T) × Bool) =
+        absurd (let never : (let t : Option ((G × IndexLink T) × Bool) =
         Some ((gen, link), wrapped) in t) ≡ None = told in cc)
     step_by (Some a) c d i p gen link wrapped item next chained is_i is_gen value wraps told entry
         overflow taken onward =
-        let given = some_is {A = (G × IndexLink I T) × Bool} told in
+        let given = some_is {A = (G × IndexLink T) × Bool} told in
         let at : entry_at c i ≡ Some (generation_number gen, link) = sym entry
         ∙ ap (λ v. Some (generation_number v.0, v.1)) (sym (ap (λ v. v.0) given)) in
         let on = advanced c d i (generation_number gen) link next chained at taken onward in
@@ -233,22 +233,22 @@ module _ {I T : Type 0} (number : I → ℕ) (last : Option ℕ) where
         }
 
   -- a walk begins at an index that is live
-  pub walk_live : (c : Content (IndexLink I T)) (i : ℕ) (walk : List ℕ)
-      → IsWalk (ends_in number c) (Some i) walk → IsSome (entry_at c i)
+  pub walk_live : (c : Content (IndexLink T)) (i : ℕ) (walk : List ℕ)
+      → IsWalk (ends_in c) (Some i) walk → IsSome (entry_at c i)
   walk_live c i walk from = live (entry_at c i) (by from)
     where
-      live : (o : Option (ℕ × IndexLink I T)) → IsSome (option_map (entry_ends number) o) → IsSome o
+      live : (o : Option (ℕ × IndexLink T)) → IsSome (option_map entry_ends o) → IsSome o
       live None missing = absurd (let never : false ≡ true = missing in cc)
       live (Some e) found = refl
 
-      by : IsWalkFrom (ends_in number c) i walk → IsSome (ends_in number c i)
+      by : IsWalkFrom (ends_in c) i walk → IsSome (ends_in c i)
       by (along before after s is) =
-          ap is_some (Stands-back (ends_in number c) None None before (i ∷ after) s).0
+          ap is_some (segment-back (ends_in c) None None before (i ∷ after) s).0
       by (around after r is) = ap is_some r.stands.0
 
   -- an index that is not live begins none
-  pub nothing_there : (c : Content (IndexLink I T)) (i : ℕ) → entry_at c i ≡ None
-      → IsRestDrained number last (Some i) c c
+  pub nothing_there : (c : Content (IndexLink T)) (i : ℕ) → entry_at c i ≡ None
+      → IsRestDrained last (Some i) c c
   nothing_there c i vacant walk from =
       absurd (let never : false ≡ true = sym (ap is_some vacant) ∙ walk_live c i walk from in cc)
 
@@ -271,7 +271,7 @@ module _ {P T S Inx Gen Word Alloc : Type 0} (number : Inx → ℕ) (last : Opti
   goes_along first (item ∷ items) later run walk is =
       let gives = run.1.0 in
       let on = gives.2.goes_on walk
-      (subst (λ o. IsWalk (ends_in number (drain_chains first)) o walk) gives.1 is) in
+      (subst (λ o. IsWalk (ends_in (drain_chains first)) o walk) gives.1 is) in
       let others = goes_along run.0 items later run.2 on.0 on.2 in
       let first_is = ap (λ k. k ∷ (indexes_of index items ++ others.0)) (sym gives.2.index_is) in
       (others.0, on.1 ∙ ap (λ l. gives.0 ∷ l) others.1 ∙ first_is, others.2)

@@ -383,18 +383,18 @@ module _ {A : Type 0} where
       let more = count_more (Some x) xs in
       all_there xs k (omega (arith, more, all)) (omega (arith, below))
 
-module _ {I T : Type 0} (number : I → ℕ) where
+module _ {T : Type 0} where
   -- what is live is among the slots
-  pub within_slots : (c : Content (IndexLink I T)) (i : ℕ) → IsSome (ends_in number c i)
+  pub within_slots : (c : Content (IndexLink T)) (i : ℕ) → IsSome (ends_in c i)
       → i ≤ length c.slots
-  within_slots c i some = let less = bounded number c i some in omega (arith, less)
+  within_slots c i some = let less = bounded c i some in omega (arith, less)
 
   -- where no index is free each one up to the last is live
-  pub full_live : (c : Content (IndexLink I T)) (i : ℕ) → IsWellFormed c → c.free ≡ [] → 1 ≤ i
-      → i ≤ length c.slots → IsSome (ends_in number c i)
+  pub full_live : (c : Content (IndexLink T)) (i : ℕ) → IsWellFormed c → c.free ≡ [] → 1 ≤ i
+      → i ≤ length c.slots → IsSome (ends_in c i)
   full_live c zero formed full low high = absurd (omega (arith, low))
   full_live c (suc k) formed full low high =
       let counted = formed.counted in
       let none = ap length full in
-      live_ends number c (suc k)
+      live_ends c (suc k)
       ∙ all_there c.slots k (omega (arith, counted, none)) (omega (arith, high))

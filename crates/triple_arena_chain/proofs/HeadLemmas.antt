@@ -15,45 +15,45 @@ use Rattle.triple_arena_chain.proofs.ChainStartLemmas.{back_past, ring_head}
 use Rattle.triple_arena_chain.proofs.GatherLemmas.{prev_moved}
 use Rattle.triple_arena_chain.proofs.NoteLemmas.{none_at_zero}
 
-module _ {I T : Type 0} (number : I → ℕ) (placed : ℕ) (old : Content (IndexLink I T))
-    (laid : ℕ → Option Ends) (now : Content (IndexLink I T))
-    (a : AreLaid number placed old laid now) where
+module _ {T : Type 0} (placed : ℕ) (old : Content (IndexLink T))
+    (laid : ℕ → Option Ends) (now : Content (IndexLink T))
+    (a : AreLaid placed old laid now) where
   pub laid_zero : laid 0 ≡ None
-  laid_zero = none_at_zero number laid now a.noted.live
+  laid_zero = none_at_zero laid now a.noted.live
 
   -- the previous link of one that is not placed
   pub record IsBefore (at raw : ℕ) : Type 0 where
-    pub live : IsSome (ends_in number old raw)
+    pub live : IsSome (ends_in old raw)
     pub comes : prev_at laid at ≡ Some (a.to raw)
     pub past : placed < a.to raw
-    pub led : IsLed (ends_in number now) placed raw (a.to raw)
+    pub led : IsLed (ends_in now) placed raw (a.to raw)
 
   module _ (at : ℕ) (some : IsSome (laid at)) (ahead : placed < at) where
     -- what is before an unplaced link, under the names that links have now
-    prevs : (o : Option ℕ) → prev_at (ends_in number now) at ≡ o
+    prevs : (o : Option ℕ) → prev_at (ends_in now) at ≡ o
         → prev_at laid at ≡ option_map a.to o
     prevs o is =
         let name = a.gathered.moved.renamed.onto at some in
         let unplaced : placed < a.to name.0 = subst (λ k. placed < k) (sym name.2) ahead in
-        let own : prev_at (ends_in number old) name.0 ≡ o =
+        let own : prev_at (ends_in old) name.0 ≡ o =
         sym (ap prev_in (a.noted.ahead name.0 name.1 unplaced))
-        ∙ ap (prev_at (ends_in number now)) name.2 ∙ is in
+        ∙ ap (prev_at (ends_in now)) name.2 ∙ is in
         ap (prev_at laid) (sym name.2)
-        ∙ prev_moved a.to (ends_in number old) laid a.gathered.moved.renamed name.0 name.1
+        ∙ prev_moved a.to (ends_in old) laid a.gathered.moved.renamed name.0 name.1
         ∙ ap (option_map a.to) own
 
-    pub none_before : prev_at (ends_in number now) at ≡ None → prev_at laid at ≡ None
+    pub none_before : prev_at (ends_in now) at ≡ None → prev_at laid at ≡ None
     none_before is = prevs None is
 
-    pub before : (raw : ℕ) → prev_at (ends_in number now) at ≡ Some raw → IsBefore at raw
+    pub before : (raw : ℕ) → prev_at (ends_in now) at ≡ Some raw → IsBefore at raw
     before raw is =
         let name = a.gathered.moved.renamed.onto at some in
         let unplaced : placed < a.to name.0 = subst (λ k. placed < k) (sym name.2) ahead in
-        let own : prev_at (ends_in number old) name.0 ≡ Some raw =
+        let own : prev_at (ends_in old) name.0 ≡ Some raw =
         sym (ap prev_in (a.noted.ahead name.0 name.1 unplaced))
-        ∙ ap (prev_at (ends_in number now)) name.2 ∙ is in
-        let live : IsSome (ends_in number old raw) =
-        live_next_in (ends_in number old raw) name.0 (a.chained.agreed.backward raw name.0 own)
+        ∙ ap (prev_at (ends_in now)) name.2 ∙ is in
+        let live : IsSome (ends_in old raw) =
+        live_next_in (ends_in old raw) name.0 (a.chained.agreed.backward raw name.0 own)
         in
         let comes = prevs (Some raw) is in
         let goes : next_at laid (a.to raw) ≡ Some at =
@@ -76,19 +76,19 @@ module _ {I T : Type 0} (number : I → ℕ) (placed : ℕ) (old : Content (Inde
     pub walk_live : IsSome (laid at)
     walk_live = back_live laid a.gathered.moved.agreed k at steps b
 
-    pub walk_before : (raw : ℕ) → prev_at (ends_in number now) at ≡ Some raw → IsBefore at raw
+    pub walk_before : (raw : ℕ) → prev_at (ends_in now) at ≡ Some raw → IsBefore at raw
     walk_before raw is = before at walk_live walk_ahead raw is
 
-    pub walk_more : (raw p : ℕ) → prev_at (ends_in number now) at ≡ Some raw → p ≡ a.to raw → p ≢ k
+    pub walk_more : (raw p : ℕ) → prev_at (ends_in now) at ≡ Some raw → p ≡ a.to raw → p ≢ k
         → IsBack laid k p (steps + 1)
     walk_more raw p is here other =
         back_more laid a.gathered.moved.agreed k at steps b p
         ((walk_before raw is).comes ∙ ap Some (sym here)) other
 
     -- the walk comes round
-    pub start_round : (raw p : ℕ) → prev_at (ends_in number now) at ≡ Some raw → p ≡ a.to raw
+    pub start_round : (raw p : ℕ) → prev_at (ends_in now) at ≡ Some raw → p ≡ a.to raw
         → p ≡ k → IsSome (laid k)
-        → IsStart number placed k (Some raw) a.to old laid
+        → IsStart placed k (Some raw) a.to old laid
     start_round raw p is here same live =
         let to_k : a.to raw ≡ k = sym here ∙ same in
         let head : IsHead laid k =
@@ -103,15 +103,15 @@ module _ {I T : Type 0} (number : I → ℕ) (placed : ℕ) (old : Content (Inde
           ring = λ x is_x. let it : raw ≡ x = cc in (
             first,
             (
-              subst (λ y. IsSome (ends_in number old y)) it (walk_before raw is).live,
+              subst (λ y. IsSome (ends_in old y)) it (walk_before raw is).live,
               ap a.to (sym it) ∙ to_k ∙ first,
             ),
           );
         }
 
     -- or ends
-    pub start_line : prev_at (ends_in number now) at ≡ None
-        → IsStart number placed at None a.to old laid
+    pub start_line : prev_at (ends_in now) at ≡ None
+        → IsStart placed at None a.to old laid
     start_line is =
         let lone = none_before at walk_live walk_ahead is in
         record {
@@ -124,8 +124,8 @@ module _ {I T : Type 0} (number : I → ℕ) (placed : ℕ) (old : Content (Inde
           ring = λ x is_x. absurd (let no : None ≡ Some x = is_x in cc);
         }
 
-module _ {I T : Type 0} (number : I → ℕ) where
+module _ {T : Type 0} where
   -- a walk back from `k` has come to `at`, whatever the links were
-  abbrev pub IsWalkBack : ℕ → ℕ → ℕ → ℕ → Content (IndexLink I T) → Type 0
-  IsWalkBack placed k at steps now = (old : Content (IndexLink I T)) (laid : ℕ → Option Ends)
-      → AreLaid number placed old laid now → IsBack laid k at steps
+  abbrev pub IsWalkBack : ℕ → ℕ → ℕ → ℕ → Content (IndexLink T) → Type 0
+  IsWalkBack placed k at steps now = (old : Content (IndexLink T)) (laid : ℕ → Option Ends)
+      → AreLaid placed old laid now → IsBack laid k at steps

@@ -14,7 +14,6 @@ use Rattle.triple_arena_chain.specs.declared.gap.Gap.{Gap}
 use Rattle.triple_arena_chain.specs.declared.gap.Gap.TheVariants.{Between, OwnRing}
 use Rattle.triple_arena_chain.specs.Chains.{Ends, with_next_if, with_prev_if, added, put_in}
 use Rattle.triple_arena_chain.specs.Chains.{IsGap, IsAgreed, next_at, prev_at, next_in, prev_in}
-use Rattle.triple_arena_chain.specs.Kinds.{gap_by}
 use Rattle.triple_arena_chain.specs.Links.{valued, values_in, entry_ends, ends_in, link_ends}
 use Rattle.triple_arena_chain.specs.Links.{link_for, joined_to, with_next_of, IsKept, IsChained}
 use Rattle.triple_arena_chain.specs.Links.{IsLinkInserted}
@@ -91,82 +90,82 @@ put_at e e' n (Between before after) vacant is agreed same =
     vacant is same
 put_at e e' n OwnRing vacant is agreed same = is_own_ring e e' n vacant same
 
-module _ {I T : Type 0} (number : I → ℕ) where
+module _ {T : Type 0} where
   -- what the neighbors are after they name one more
-  pub ends-joined : (e : ℕ → Option Ends) (d : Content (IndexLink I T)) (gap : Gap I) (i : I)
-      (t : T) → ((k : ℕ) → ends_in number d k
-      ≡ added e (number i) (link_ends number (link_for number gap i t)) k)
-      → (k : ℕ) → ends_in number (joined_to number d gap i) k
-      ≡ put_in e (number i) (gap_by number gap) k
+  pub ends-joined : (e : ℕ → Option Ends) (d : Content (IndexLink T)) (gap : Gap ℕ) (i : ℕ)
+      (t : T) → ((k : ℕ) → ends_in d k
+      ≡ added e i (link_ends (link_for gap i t)) k)
+      → (k : ℕ) → ends_in (joined_to d gap i) k
+      ≡ put_in e i gap k
   ends-joined e d (Between before after) i t ends k =
-      let one = with_next_of number d before (Some i) in
-      let old = added e (number i) (option_map number before, option_map number after) in
-      ends-with_prev_of number one after (Some i) k
-      ∙ with_prev_if-same (with_next_if old (option_map number before) (Some (number i)))
-      (ends_in number one) (option_map number after) (Some (number i))
-      (λ j. ends-with_next_of number d before (Some i) j
-      ∙ with_next_if-same old (ends_in number d) (option_map number before) (Some (number i)) ends
+      let one = with_next_of d before (Some i) in
+      let old = added e i (before, after) in
+      ends-with_prev_of one after (Some i) k
+      ∙ with_prev_if-same (with_next_if old before (Some i))
+      (ends_in one) after (Some i)
+      (λ j. ends-with_next_of d before (Some i) j
+      ∙ with_next_if-same old (ends_in d) before (Some i) ends
       j)
       k
   ends-joined e d OwnRing i t ends k = ends k
 
-  pub values-joined : (d : Content (IndexLink I T)) (gap : Gap I) (i : I) (k : ℕ)
-      → values_in (joined_to number d gap i) k ≡ values_in d k
+  pub values-joined : (d : Content (IndexLink T)) (gap : Gap ℕ) (i : ℕ) (k : ℕ)
+      → values_in (joined_to d gap i) k ≡ values_in d k
   values-joined d (Between before after) i k =
-      values-with_prev_of number (with_next_of number d before (Some i)) after (Some i) k
-      ∙ values-with_next_of number d before (Some i) k
+      values-with_prev_of (with_next_of d before (Some i)) after (Some i) k
+      ∙ values-with_next_of d before (Some i) k
   values-joined d OwnRing i k = refl
 
-  pub kept-joined : (d : Content (IndexLink I T)) (gap : Gap I) (i : I)
-      → IsKept d (joined_to number d gap i)
+  pub kept-joined : (d : Content (IndexLink T)) (gap : Gap ℕ) (i : ℕ)
+      → IsKept d (joined_to d gap i)
   kept-joined d (Between before after) i =
-      kept_on d (with_next_of number d before (Some i))
-      (joined_to number d (Between before after) i) (kept-with_next_of number d before (Some i))
-      (kept-with_prev_of number (with_next_of number d before (Some i)) after (Some i))
+      kept_on d (with_next_of d before (Some i))
+      (joined_to d (Between before after) i) (kept-with_next_of d before (Some i))
+      (kept-with_prev_of (with_next_of d before (Some i)) after (Some i))
   kept-joined d OwnRing i =
       record { live = refl; slots = refl; free = refl; counter = refl; room = refl }
 
-  pub formed-joined : (d : Content (IndexLink I T)) (gap : Gap I) (i : I) → IsWellFormed d
-      → IsWellFormed (joined_to number d gap i)
+  pub formed-joined : (d : Content (IndexLink T)) (gap : Gap ℕ) (i : ℕ) → IsWellFormed d
+      → IsWellFormed (joined_to d gap i)
   formed-joined d (Between before after) i formed =
-      formed-with_prev_of number (with_next_of number d before (Some i)) after (Some i)
-      (formed-with_next_of number d before (Some i) formed)
+      formed-with_prev_of (with_next_of d before (Some i)) after (Some i)
+      (formed-with_next_of d before (Some i) formed)
   formed-joined d OwnRing i formed = formed
 
-  link_for-value : (gap : Gap I) (i : I) (t : T) → (link_for number gap i t).t ≡ t
+  link_for-value : (gap : Gap ℕ) (i : ℕ) (t : T) → (link_for gap i t).t ≡ t
   link_for-value (Between before after) i t = refl
   link_for-value OwnRing i t = refl
 
-  pub record Inserted (c new : Content (IndexLink I T)) (gap : Gap I) (n g : ℕ) (t : T) : Type 0
+  pub record Inserted (c new : Content (IndexLink T)) (gap : Gap ℕ) (n g : ℕ) (t : T) : Type 0
     where
-      pub inserted : IsLinkInserted number (gap_by number gap) n g t c new
-      pub chained : IsChained number new
+      pub inserted : IsLinkInserted gap n g t c new
+      pub chained : IsChained new
       pub room : new.room ≡ c.room
 
   -- an insertion of the link for a gap, whose neighbors name it then
-  pub inserted_in : (c new : Content (IndexLink I T)) (gap : Gap I) (i : I) (t : T)
-      → IsChained number c
-      → live_count c < arena_capacity c → IsGap (ends_in number c) (gap_by number gap)
-      → number i ≡ next_index c
-      → new ≡ joined_to number (inserted c (link_for number gap i t)) gap i
-      → Inserted c new gap (number i) c.counter t
+  pub inserted_in : (c new : Content (IndexLink T)) (gap : Gap ℕ) (i : ℕ) (t : T)
+      → IsChained c
+      → live_count c < arena_capacity c → IsGap (ends_in c) gap
+      → i ≡ next_index c
+      → new ≡ joined_to (inserted c (link_for gap i t)) gap i
+      → Inserted c new gap i c.counter t
   inserted_in c new gap i t chained fits there index is =
-      let link = link_for number gap i t in
+      let link = link_for gap i t in
       let d = inserted c link in
-      let n = number i in
+      let n = i in
       let formed = chained.formed in
       let vacant : entry_at c n ≡ None = ap (entry_at c) index ∙ next-vacant c formed in
       let entries : (j : ℕ) → entry_at d j ≡ with_entry (entry_at c) n (c.counter, link) j =
       λ j. entry-inserted c link formed j
       ∙ ap (λ m. with_entry (entry_at c) m (c.counter, link) j) (sym index) in
       let added_ends : (k : ℕ)
-      → ends_in number d k ≡ added (ends_in number c) n (link_ends number link) k =
-      λ k. ap (option_map (entry_ends number)) (entries k)
+      → ends_in d k ≡ added (ends_in c) n (link_ends link) k =
+      λ k. ap (option_map entry_ends) (entries k)
       ∙ elim (eqb_tells k n) [
         | inl same ↦ rw same.0 refl
         | inr differs ↦ rw differs.0 refl
       ] in
-      let ends = ends-joined (ends_in number c) d gap i t added_ends in
+      let ends = ends-joined (ends_in c) d gap i t added_ends in
       let kept = kept-joined d gap i in
       rw is
       (record {
@@ -175,9 +174,9 @@ module _ {I T : Type 0} (number : I → ℕ) where
           generation = refl;
           vacant = vacant;
           ends = ends;
-          lists = put_at (ends_in number c) (ends_in number (joined_to number d gap i)) n
-              (gap_by number gap)
-              (ap (option_map (entry_ends number)) vacant) there chained.agreed ends;
+          lists = put_at (ends_in c) (ends_in (joined_to d gap i)) n
+              gap
+              (ap (option_map entry_ends) vacant) there chained.agreed ends;
           values = λ k.
               values-joined d gap i k
               ∙ ap (option_map valued) (entries k)
@@ -193,10 +192,10 @@ module _ {I T : Type 0} (number : I → ℕ) where
         chained = record {
           formed = formed-joined d gap i (formed-inserted c link formed fits);
           agreed =
-              IsAgreed-same (put_in (ends_in number c) n (gap_by number gap))
-              (ends_in number (joined_to number d gap i)) ends
-              (IsAgreed-put_in (ends_in number c) n (gap_by number gap)
-              (ap (option_map (entry_ends number)) vacant) there chained.agreed);
+              IsAgreed-same (put_in (ends_in c) n gap)
+              (ends_in (joined_to d gap i)) ends
+              (IsAgreed-put_in (ends_in c) n gap
+              (ap (option_map entry_ends) vacant) there chained.agreed);
         };
         room = kept.room ∙ room-inserted c link;
       })

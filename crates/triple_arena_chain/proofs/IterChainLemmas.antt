@@ -1,7 +1,6 @@
 -- A step of an iterator over a chain.
 use Rattle.std.proofs.Common.{◌≡◌, ℕ, suc, zero, ◌+◌, Bool, true, false, List, [], ◌∷◌, length}
 use Rattle.std.proofs.Common.{Option, Some, None, refl, sym, ap, subst, ◌∙◌}
-use Rattle.std.specs.Option.{option_map}
 use Rattle.triple_arena.specs.Content.{Content, entry_at}
 use Rattle.triple_arena_chain.specs.Chains.{Ends, prev_at}
 use Rattle.triple_arena_chain.specs.LinkShape.{IndexLink}
@@ -63,45 +62,45 @@ module _ (e : ℕ → Option Ends) where
   settled_same n w v is left = subst (Same n w) (sym is) (settled_by n w.start w.at w.back left)
 
   -- a walk over lent links begins as any walk does
-  pub walk_begins : {I : Type 0} (number : I → ℕ) (start : Option I) (i : I) (p : ℕ)
-      → start ≡ Some i → number i ≡ p
-      → lent_walk e (option_map number start) (option_map number start) ≡ walk_from p
-  walk_begins number start i p is same =
-      ap (λ o. lent_walk e (option_map number o) (option_map number o)) is ∙ ap walk_from same
+  pub walk_begins : (start : Option ℕ) (i : ℕ) (p : ℕ)
+      → start ≡ Some i → i ≡ p
+      → lent_walk e start start ≡ walk_from p
+  walk_begins start i p is same =
+      ap (λ o. lent_walk e o o) is ∙ ap walk_from same
 
-module _ {I T : Type 0} (number : I → ℕ) (c : Content (IndexLink I T)) where
-  after_given : (was w v : ChainWalk) (i g : ℕ) (l : IndexLink I T) → IsEnding number c was
+module _ {T : Type 0} (c : Content (IndexLink T)) where
+  after_given : (was w v : ChainWalk) (i g : ℕ) (l : IndexLink T) → IsEnding c was
       → w ≡ was → w.at ≡ Some i
-      → Some (g, l) ≡ entry_at c i → v ≡ settled (past_index (ends_in number c) w i)
-      → (links_along (entry_at c) (left_over number c was)
-      ≡ (i, (g, l)) ∷ links_along (entry_at c) (left_over number c v)) × IsEnding number c v
+      → Some (g, l) ≡ entry_at c i → v ≡ settled (past_index (ends_in c) w i)
+      → (links_along (entry_at c) (left_over c was)
+      ≡ (i, (g, l)) ∷ links_along (entry_at c) (left_over c v)) × IsEnding c v
   after_given was w v i g l ends same at here on =
       let n = length c.slots + 1 in
-      let e = ends_in number c in
-      let step = after_step e n w i (subst (IsEnding number c) (sym same) ends) at in
+      let e = ends_in c in
+      let step = after_step e n w i (subst (IsEnding c) (sym same) ends) at in
       let rest = settled_same e n (past_index e w i) v on step.1 in
-      let left : left_over number c was ≡ i ∷ left_over number c v =
-      ap (left_over number c) (sym same) ∙ step.0 ∙ ap (λ l. i ∷ l) (sym rest.0) in (
+      let left : left_over c was ≡ i ∷ left_over c v =
+      ap (left_over c) (sym same) ∙ step.0 ∙ ap (λ l. i ∷ l) (sym rest.0) in (
         ap (links_along (entry_at c)) left
-            ∙ ap (λ o. link_and i o (links_along (entry_at c) (left_over number c v))) (sym here),
+            ∙ ap (λ o. link_and i o (links_along (entry_at c) (left_over c v))) (sym here),
         rest.1,
       )
 
-  at_next : (start : Option ℕ) (i : ℕ) → (lent_walk (ends_in number c) start (Some i)).at ≡ Some i
+  at_next : (start : Option ℕ) (i : ℕ) → (lent_walk (ends_in c) start (Some i)).at ≡ Some i
   at_next None i = refl
   at_next (Some s) i = refl
 
   -- the link that is given, and those that are left to a walk which goes on
-  pub link_given : (was : ChainWalk) (start at on_start on : Option ℕ) (i g : ℕ) (l : IndexLink I T)
-      → IsEnding number c was
-      → lent_walk (ends_in number c) start at ≡ was → at ≡ Some i → Some (g, l) ≡ entry_at c i
-      → lent_walk (ends_in number c) on_start on
-      ≡ settled (past_index (ends_in number c) (lent_walk (ends_in number c) start (Some i)) i)
-      → (links_along (entry_at c) (left_over number c was)
+  pub link_given : (was : ChainWalk) (start at on_start on : Option ℕ) (i g : ℕ) (l : IndexLink T)
+      → IsEnding c was
+      → lent_walk (ends_in c) start at ≡ was → at ≡ Some i → Some (g, l) ≡ entry_at c i
+      → lent_walk (ends_in c) on_start on
+      ≡ settled (past_index (ends_in c) (lent_walk (ends_in c) start (Some i)) i)
+      → (links_along (entry_at c) (left_over c was)
       ≡ (i, (g, l)) ∷ links_along (entry_at c)
-      (left_over number c (lent_walk (ends_in number c) on_start on)))
-      × IsEnding number c (lent_walk (ends_in number c) on_start on)
+      (left_over c (lent_walk (ends_in c) on_start on)))
+      × IsEnding c (lent_walk (ends_in c) on_start on)
   link_given was start at on_start on i g l ends same next here goes =
-      let e = ends_in number c in
+      let e = ends_in c in
       after_given was (lent_walk e start (Some i)) (lent_walk e on_start on) i g l ends
       (ap (lent_walk e start) (sym next) ∙ same) (at_next start i) here goes

@@ -190,10 +190,10 @@ module _ (e : ℕ → Option Ends) (agreed : IsAgreed e) where
       by_bridge (number i) (number j) (e (number i)) (e (number j)) gap (λ v h. h) (λ v h. h) is
 
 module _ {P I T : Type 0} (index generation : P → ℕ) (number : I → ℕ) where
-  pub asked_is_gap : (c : Content (IndexLink I T)) (kind : InsertKind P I) (gap : Gap ℕ)
-      → IsChained number c
-      → gap_among index generation number c kind ≡ Some gap → IsGap (ends_in number c) gap
+  pub asked_is_gap : (c : Content (IndexLink T)) (kind : InsertKind P I) (gap : Gap ℕ)
+      → IsChained c
+      → gap_among index generation number c kind ≡ Some gap → IsGap (ends_in c) gap
   asked_is_gap c kind gap chained is =
-      places (ends_in number c) chained.agreed index number
-      (λ p. ends_found number c (index p) (generation p)) kind gap
-      (λ p v h. found number c (index p) (generation p) v h) is
+      places (ends_in c) chained.agreed index number
+      (λ p. ends_found c (index p) (generation p)) kind gap
+      (λ p v h. found c (index p) (generation p) v h) is

@@ -32,58 +32,58 @@ same_prev e f agreed agreed' nexts k = by (prev_at f k) (prev_at e k) refl refl
         absurd (let no : None ≡ Some p = sym is
         ∙ agreed'.forward p k (nexts p ∙ agreed.backward p k is') in cc)
 
-module _ {I T : Type 0} (number : I → ℕ) where
+module _ {T : Type 0} where
   -- nothing is placed yet
-  pub places_none : (c : Content (IndexLink I T)) → IsChained number c → IsAlike c → c.free ≡ []
-      → HavePlaces number 0 c c
+  pub places_none : (c : Content (IndexLink T)) → IsChained c → IsAlike c → c.free ≡ []
+      → HavePlaces 0 c c
   places_none c chained alike full =
       record {
-        laid = ends_in number c;
+        laid = ends_in c;
         are = record {
           chained = chained;
           full = full;
           alike = alike;
           to = λ i. i;
-          gathered = gathered_none (ends_in number c) refl chained.agreed;
-          noted = noted_none number c chained.formed;
+          gathered = gathered_none (ends_in c) refl chained.agreed;
+          noted = noted_none c chained.formed;
         };
       }
 
-  module _ (n : ℕ) (old : Content (IndexLink I T)) (laid : ℕ → Option Ends)
-      (now : Content (IndexLink I T)) (a : AreLaid number n old laid now)
+  module _ (n : ℕ) (old : Content (IndexLink T)) (laid : ℕ → Option Ends)
+      (now : Content (IndexLink T)) (a : AreLaid n old laid now)
       (all : n ≡ length old.slots) where
     slots_now : length now.slots ≡ n
     slots_now = a.noted.kept.slots ∙ sym all
 
-    bound : (k : ℕ) → IsSome (ends_in number now k) → k ≤ n
-    bound k some = let within = within_slots number now k some in let slots = slots_now in
+    bound : (k : ℕ) → IsSome (ends_in now k) → k ≤ n
+    bound k some = let within = within_slots now k some in let slots = slots_now in
         omega (arith, within, slots)
 
-    positive : (k : ℕ) → IsSome (ends_in number now k) → 1 ≤ k
+    positive : (k : ℕ) → IsSome (ends_in now k) → 1 ≤ k
     positive zero some = absurd (true≢false (sym some))
     positive (suc k) some = omega arith
 
     laid_out : IsLaidOut laid n
     laid_out =
-        gathered_all n n a.to (ends_in number old) laid a.gathered refl
-        (λ i some. let there : IsSome (ends_in number now i) = a.noted.live i
+        gathered_all n n a.to (ends_in old) laid a.gathered refl
+        (λ i some. let there : IsSome (ends_in now i) = a.noted.live i
         ∙ some in (positive i there, bound i there))
 
-    nexts : (k : ℕ) → next_at (ends_in number now) k ≡ next_at laid k
+    nexts : (k : ℕ) → next_at (ends_in now) k ≡ next_at laid k
     nexts k =
         elim (leb_tells k n) [
           | inl within ↦
               elim (eqb_tells k 0) [
                 | inl none ↦
-                    ap (next_at (ends_in number now)) none.1
-                    ∙ sym (ap next_in (none_at_zero number laid now a.noted.live))
+                    ap (next_at (ends_in now)) none.1
+                    ∙ sym (ap next_in (none_at_zero laid now a.noted.live))
                     ∙ ap (next_at laid) (sym none.1)
                 | inr some ↦ a.noted.done k within.1 some.1
               ]
-          | inr past ↦ beyond k past.1 (ends_in number now k) (laid k) refl refl
+          | inr past ↦ beyond k past.1 (ends_in now k) (laid k) refl refl
         ]
       where
-        beyond : (k : ℕ) → n < k → (o r : Option Ends) → ends_in number now k ≡ o → laid k ≡ r
+        beyond : (k : ℕ) → n < k → (o r : Option Ends) → ends_in now k ≡ o → laid k ≡ r
             → next_in o ≡ next_in r
         beyond k past (Some v) r is is' =
             absurd (let within = bound k (ap is_some is) in omega (arith, within, past))
@@ -92,11 +92,11 @@ module _ {I T : Type 0} (number : I → ℕ) where
             absurd (let within = bound k (a.noted.live k ∙ ap is_some is') in
             omega (arith, within, past))
 
-    pub rejoinable : IsRejoinable (ends_in number now) n
+    pub rejoinable : IsRejoinable (ends_in now) n
     rejoinable =
         let slots = slots_now in
         record {
-          live = λ k low high. full_live number now k a.noted.formed (a.noted.kept.free ∙ a.full)
+          live = λ k low high. full_live now k a.noted.formed (a.noted.kept.free ∙ a.full)
               low (omega (arith, high, slots));
           within = bound;
           next = λ p q goes. leads p q (laid_next laid n p q laid_out (sym (nexts p) ∙ goes));
@@ -115,10 +115,10 @@ module _ {I T : Type 0} (number : I → ℕ) where
         leads p q (around m ring is) = inr (omega (arith, is))
 
     -- all links have their previous indexes too
-    pub all_gathered : (c : Content (IndexLink I T))
-        → ((k : ℕ) → next_at (ends_in number c) k ≡ next_at (ends_in number now) k)
-        → IsAgreed (ends_in number c) → ((k : ℕ) → values_in c k ≡ values_in now k) → IsKept now c
-        → IsWellFormed c → IsAllGathered number old c
+    pub all_gathered : (c : Content (IndexLink T))
+        → ((k : ℕ) → next_at (ends_in c) k ≡ next_at (ends_in now) k)
+        → IsAgreed (ends_in c) → ((k : ℕ) → values_in c k ≡ values_in now k) → IsKept now c
+        → IsWellFormed c → IsAllGathered old c
     all_gathered c same agreed values kept formed =
         record {
           to = a.to;
@@ -127,7 +127,7 @@ module _ {I T : Type 0} (number : I → ℕ) where
               ends = λ i some. ends (a.to i) ∙ a.gathered.moved.renamed.ends i some;
               apart = a.gathered.moved.renamed.apart;
               onto = λ k some. a.gathered.moved.renamed.onto k (sym (ap is_some (ends k)) ∙ some);
-              lists = λ d chain. chain_where laid (ends_in number c) (renamed a.to d)
+              lists = λ d chain. chain_where laid (ends_in c) (renamed a.to d)
                   (λ k on. ends k) (a.gathered.moved.renamed.lists d chain);
             };
             values = λ i some. values (a.to i) ∙ a.noted.values i some;
@@ -135,17 +135,17 @@ module _ {I T : Type 0} (number : I → ℕ) where
             kept = kept_on old now c a.noted.kept kept;
             chained = record { formed = formed; agreed = agreed };
           };
-          laid_out = subst (IsLaidOut (ends_in number c)) all
-              (laid_same laid (ends_in number c) n ends laid_out);
+          laid_out = subst (IsLaidOut (ends_in c)) all
+              (laid_same laid (ends_in c) n ends laid_out);
           stays = a.gathered.stays;
         }
       where
-        live : (k : ℕ) → is_some (ends_in number c k) ≡ is_some (laid k)
-        live k = live_ends number c k ∙ live_as now c values k ∙ sym (live_ends number now k)
+        live : (k : ℕ) → is_some (ends_in c k) ≡ is_some (laid k)
+        live k = live_ends c k ∙ live_as now c values k ∙ sym (live_ends now k)
             ∙ a.noted.live k
 
-        ends : (k : ℕ) → ends_in number c k ≡ laid k
+        ends : (k : ℕ) → ends_in c k ≡ laid k
         ends k =
-            ends_by_parts (ends_in number c k) (laid k) (live k) (same k ∙ nexts k)
-            (same_prev laid (ends_in number c) a.gathered.moved.agreed agreed
+            ends_by_parts (ends_in c k) (laid k) (live k) (same k ∙ nexts k)
+            (same_prev laid (ends_in c) a.gathered.moved.agreed agreed
             (λ i. same i ∙ nexts i) k)

@@ -11,6 +11,7 @@ use Rattle.triple_arena_chain.specs.AllChainsLaws.{all_chains}
 use Rattle.triple_arena_chain.specs.Lists.{Chain, AreChains}
 use Rattle.triple_arena_chain.specs.Kinds.{at_bridge}
 use Rattle.triple_arena_chain.specs.Links.{entry_ends, ends_in, ends_found, IsChained, IsRelinked}
+use Rattle.triple_arena_chain.specs.Links.{ExchangesNexts}
 use Rattle.triple_arena_chain.specs.UniquenessLaws.{IsInOneChain, stands_once}
 use Rattle.triple_arena_chain.proofs.AgreedLemmas.{next_at_p}
 use Rattle.triple_arena_chain.specs.LinkLaws.{kept_on}
@@ -65,11 +66,11 @@ exchanged_same e f p q s t same =
     (with_next_if-same (with_next e p (Some t)) (with_next f p (Some t)) (Some q) (Some s)
     (with_next_if-same e f (Some p) (Some t) same)))
 
-module _ {I T : Type 0} (number : I → ℕ) where
+module _ {T : Type 0} where
   -- one change after another that takes it back
-  restored : (c d f : Content (IndexLink I T)) (first second : ℕ → Option Ends)
-      → IsRelinked number first c d → IsRelinked number second d f
-      → ((k : ℕ) → second k ≡ ends_in number c k) → IsRelinked number (ends_in number c) c f
+  restored : (c d f : Content (IndexLink T)) (first second : ℕ → Option Ends)
+      → IsRelinked first c d → IsRelinked second d f
+      → ((k : ℕ) → second k ≡ ends_in c k) → IsRelinked (ends_in c) c f
   restored c d f first second one two back =
       record {
         ends = λ k. two.ends k ∙ back k;
@@ -78,96 +79,113 @@ module _ {I T : Type 0} (number : I → ℕ) where
       }
 
   -- the first finds its next, which it just got
-  pub connect_answers : (c d : Content (IndexLink I T)) (p gp q gq : ℕ)
-      → IsSome (at_bridge p q (ends_found number c p gp) (ends_found number c q gq))
-      → IsRelinked number (linked (ends_in number c) p q) c d
-      → IsSome (next_in (ends_found number d p gp))
+  pub connect_answers : (c d : Content (IndexLink T)) (p gp q gq : ℕ)
+      → IsSome (at_bridge p q (ends_found c p gp) (ends_found c q gq))
+      → IsRelinked (linked (ends_in c) p q) c d
+      → IsSome (next_in (ends_found d p gp))
   connect_answers c d p gp q gq met one =
-      let e = ends_in number c in
-      let gap = open_by p q (ends_found number c p gp) (ends_found number c q gq) met in
-      let next : next_at (ends_in number d) p ≡ Some q =
+      let e = ends_in c in
+      let gap = open_by p q (ends_found c p gp) (ends_found c q gq) met in
+      let next : next_at (ends_in d) p ≡ Some q =
       ap next_in (one.ends p)
-      ∙ next_at_p e p q (Some q) (Some p) gap.first (found number c p gp gap.first gap.first_is)
+      ∙ next_at_p e p q (Some q) (Some p) gap.first (found c p gp gap.first gap.first_is)
       in
-      let there : IsSome (ends_found number c p gp) = rw gap.first_is refl in
-      still_next number c d p gp q there (one.values p) next
+      let there : IsSome (ends_found c p gp) = rw gap.first_is refl in
+      still_next c d p gp q there (one.values p) next
 
-  pub connect_back : (c d f : Content (IndexLink I T)) (p gp q gq : ℕ)
-      → IsSome (at_bridge p q (ends_found number c p gp) (ends_found number c q gq))
-      → IsRelinked number (linked (ends_in number c) p q) c d
-      → ((n : ℕ) → next_at (ends_in number d) p ≡ Some n
-      → IsRelinked number (unlinked (ends_in number d) p n) d f)
-      → IsRelinked number (ends_in number c) c f
+  pub connect_back : (c d f : Content (IndexLink T)) (p gp q gq : ℕ)
+      → IsSome (at_bridge p q (ends_found c p gp) (ends_found c q gq))
+      → IsRelinked (linked (ends_in c) p q) c d
+      → ((n : ℕ) → next_at (ends_in d) p ≡ Some n
+      → IsRelinked (unlinked (ends_in d) p n) d f)
+      → IsRelinked (ends_in c) c f
   connect_back c d f p gp q gq met one two =
-      let e = ends_in number c in
-      let gap = open_by p q (ends_found number c p gp) (ends_found number c q gq) met in
-      let at_p : e p ≡ Some gap.first = found number c p gp gap.first gap.first_is in
-      let at_q : e q ≡ Some gap.second = found number c q gq gap.second gap.second_is in
-      let next : next_at (ends_in number d) p ≡ Some q = ap next_in (one.ends p)
+      let e = ends_in c in
+      let gap = open_by p q (ends_found c p gp) (ends_found c q gq) met in
+      let at_p : e p ≡ Some gap.first = found c p gp gap.first gap.first_is in
+      let at_q : e q ≡ Some gap.second = found c q gq gap.second gap.second_is in
+      let next : next_at (ends_in d) p ≡ Some q = ap next_in (one.ends p)
       ∙ next_at_p e p q (Some q) (Some p) gap.first at_p in
-      restored c d f (linked e p q) (unlinked (ends_in number d) p q) one (two q next)
-      (λ k. both_same (linked e p q) (ends_in number d) p q None None one.ends k
+      restored c d f (linked e p q) (unlinked (ends_in d) p q) one (two q next)
+      (λ k. both_same (linked e p q) (ends_in d) p q None None one.ends k
       ∙ linked_back e p q (ap next_in at_p ∙ gap.end) (ap prev_in at_q ∙ gap.start) k)
 
-  pub break_next_back : (c d f : Content (IndexLink I T)) (p q : ℕ) → IsChained number c
-      → next_at (ends_in number c) p ≡ Some q
-      → IsRelinked number (unlinked (ends_in number c) p q) c d
-      → IsRelinked number (linked (ends_in number d) p q) d f
-      → IsRelinked number (ends_in number c) c f
+  pub break_next_back : (c d f : Content (IndexLink T)) (p q : ℕ) → IsChained c
+      → next_at (ends_in c) p ≡ Some q
+      → IsRelinked (unlinked (ends_in c) p q) c d
+      → IsRelinked (linked (ends_in d) p q) d f
+      → IsRelinked (ends_in c) c f
   break_next_back c d f p q chained next one two =
-      let e = ends_in number c in
-      restored c d f (unlinked e p q) (linked (ends_in number d) p q) one two
-      (λ k. both_same (unlinked e p q) (ends_in number d) p q (Some q) (Some p) one.ends k
+      let e = ends_in c in
+      restored c d f (unlinked e p q) (linked (ends_in d) p q) one two
+      (λ k. both_same (unlinked e p q) (ends_in d) p q (Some q) (Some p) one.ends k
       ∙ unlinked_back e p q next (chained.agreed.forward p q next) k)
 
-  pub exchange_answers : (c d : Content (IndexLink I T)) (p gp q gq s t : ℕ)
-      → IsSome (next_in (ends_found number c p gp)) → IsSome (next_in (ends_found number c q gq))
-      → next_at (ends_in number c) p ≡ Some s → next_at (ends_in number c) q ≡ Some t
-      → IsRelinked number (exchanged (ends_in number c) p q s t) c d
-      → IsSome (next_in (ends_found number d p gp)) × IsSome (next_in (ends_found number d q gq))
-  exchange_answers c d p gp q gq s t has_p has_q out_p out_q one =
-      let after = next_exchanged (ends_in number c) p q s t out_p out_q in (
-        still_next number c d p gp t (found_by_next (ends_found number c p gp) has_p) (one.values p)
+  -- the next of a link that a pointer finds
+  next_found : (c : Content (IndexLink T)) (p gp : ℕ) → IsSome (next_in (ends_found c p gp))
+      → (s : ℕ) × (next_at (ends_in c) p ≡ Some s)
+  next_found c p gp has = by (ends_found c p gp) refl has
+    where
+      at : (v : Ends) (n : Option ℕ) → v.1 ≡ n → ends_found c p gp ≡ Some v → IsSome n
+          → (s : ℕ) × (next_at (ends_in c) p ≡ Some s)
+      at v None next is has = absurd (let no : false ≡ true = has in cc)
+      at v (Some s) next is has = (s, ap next_in (found c p gp v is) ∙ next)
+
+      by : (o : Option Ends) → ends_found c p gp ≡ o → IsSome (next_in o)
+          → (s : ℕ) × (next_at (ends_in c) p ≡ Some s)
+      by None is has = absurd (let no : false ≡ true = has in cc)
+      by (Some v) is has = at v v.1 refl is has
+
+  pub exchange_answers : (c d : Content (IndexLink T)) (p gp q gq : ℕ)
+      → IsSome (next_in (ends_found c p gp)) → IsSome (next_in (ends_found c q gq))
+      → ExchangesNexts p q c d
+      → IsSome (next_in (ends_found d p gp)) × IsSome (next_in (ends_found d q gq))
+  exchange_answers c d p gp q gq has_p has_q exchanges =
+      let s = next_found c p gp has_p in
+      let t = next_found c q gq has_q in
+      let one = exchanges s.0 t.0 s.1 t.1 in
+      let after = next_exchanged (ends_in c) p q s.0 t.0 s.1 t.1 in (
+        still_next c d p gp t.0 (found_by_next (ends_found c p gp) has_p) (one.values p)
             (ap next_in (one.ends p) ∙ after.0),
-        still_next number c d q gq s (found_by_next (ends_found number c q gq) has_q) (one.values q)
+        still_next c d q gq s.0 (found_by_next (ends_found c q gq) has_q) (one.values q)
             (ap next_in (one.ends q) ∙ after.1),
       )
 
-  pub exchange_back : (c d f : Content (IndexLink I T)) (p q s t : ℕ) → IsChained number c
-      → next_at (ends_in number c) p ≡ Some s
-      → next_at (ends_in number c) q ≡ Some t
-      → IsRelinked number (exchanged (ends_in number c) p q s t) c d
-      → ((m n : ℕ) → next_at (ends_in number d) p ≡ Some m → next_at (ends_in number d) q ≡ Some n
-      → IsRelinked number (exchanged (ends_in number d) p q m n) d f)
-      → IsRelinked number (ends_in number c) c f
+  pub exchange_back : (c d f : Content (IndexLink T)) (p q s t : ℕ) → IsChained c
+      → next_at (ends_in c) p ≡ Some s
+      → next_at (ends_in c) q ≡ Some t
+      → IsRelinked (exchanged (ends_in c) p q s t) c d
+      → ((m n : ℕ) → next_at (ends_in d) p ≡ Some m → next_at (ends_in d) q ≡ Some n
+      → IsRelinked (exchanged (ends_in d) p q m n) d f)
+      → IsRelinked (ends_in c) c f
   exchange_back c d f p q s t chained out_p out_q one two =
-      let e = ends_in number c in
+      let e = ends_in c in
       let after = next_exchanged e p q s t out_p out_q in
-      let next_p : next_at (ends_in number d) p ≡ Some t = ap next_in (one.ends p) ∙ after.0 in
-      let next_q : next_at (ends_in number d) q ≡ Some s = ap next_in (one.ends q) ∙ after.1 in
-      restored c d f (exchanged e p q s t) (exchanged (ends_in number d) p q t s) one
+      let next_p : next_at (ends_in d) p ≡ Some t = ap next_in (one.ends p) ∙ after.0 in
+      let next_q : next_at (ends_in d) q ≡ Some s = ap next_in (one.ends q) ∙ after.1 in
+      restored c d f (exchanged e p q s t) (exchanged (ends_in d) p q t s) one
       (two t s next_p next_q)
-      (λ k. exchanged_same (exchanged e p q s t) (ends_in number d) p q t s one.ends k
+      (λ k. exchanged_same (exchanged e p q s t) (ends_in d) p q t s one.ends k
       ∙ exchanged_back e p q s t chained.agreed out_p out_q k)
 
-  live_by_ends : (o : Option (ℕ × IndexLink I T)) → IsSome (option_map (entry_ends number) o)
+  live_by_ends : (o : Option (ℕ × IndexLink T)) → IsSome (option_map entry_ends o)
       → IsSome o
   live_by_ends None h = absurd (let no : false ≡ true = h in cc)
   live_by_ends (Some e) h = refl
 
-  bounded : (c : Content (IndexLink I T)) (j : ℕ) → IsSome (ends_in number c j)
+  bounded : (c : Content (IndexLink T)) (j : ℕ) → IsSome (ends_in c j)
       → j < suc (length c.slots)
   bounded c j some = let l = live_entry c j (live_by_ends (entry_at c j) some) in let within =
       l.within in omega (arith, within)
 
-  pub in_one_chain : (c : Content (IndexLink I T)) (i : ℕ) → IsChained number c
-      → IsSome (ends_in number c i) → IsInOneChain (ends_in number c) i
+  pub in_one_chain : (c : Content (IndexLink T)) (i : ℕ) → IsChained c
+      → IsSome (ends_in c i) → IsInOneChain (ends_in c) i
   in_one_chain c i chained live =
-      let e = ends_in number c in
+      let e = ends_in c in
       let here = stands e chained.agreed (suc (length c.slots)) (bounded c) i live in
       record { stands = here; once = λ other. stands_once e i here other }
 
-  pub in_chains : (c : Content (IndexLink I T)) → IsChained number c
-      → (cs : List Chain) × AreChains (ends_in number c) cs
+  pub in_chains : (c : Content (IndexLink T)) → IsChained c
+      → (cs : List Chain) × AreChains (ends_in c) cs
   in_chains c chained =
-      all_chains (ends_in number c) chained.agreed (suc (length c.slots)) (bounded c)
+      all_chains (ends_in c) chained.agreed (suc (length c.slots)) (bounded c)

@@ -7,17 +7,17 @@ use Rattle.triple_arena_chain.specs.LinkShape.{IndexLink}
 use Rattle.triple_arena_chain.specs.Links.{valued, values_in}
 use Rattle.triple_arena_chain.specs.Listed.{listed_value, listed_values}
 
-module _ {I T : Type 0} where
+module _ {T : Type 0} where
   -- the value in a slot
-  abbrev shown : Option (ℕ × IndexLink I T) → Option (ℕ × T)
+  abbrev shown : Option (ℕ × IndexLink T) → Option (ℕ × T)
   shown slot = option_map valued slot
 
   -- those of slots that have the indexes from this one on
-  abbrev listed : ℕ → List (Option (ℕ × IndexLink I T)) → List (ℕ × (ℕ × T))
+  abbrev listed : ℕ → List (Option (ℕ × IndexLink T)) → List (ℕ × (ℕ × T))
   listed n slots = map listed_value (listed_from n slots)
 
   -- the same at each place is listed alike, also where one of the two ends earlier
-  listed_same : (n : ℕ) (xs ys : List (Option (ℕ × IndexLink I T)))
+  listed_same : (n : ℕ) (xs ys : List (Option (ℕ × IndexLink T)))
       → ((k : ℕ) → shown (get_or ys k None) ≡ shown (get_or xs k None))
       → listed n ys ≡ listed n xs
   listed_same n [] [] same = refl
@@ -35,11 +35,11 @@ module _ {I T : Type 0} where
       ∙ ap (λ l. (n, valued e) ∷ l) (listed_same (n + 1) xs ys (λ k. same (suc k)))
 
   -- the same values at the same indexes
-  pub values_listed : (c d : Content (IndexLink I T)) → ((j : ℕ) → values_in d j ≡ values_in c j)
+  pub values_listed : (c d : Content (IndexLink T)) → ((j : ℕ) → values_in d j ≡ values_in c j)
       → listed_values d ≡ listed_values c
   values_listed c d same = listed_same 1 c.slots d.slots (λ k. same (suc k))
 
   -- where no index is live, no value is listed
-  pub none_listed : (c : Content (IndexLink I T)) → ((j : ℕ) → values_in c j ≡ None)
+  pub none_listed : (c : Content (IndexLink T)) → ((j : ℕ) → values_in c j ≡ None)
       → listed_values c ≡ []
   none_listed c none = listed_same 1 [] c.slots (λ k. none (suc k))

@@ -10,31 +10,31 @@ use Rattle.triple_arena_chain.specs.LinkCopies.{IsLinkedCopy}
 use Rattle.triple_arena_chain.specs.Links.{prev_next_of}
 use Rattle.triple_arena_chain.specs.Listed.{listed_value}
 
-module _ {P I T : Type 0} where
+module _ {P T : Type 0} where
   -- a call of a map of links as a call of a map of their values
-  abbrev valued_move : Move P (IndexLink I T) → Move P T
+  abbrev valued_move : Move P (IndexLink T) → Move P T
   valued_move move = record
       { from = move.from; value = move.value.t; to = move.to; given = move.given.t }
 
   module _ (index generation : P → ℕ) where
-    befores : (moves : List (Move P (IndexLink I T)))
+    befores : (moves : List (Move P (IndexLink T)))
         → map (entry_before index generation) (map valued_move moves)
         ≡ map listed_value (map (entry_before index generation) moves)
     befores [] = refl
     befores (x ∷ moves) =
         ap (λ l. listed_value (entry_before index generation x) ∷ l) (befores moves)
 
-    afters : (moves : List (Move P (IndexLink I T)))
+    afters : (moves : List (Move P (IndexLink T)))
         → map (entry_after index generation) (map valued_move moves)
         ≡ map listed_value (map (entry_after index generation) moves)
     afters [] = refl
     afters (x ∷ moves) = ap (λ l. listed_value (entry_after index generation x) ∷ l) (afters moves)
 
-module _ {P I T F G : Type 0} {index generation : P → ℕ} {step : F → P → T → P → T → F → Type 0}
-    {linked : G → P → IndexLink I T → P → IndexLink I T → G → Type 0} (state : G → F) where
+module _ {P T F G : Type 0} {index generation : P → ℕ} {step : F → P → T → P → T → F → Type 0}
+    {linked : G → P → IndexLink T → P → IndexLink T → G → Type 0} (state : G → F) where
   -- the values are those that a compression's map gave
-  pub values_moved : {g : G} {old new : List (ℕ × (ℕ × IndexLink I T))}
-      → ((h : G) (from : P) (l : IndexLink I T) (to : P) (m : IndexLink I T) (k : G)
+  pub values_moved : {g : G} {old new : List (ℕ × (ℕ × IndexLink T))}
+      → ((h : G) (from : P) (l : IndexLink T) (to : P) (m : IndexLink T) (k : G)
       → linked h from l to m k → step (state h) from l.t to m.t (state k))
       → IsMapped index generation linked g old new
       → IsMapped index generation step (state g) (map listed_value old) (map listed_value new)
@@ -47,7 +47,7 @@ module _ {P I T F G : Type 0} {index generation : P → ℕ} {step : F → P →
         after = afters index generation m.moves ∙ ap (map listed_value) m.after;
       }
     where
-      by_moves : (moves : List (Move P (IndexLink I T))) (h : G)
+      by_moves : (moves : List (Move P (IndexLink T))) (h : G)
           → FoldsTo (λ h move k. linked h move.from move.value move.to move.given k) h moves m.last
           → FoldsTo (λ f move k. step f move.from move.value move.to move.given k) (state h)
           (map valued_move moves) (state m.last)
@@ -58,9 +58,9 @@ module _ {P I T F G : Type 0} {index generation : P → ℕ} {step : F → P →
         by_moves moves calls.0 calls.2,
       )
 
-module _ {P I L T : Type 0} where
+module _ {P L T : Type 0} where
   -- a call of a copy's map of links as a call of a map to their values
-  abbrev valued_call : Call P L (IndexLink I T) → Call P L T
+  abbrev valued_call : Call P L (IndexLink T) → Call P L T
   valued_call call = record { pointer = call.pointer; lent = call.lent; given = call.given.t }
 
 module _ {P L A : Type 0} (index generation : P → ℕ) where
@@ -70,23 +70,23 @@ module _ {P L A : Type 0} (index generation : P → ℕ) where
   abbrev made : Call P L A → ℕ × (ℕ × A)
   made call = listed_under index generation call.pointer call.given
 
-module _ {P I L T : Type 0} (index generation : P → ℕ) where
-  seens : (calls : List (Call P L (IndexLink I T)))
+module _ {P L T : Type 0} (index generation : P → ℕ) where
+  seens : (calls : List (Call P L (IndexLink T)))
       → map (seen index generation) (map valued_call calls) ≡ map (seen index generation) calls
   seens [] = refl
   seens (x ∷ calls) = ap (λ l. seen index generation x ∷ l) (seens calls)
 
-  mades : (calls : List (Call P L (IndexLink I T)))
+  mades : (calls : List (Call P L (IndexLink T)))
       → map (made index generation) (map valued_call calls)
       ≡ map listed_value (map (made index generation) calls)
   mades [] = refl
   mades (x ∷ calls) = ap (λ l. listed_value (made index generation x) ∷ l) (mades calls)
 
-module _ {P I L T E F G : Type 0} (step : F → P → Bor L → Result T E → F → Type 0)
-    (linked : G → P → Bor L → Result (IndexLink I T) E → G → Type 0) (state : G → F) where
-  valued_calls : ((h : G) (p : P) (u : Bor L) (l : IndexLink I T) (k : G) → linked h p u (Ok l) k
+module _ {P L T E F G : Type 0} (step : F → P → Bor L → Result T E → F → Type 0)
+    (linked : G → P → Bor L → Result (IndexLink T) E → G → Type 0) (state : G → F) where
+  valued_calls : ((h : G) (p : P) (u : Bor L) (l : IndexLink T) (k : G) → linked h p u (Ok l) k
       → step (state h) p u (Ok l.t) (state k))
-      → (calls : List (Call P L (IndexLink I T))) (h last : G) → Calls linked h calls last
+      → (calls : List (Call P L (IndexLink T))) (h last : G) → Calls linked h calls last
       → Calls step (state h) (map valued_call calls) (state last)
   valued_calls one [] h last calls = ap state calls
   valued_calls one (x ∷ rest) h last calls = (
@@ -95,12 +95,12 @@ module _ {P I L T E F G : Type 0} (step : F → P → Bor L → Result T E → F
     valued_calls one rest calls.0 last calls.2,
   )
 
-module _ {P I L T E F G : Type 0} {index generation : P → ℕ}
+module _ {P L T E F G : Type 0} {index generation : P → ℕ}
     {step : F → P → Bor L → Result T E → F → Type 0}
-    {linked : G → P → Bor L → Result (IndexLink I T) E → G → Type 0} (state : G → F) where
+    {linked : G → P → Bor L → Result (IndexLink T) E → G → Type 0} (state : G → F) where
   -- the values are those that a copy's map gave
-  pub values_mapped : {g : G} {old : List (ℕ × (ℕ × L))} {new : List (ℕ × (ℕ × IndexLink I T))}
-      → ((h : G) (p : P) (u : Bor L) (l : IndexLink I T) (k : G) → linked h p u (Ok l) k
+  pub values_mapped : {g : G} {old : List (ℕ × (ℕ × L))} {new : List (ℕ × (ℕ × IndexLink T))}
+      → ((h : G) (p : P) (u : Bor L) (l : IndexLink T) (k : G) → linked h p u (Ok l) k
       → step (state h) p u (Ok l.t) (state k))
       → IsMappedCopy index generation linked g old new
       → IsMappedCopy index generation step (state g) old (map listed_value new)
@@ -115,7 +115,7 @@ module _ {P I L T E F G : Type 0} {index generation : P → ℕ}
 
   -- and where it refused, the map refused
   pub values_refused : {g : G} {old : List (ℕ × (ℕ × L))}
-      → ((h : G) (p : P) (u : Bor L) (l : IndexLink I T) (k : G) → linked h p u (Ok l) k
+      → ((h : G) (p : P) (u : Bor L) (l : IndexLink T) (k : G) → linked h p u (Ok l) k
       → step (state h) p u (Ok l.t) (state k))
       → ((h : G) (p : P) (u : Bor L) (e : E) (k : G) → linked h p u (Err e) k
       → step (state h) p u (Err e) (state k))
@@ -136,12 +136,12 @@ module _ {P I L T E F G : Type 0} {index generation : P → ℕ}
             (seens index generation r.calls) ∙ r.before;
       }
 
-module _ {P I L T E G : Type 0} {index generation : P → ℕ}
-    {linked : G → P → Bor L → Result (IndexLink I T) E → G → Type 0} where
+module _ {P L T E G : Type 0} {index generation : P → ℕ}
+    {linked : G → P → Bor L → Result (IndexLink T) E → G → Type 0} where
   -- the interlinks are those of the links that were lent
-  pub links_copied : (neighbors : L → Option I × Option I) {g : G} {old : List (ℕ × (ℕ × L))}
-      {new : List (ℕ × (ℕ × IndexLink I T))}
-      → ((h : G) (p : P) (u : Bor L) (l : IndexLink I T) (k : G) → linked h p u (Ok l) k
+  pub links_copied : (neighbors : L → Option ℕ × Option ℕ) {g : G} {old : List (ℕ × (ℕ × L))}
+      {new : List (ℕ × (ℕ × IndexLink T))}
+      → ((h : G) (p : P) (u : Bor L) (l : IndexLink T) (k : G) → linked h p u (Ok l) k
       → prev_next_of l ≡ neighbors u.now)
       → IsMappedCopy index generation linked g old new → IsLinkedCopy neighbors old new
   links_copied neighbors {g} {old} {new} one m =
@@ -149,7 +149,7 @@ module _ {P I L T E G : Type 0} {index generation : P → ℕ}
       (subst (IsLinkedCopy neighbors (map (seen index generation) m.calls)) m.after
       (by_calls m.calls g m.made))
     where
-      by_calls : (calls : List (Call P L (IndexLink I T))) (h : G) → Calls linked h calls m.last
+      by_calls : (calls : List (Call P L (IndexLink T))) (h : G) → Calls linked h calls m.last
           → IsLinkedCopy neighbors (map (seen index generation) calls)
           (map (made index generation) calls)
       by_calls [] h calls = tt

@@ -4,9 +4,9 @@ use Rattle.std.proofs.Common.{IsSome, is_some, true≢false, refl, sym, ap, subs
 use Rattle.std.proofs.Common.{inr, ◌⊎◌}
 use Rattle.std.proofs.lemmas.Bool.Decides.{eqb_tells, leb_tells}
 use Rattle.triple_arena_chain.specs.Chains.{Ends, next_in, prev_in, next_at, prev_at, IsAgreed}
-use Rattle.triple_arena_chain.specs.Chains.{first_or, last_or, Stands, Off, On, Apart, IsLinear}
+use Rattle.triple_arena_chain.specs.Chains.{first_or, last_or, IsSegment, Off, On, Apart, IsLinear}
 use Rattle.triple_arena_chain.specs.Chains.{Standing, linear, ring, reprev, with_prev}
-use Rattle.triple_arena_chain.specs.ChainLaws.{Stands-back, last_or-append, stands}
+use Rattle.triple_arena_chain.specs.ChainLaws.{segment-back, last_or-append, stands}
 use Rattle.triple_arena_chain.specs.UniquenessLaws.{linear_apart}
 use Rattle.triple_arena_chain.specs.ListLaws.{On-first, On-front, On-back, On-split, On-either}
 use Rattle.triple_arena_chain.specs.ListLaws.{Apart-split, Apart-append, on_differs, off_or_not}
@@ -137,10 +137,10 @@ module _ (e : ℕ → Option Ends) where
       → members c ≡ front ++ i ∷ back
       → e i ≡ Some (last_or (opening c) front, first_or back (closing c))
   chain_at (Linear xs) front back i s is =
-      (Stands-back e None None front (i ∷ back) (subst (IsLinear e) is s)).0
+      (segment-back e None None front (i ∷ back) (subst (IsLinear e) is s)).0
   chain_at (Cyclic xs) front back i r is =
-      (Stands-back e (last_or None xs) (first_or xs None) front (i ∷ back)
-      (subst (λ l. Stands e (last_or None xs) l (first_or xs None)) is r.stands)).0
+      (segment-back e (last_or None xs) (first_or xs None) front (i ∷ back)
+      (subst (λ l. IsSegment e (last_or None xs) l (first_or xs None)) is r.stands)).0
 
   module _ (done : List Chain) (start k : ℕ) (c : Chain) (h : IsInHand done start k c) where
     -- where the way along the chain begins
@@ -320,7 +320,7 @@ module _ (e e' : ℕ → Option Ends) (low : ℕ) (done : List Chain) (d : AreDo
               → first_or xs None ≡ Some start
           by_head xs s at (inl lone) =
               first_of at.front at.back xs at.is
-              (sym (ap prev_in (Stands-back e' None None at.front (start ∷ at.back)
+              (sym (ap prev_in (segment-back e' None None at.front (start ∷ at.back)
               (subst (IsLinear e') at.is s)).0) ∙ lone)
           by_head xs s at (inr round) =
               absurd (ring_or_linear e' (start ∷ round.0) xs start round.1 s

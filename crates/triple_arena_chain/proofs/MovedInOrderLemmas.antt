@@ -114,23 +114,22 @@ module _ (to : ℕ → ℕ) (e e' : ℕ → Option Ends) (agreed : IsAgreed e)
       }) apart
       image_agreed
 
-module _ {Q U P T J I F : Type 0} (old_index old_generation : Q → ℕ) (index generation : P → ℕ)
-    (old_number : J → ℕ) (number : I → ℕ)
+module _ {Q U P T F : Type 0} (old_index old_generation : Q → ℕ) (index generation : P → ℕ)
     (step : F → Q → InvalidationOption U → P → T → F → Type 0) (f : F) (last : Option ℕ)
-    (old : Content (IndexLink J U)) (g : ℕ) (room : Room)
-    (low : ℕ) (f' : F) (from : Content (IndexLink J U)) (into : Content (IndexLink I T))
-    (chained : IsChained old_number old)
-    (m : AreChainsMoved old_index old_generation index generation old_number number step f last old
+    (old : Content (IndexLink U)) (g : ℕ) (room : Room)
+    (low : ℕ) (f' : F) (from : Content (IndexLink U)) (into : Content (IndexLink T))
+    (chained : IsChained old)
+    (m : AreChainsMoved old_index old_generation index generation step f last old
     g room low f' from into)
     (nothing : (j : ℕ) → entry_at from j ≡ None) where
   abbrev held : ℕ → Option Ends
-  held = ends_in old_number old
+  held = ends_in old
 
   whole : (i : ℕ) → IsSome (held i) → On (all_members m.done) i
   whole i some =
       elim (off_or_on (all_members m.done) i) [
         | inl off ↦ absurd (true≢false
-            (sym some ∙ ap (λ o. is_some (option_map (entry_ends old_number) o))
+            (sym some ∙ ap (λ o. is_some (option_map entry_ends o))
             (sym (m.moved.taken.stay i off) ∙ nothing i)))
         | inr on ↦ on
       ]
@@ -155,18 +154,18 @@ module _ {Q U P T J I F : Type 0} (old_index old_generation : Q → ℕ) (index 
   pub room_left : from.room ≡ old.room
   room_left = m.moved.taken.room
 
-  onto : (k : ℕ) → IsSome (ends_in number into k)
+  onto : (k : ℕ) → IsSome (ends_in into k)
       → (i : ℕ) × IsSome (held i) × (place_in (all_members m.done) i ≡ k)
   onto zero some = absurd (true≢false (sym some))
   onto (suc k) some =
       let slots = m.moved.placed.slots in
-      let within = within_slots number into (suc k) some in
+      let within = within_slots into (suc k) some in
       let n = place_onto (all_members m.done) (suc k) m.are.once (omega arith)
       (omega (arith, slots, within)) in (n.0, held_on n.0 n.1, n.2)
 
-  follows : FollowsRenaming (place_in (all_members m.done)) held (ends_in number into)
+  follows : FollowsRenaming (place_in (all_members m.done)) held (ends_in into)
   follows =
-      image_follows (place_in (all_members m.done)) held (ends_in number into) chained.agreed
+      image_follows (place_in (all_members m.done)) held (ends_in into) chained.agreed
       (λ i some. m.moved.placed.ends i (whole i some))
       (λ i j some some' same. place_apart (all_members m.done) i j (whole i some) (whole j some')
       same) onto
@@ -194,7 +193,7 @@ module _ {Q U P T J I F : Type 0} (old_index old_generation : Q → ℕ) (index 
         after = c.after;
       }
 
-  pub moved_in_order : IsMovedInOrder old_index old_generation index generation old_number number
+  pub moved_in_order : IsMovedInOrder old_index old_generation index generation
       step f last old into
   moved_in_order =
       record {
@@ -215,18 +214,18 @@ module _ {Q U P T J I F : Type 0} (old_index old_generation : Q → ℕ) (index 
         moved = transferred;
       }
 
-  pub moved_chained : IsChained number into
+  pub moved_chained : IsChained into
   moved_chained =
       record {
         formed = m.moved.placed.formed;
         agreed =
-            image_agreed (place_in (all_members m.done)) held (ends_in number into) chained.agreed
+            image_agreed (place_in (all_members m.done)) held (ends_in into) chained.agreed
             (λ i some. m.moved.placed.ends i (whole i some))
             (λ i j some some' same. place_apart (all_members m.done) i j (whole i some)
             (whole j some') same) onto;
       }
 
-  pub moved_filled : (before : Content (IndexLink I T))
+  pub moved_filled : (before : Content (IndexLink T))
       → IsFilled values_in live_count some_counter room_in listed_values (live_count old) g room
       before into
   moved_filled before =

@@ -54,9 +54,9 @@ on_push xs i k on =
           ]
     ]
 
-module _ {J U : Type 0} (last : Option ℕ) (old : Content (IndexLink J U)) where
+module _ {U : Type 0} (last : Option ℕ) (old : Content (IndexLink U)) where
   -- these links were taken out of the source, in this order
-  pub record AreTaken (order : List ℕ) (now : Content (IndexLink J U)) : Type 0 where
+  pub record AreTaken (order : List ℕ) (now : Content (IndexLink U)) : Type 0 where
     pub gone : (j : ℕ) → On order j → entry_at now j ≡ None
     pub stay : (j : ℕ) → Off order j → entry_at now j ≡ entry_at old j
     pub live : live_count now + length order ≡ live_count old
@@ -78,7 +78,7 @@ module _ {J U : Type 0} (last : Option ℕ) (old : Content (IndexLink J U)) wher
         formed = formed;
       }
 
-  pub taken_more : (order : List ℕ) (i : ℕ) (now new : Content (IndexLink J U)) → AreTaken order now
+  pub taken_more : (order : List ℕ) (i : ℕ) (now new : Content (IndexLink U)) → AreTaken order now
       → IsRemoved entry_at live_count some_counter room_in last i now new → IsWellFormed new
       → AreTaken (order ++ i ∷ []) new
   taken_more order i now new t removed formed =
@@ -127,12 +127,12 @@ module _ {L : Type 0} where
       ap (link_and x (entries x)) (along_push entries order i e is)
       ∙ along_one x (entries x) (links_along entries order) ((i, e) ∷ [])
 
-module _ {Q U P T J I F : Type 0} (old_index old_generation : Q → ℕ) (index generation : P → ℕ)
+module _ {Q U P T F : Type 0} (old_index old_generation : Q → ℕ) (index generation : P → ℕ)
     (step : F → Q → InvalidationOption U → P → T → F → Type 0) (f : F) (last : Option ℕ)
-    (old : Content (IndexLink J U)) where
+    (old : Content (IndexLink U)) where
   -- the map was called at these links, in this order, and gave the values that are placed
   pub record AreCalled (order : List ℕ) (f' : F) (counter : ℕ)
-      (into : Content (IndexLink I T)) : Type 0 where
+      (into : Content (IndexLink T)) : Type 0 where
     pub moves : List (Transfer Q U P T)
     pub calls : FoldsTo (λ h move k. step h move.from move.item move.to move.given k) f moves f'
     pub before : map (entry_before old_index old_generation index generation) moves
@@ -142,7 +142,7 @@ module _ {Q U P T J I F : Type 0} (old_index old_generation : Q → ℕ) (index 
     pub after : map (entry_after old_index old_generation index generation) moves
         ≡ listed_values into
 
-  pub called_none : (into : Content (IndexLink I T)) → listed_values into ≡ []
+  pub called_none : (into : Content (IndexLink T)) → listed_values into ≡ []
       → AreCalled [] f old.counter into
   called_none into none =
       record {
@@ -155,7 +155,7 @@ module _ {Q U P T J I F : Type 0} (old_index old_generation : Q → ℕ) (index 
       }
 
   pub called_more : (order : List ℕ) (i : ℕ) (f' f'' : F) (counter counter' : ℕ)
-      (into new : Content (IndexLink I T))
+      (into new : Content (IndexLink T))
       (from : Q) (item : InvalidationOption U) (to : P) (given : T)
       → AreCalled order f' counter into
       → values_in old i ≡ Some (old_generation from, value_of item) → old_index from ≡ i
@@ -193,7 +193,7 @@ module _ {Q U P T J I F : Type 0} (old_index old_generation : Q → ℕ) (index 
       }
 
   -- a write of an interlink changes no value
-  pub called_same : (order : List ℕ) (f' : F) (counter : ℕ) (into new : Content (IndexLink I T))
+  pub called_same : (order : List ℕ) (f' : F) (counter : ℕ) (into new : Content (IndexLink T))
       → listed_values new ≡ listed_values into
       → AreCalled order f' counter into → AreCalled order f' counter new
   called_same order f' counter into new same c =
@@ -226,20 +226,20 @@ module _ {T : Type 0} where
       let at = compact_from 1 xs x (λ j d here. let one = compact j d here in omega (arith, one))
       (omega (arith, last)) k e is in omega (arith, at)
 
-module _ {I T : Type 0} where
-  next_dense : (c : Content (IndexLink I T)) → c.free ≡ [] → next_index c ≡ length c.slots + 1
+module _ {T : Type 0} where
+  next_dense : (c : Content (IndexLink T)) → c.free ≡ [] → next_index c ≡ length c.slots + 1
   next_dense c none = rw none refl
 
-  slots_dense : (c : Content (IndexLink I T)) (l : IndexLink I T) → c.free ≡ []
+  slots_dense : (c : Content (IndexLink T)) (l : IndexLink T) → c.free ≡ []
       → (inserted c l).slots ≡ c.slots ++ Some (c.counter, l) ∷ []
   slots_dense c l none = rw none refl
 
-  free_dense : (c : Content (IndexLink I T)) (l : IndexLink I T) → c.free ≡ []
+  free_dense : (c : Content (IndexLink T)) (l : IndexLink T) → c.free ≡ []
       → (inserted c l).free ≡ []
   free_dense c l none = rw none refl
 
   -- one more value at the end
-  values_push : (n : ℕ) (xs : List (Option (ℕ × IndexLink I T))) (e : ℕ × IndexLink I T)
+  values_push : (n : ℕ) (xs : List (Option (ℕ × IndexLink T))) (e : ℕ × IndexLink T)
       → map listed_value (listed_from n (xs ++ Some e ∷ []))
       ≡ map listed_value (listed_from n xs) ++ (n + length xs, valued e) ∷ []
   values_push n [] e = ap (λ k. (k, valued e) ∷ []) (omega arith)
@@ -253,18 +253,18 @@ module _ {I T : Type 0} where
       (values_push (n + 1) xs e
       ∙ ap (λ k. map listed_value (listed_from (n + 1) xs) ++ (k, valued e) ∷ []) next)
 
-  pub listed_dense : (c : Content (IndexLink I T)) (l : IndexLink I T) → c.free ≡ []
+  pub listed_dense : (c : Content (IndexLink T)) (l : IndexLink T) → c.free ≡ []
       → listed_values (inserted c l)
       ≡ listed_values c ++ (1 + length c.slots, (c.counter, l.t)) ∷ []
   listed_dense c l none =
       ap (λ s. map listed_value (listed_from 1 s)) (slots_dense c l none)
       ∙ values_push 1 c.slots (c.counter, l)
 
-module _ {I T : Type 0} (number : I → ℕ) (g : ℕ) (room : Room) where
+module _ {T : Type 0} (g : ℕ) (room : Room) where
   -- these links, in this order, stand at the indexes from 1 on, and each that was at `i` is at `to
   -- i`, with the interlinks renamed
   pub record ArePlaced (order : List ℕ) (to : ℕ → ℕ) (wanted : ℕ → Option Ends)
-      (now : Content (IndexLink I T)) : Type 0 where
+      (now : Content (IndexLink T)) : Type 0 where
     pub slots : length now.slots ≡ length order
     pub live : live_count now ≡ length order
     pub free : now.free ≡ []
@@ -274,9 +274,9 @@ module _ {I T : Type 0} (number : I → ℕ) (g : ℕ) (room : Room) where
     pub compact : IsCompact (listed_values now)
     pub generations : map generation_of (listed_values now) ≡ replicate (length order) g
     pub ends : (i : ℕ) → On order i
-        → ends_in number now (to i) ≡ option_map (ends_renamed to) (wanted i)
+        → ends_in now (to i) ≡ option_map (ends_renamed to) (wanted i)
 
-  pub placed_none : (to : ℕ → ℕ) (wanted : ℕ → Option Ends) (now : Content (IndexLink I T))
+  pub placed_none : (to : ℕ → ℕ) (wanted : ℕ → Option Ends) (now : Content (IndexLink T))
       → now.slots ≡ [] → now.free ≡ [] → now.counter ≡ g
       → now.room ≡ room → live_count now ≡ 0 → listed_values now ≡ [] → IsWellFormed now
       → ArePlaced [] to wanted now
@@ -295,10 +295,10 @@ module _ {I T : Type 0} (number : I → ℕ) (g : ℕ) (room : Room) where
       }
 
   pub placed_more : (order : List ℕ) (i : ℕ) (to : ℕ → ℕ) (wanted : ℕ → Option Ends)
-      (now new : Content (IndexLink I T)) (l : IndexLink I T)
+      (now new : Content (IndexLink T)) (l : IndexLink T)
       → ArePlaced order to wanted now → live_count now < arena_capacity now → new ≡ inserted now l
       → ((j : ℕ) → On order j → to j ≤ length order) → to i ≡ length order + 1
-      → Some (link_ends number l) ≡ option_map (ends_renamed to) (wanted i)
+      → Some (link_ends l) ≡ option_map (ends_renamed to) (wanted i)
       → ArePlaced (order ++ i ∷ []) to wanted new
   placed_more order i to wanted now new l p fits is within at own =
       subst (ArePlaced (order ++ i ∷ []) to wanted) (sym is)
@@ -342,7 +342,7 @@ module _ {I T : Type 0} (number : I → ℕ) (g : ℕ) (room : Room) where
       next = next_dense now p.free ∙ ap (λ n. n + 1) p.slots
 
       other : (j : ℕ) → On order j
-          → ends_in number (inserted now l) (to j) ≡ option_map (ends_renamed to) (wanted j)
+          → ends_in (inserted now l) (to j) ≡ option_map (ends_renamed to) (wanted j)
       other j there =
           let below = within j there in
           let stays : with_entry (entry_at now) (next_index now) (now.counter, l) (to j)
@@ -351,11 +351,11 @@ module _ {I T : Type 0} (number : I → ℕ) (g : ℕ) (room : Room) where
             | inl same ↦ absurd (let is = same.1 in omega (arith, below, is, next))
             | inr differs ↦ rw differs.0 refl
           ] in
-          ap (option_map (entry_ends number)) (entry-inserted now l p.formed (to j) ∙ stays)
+          ap (option_map entry_ends) (entry-inserted now l p.formed (to j) ∙ stays)
           ∙ p.ends j there
 
       here : (j : ℕ) → j ≡ i
-          → ends_in number (inserted now l) (to j) ≡ option_map (ends_renamed to) (wanted j)
+          → ends_in (inserted now l) (to j) ≡ option_map (ends_renamed to) (wanted j)
       here j same =
           let new : with_entry (entry_at now) (next_index now) (now.counter, l) (to i)
           ≡ Some (now.counter, l) =
@@ -363,18 +363,18 @@ module _ {I T : Type 0} (number : I → ℕ) (g : ℕ) (room : Room) where
             | inl is ↦ rw is.0 refl
             | inr differs ↦ absurd (differs.1 (at ∙ sym next))
           ] in
-          ap (λ k. ends_in number (inserted now l) (to k)) same
-          ∙ ap (option_map (entry_ends number)) (entry-inserted now l p.formed (to i) ∙ new)
+          ap (λ k. ends_in (inserted now l) (to k)) same
+          ∙ ap (option_map entry_ends) (entry-inserted now l p.formed (to i) ∙ new)
           ∙ own
           ∙ ap (λ k. option_map (ends_renamed to) (wanted k)) (sym same)
 
   -- the previous index of the first link of a ring is written
   pub placed_closed : (order : List ℕ) (start : ℕ) (to : ℕ → ℕ) (wanted : ℕ → Option Ends)
-      (prev : Option ℕ) (now new : Content (IndexLink I T)) (first last : I)
+      (prev : Option ℕ) (now new : Content (IndexLink T)) (first last : ℕ)
       → ArePlaced order to (with_prev wanted start None) now
-      → new ≡ with_prev_of number now (Some first) (Some last) → On order start
-      → ((i j : ℕ) → On order i → On order j → to i ≡ to j → i ≡ j) → number first ≡ to start
-      → Some (number last) ≡ option_map to prev → (next : Option ℕ)
+      → new ≡ with_prev_of now (Some first) (Some last) → On order start
+      → ((i j : ℕ) → On order i → On order j → to i ≡ to j → i ≡ j) → first ≡ to start
+      → Some last ≡ option_map to prev → (next : Option ℕ)
       → wanted start ≡ Some (prev, next) → ArePlaced order to wanted new
   placed_closed order start to wanted prev now new first last p is on apart at end next stood =
       subst (ArePlaced order to wanted) (sym is)
@@ -384,37 +384,37 @@ module _ {I T : Type 0} (number : I → ℕ) (g : ℕ) (room : Room) where
         free = kept.free ∙ p.free;
         counter = kept.counter ∙ p.counter;
         own = kept.room ∙ p.own;
-        formed = formed-with_prev_of number now (Some first) (Some last) p.formed;
+        formed = formed-with_prev_of now (Some first) (Some last) p.formed;
         compact = subst IsCompact (sym same) p.compact;
         generations = ap (map generation_of) same ∙ p.generations;
         ends = λ i there.
-            ends-with_prev_of number now (Some first) (Some last) (to i)
+            ends-with_prev_of now (Some first) (Some last) (to i)
             ∙ elim (eqb_tells i start) [
               | inl here ↦ rewritten i here.1
               | inr other ↦ kept_there i there other.0 other.1
             ];
       }
     where
-      kept : IsKept now (with_prev_of number now (Some first) (Some last))
-      kept = kept-with_prev_of number now (Some first) (Some last)
+      kept : IsKept now (with_prev_of now (Some first) (Some last))
+      kept = kept-with_prev_of now (Some first) (Some last)
 
-      same : listed_values (with_prev_of number now (Some first) (Some last)) ≡ listed_values now
-      same = values_listed now (with_prev_of number now (Some first) (Some last))
-          (values-with_prev_of number now (Some first) (Some last))
+      same : listed_values (with_prev_of now (Some first) (Some last)) ≡ listed_values now
+      same = values_listed now (with_prev_of now (Some first) (Some last))
+          (values-with_prev_of now (Some first) (Some last))
 
       opened : with_prev wanted start None start ≡ Some (None, next)
       opened = elim (eqb_tells start start)
           [ inl is ↦ rw is.0 (ap (reprev None) stood) | inr other ↦ absurd (other.1 refl) ]
 
       rewritten : (i : ℕ) → i ≡ start
-          → with_prev (ends_in number now) (number first) (Some (number last)) (to i)
+          → with_prev (ends_in now) first (Some last) (to i)
           ≡ option_map (ends_renamed to) (wanted i)
       rewritten i here =
-          elim (eqb_tells (to i) (number first)) [
+          elim (eqb_tells (to i) first) [
             | inl hit ↦
                 rw hit.0
-                (ap (reprev (Some (number last)))
-                (ap (λ k. ends_in number now (to k)) here ∙ p.ends start on
+                (ap (reprev (Some last))
+                (ap (λ k. ends_in now (to k)) here ∙ p.ends start on
                 ∙ ap (option_map (ends_renamed to)) opened)
                 ∙ ap (λ o. Some (o, option_map to next)) end
                 ∙ sym (ap (λ k. option_map (ends_renamed to) (wanted k)) here
@@ -423,10 +423,10 @@ module _ {I T : Type 0} (number : I → ℕ) (g : ℕ) (room : Room) where
           ]
 
       kept_there : (i : ℕ) → On order i → (i == start) ≡ false → i ≢ start
-          → with_prev (ends_in number now) (number first) (Some (number last)) (to i)
+          → with_prev (ends_in now) first (Some last) (to i)
           ≡ option_map (ends_renamed to) (wanted i)
       kept_there i there test other =
-          elim (eqb_tells (to i) (number first)) [
+          elim (eqb_tells (to i) first) [
             | inl hit ↦ absurd (other (apart i start there on (hit.1 ∙ at)))
             | inr differs ↦
                 let same : with_prev wanted start None i ≡ wanted i = rw test refl in

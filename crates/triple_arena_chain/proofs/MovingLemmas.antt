@@ -63,7 +63,7 @@ no_prev None is = refl
 no_prev (Some v) is = ap (λ a. Some (a, v.1)) (sym is)
 
 -- what is live after a removal was live before
-pub still_live : {J U : Type 0} (last : Option ℕ) (i : ℕ) (now new : Content (IndexLink J U))
+pub still_live : {U : Type 0} (last : Option ℕ) (i : ℕ) (now new : Content (IndexLink U))
     → IsRemoved entry_at live_count some_counter room_in last i now new
     → (j : ℕ) → IsSome (entry_at new j) → IsSome (entry_at now j)
 still_live last i now new removed j some =
@@ -74,25 +74,24 @@ still_live last i now new removed j some =
           ∙ rw other.0 refl in sym (ap is_some stays) ∙ some
     ]
 
-module _ {Q U P T J I F : Type 0} (old_index old_generation : Q → ℕ) (index generation : P → ℕ)
-    (old_number : J → ℕ) (number : I → ℕ)
+module _ {Q U P T F : Type 0} (old_index old_generation : Q → ℕ) (index generation : P → ℕ)
     (step : F → Q → InvalidationOption U → P → T → F → Type 0) (f : F) (last : Option ℕ)
-    (old : Content (IndexLink J U)) (g : ℕ) (room : Room) where
+    (old : Content (IndexLink U)) (g : ℕ) (room : Room) where
   -- the interlinks of the source, as they were
   abbrev held : ℕ → Option Ends
-  held = ends_in old_number old
+  held = ends_in old
 
   -- these links were moved, in this order
   pub record AreMoved (order : List ℕ) (to : ℕ → ℕ) (wanted : ℕ → Option Ends) (f' : F)
-      (from : Content (IndexLink J U)) (into : Content (IndexLink I T)) : Type 0 where
+      (from : Content (IndexLink U)) (into : Content (IndexLink T)) : Type 0 where
     pub taken : AreTaken last old order from
     pub called : AreCalled old_index old_generation index generation step f last old order f'
         from.counter into
-    pub placed : ArePlaced number g room order to wanted into
+    pub placed : ArePlaced g room order to wanted into
 
   -- the chains of the indexes below this one were moved
-  pub record AreChainsMoved (low : ℕ) (f' : F) (from : Content (IndexLink J U))
-      (into : Content (IndexLink I T)) : Type 0 where
+  pub record AreChainsMoved (low : ℕ) (f' : F) (from : Content (IndexLink U))
+      (into : Content (IndexLink T)) : Type 0 where
     pub done : List Chain
     pub are : AreDone held low done
     pub moved : AreMoved (all_members done) (place_in (all_members done)) held f' from into
@@ -100,7 +99,7 @@ module _ {Q U P T J I F : Type 0} (old_index old_generation : Q → ℕ) (index 
   -- of the chain in hand, which begins at `start` and has the least index `k` that is left, the
   -- links before `at` were moved
   pub record IsOnWay (k start at first : ℕ) (prev : Option ℕ) (f' : F)
-      (from : Content (IndexLink J U)) (into : Content (IndexLink I T)) : Type 0 where
+      (from : Content (IndexLink U)) (into : Content (IndexLink T)) : Type 0 where
     pub low : ℕ
     pub done : List Chain
     pub are : AreDone held low done
@@ -121,18 +120,18 @@ module _ {Q U P T J I F : Type 0} (old_index old_generation : Q → ℕ) (index 
   -- a ring once its first link
   -- has its previous one
   pub record IsLinkMoved (k start first place : ℕ) (next : Option ℕ) (f' : F)
-      (from : Content (IndexLink J U)) (into : Content (IndexLink I T)) : Type 0 where
-    pub further : (j : ℕ) (into' : Content (IndexLink I T))
+      (from : Content (IndexLink U)) (into : Content (IndexLink T)) : Type 0 where
+    pub further : (j : ℕ) (into' : Content (IndexLink T))
         → (next ≡ Some j) × (j ≢ start) × (into' ≡ into)
         → IsOnWay k start j first (Some place) f' from into'
-    pub over : (into' : Content (IndexLink I T)) (x y : I) → number x ≡ first → number y ≡ place
+    pub over : (into' : Content (IndexLink T)) (x y : ℕ) → x ≡ first → y ≡ place
         → ((next ≡ None) × (into' ≡ into))
-        ⊎ ((next ≡ Some start) × (into' ≡ with_prev_of number into (Some x) (Some y)))
+        ⊎ ((next ≡ Some start) × (into' ≡ with_prev_of into (Some x) (Some y)))
         → AreChainsMoved (k + 1) f' from into'
 
   -- the same links under other names that are the same for them
   moved_as : (order order' : List ℕ) (to to' : ℕ → ℕ) (wanted wanted' : ℕ → Option Ends) (f' : F)
-      (from : Content (IndexLink J U)) (into : Content (IndexLink I T))
+      (from : Content (IndexLink U)) (into : Content (IndexLink T))
       → order' ≡ order → ((i : ℕ) → On order i → to' i ≡ to i)
       → ((i : ℕ) → On order i
       → option_map (ends_renamed to') (wanted' i) ≡ option_map (ends_renamed to) (wanted i))
@@ -151,38 +150,38 @@ module _ {Q U P T J I F : Type 0} (old_index old_generation : Q → ℕ) (index 
           formed = m.placed.formed;
           compact = m.placed.compact;
           generations = m.placed.generations;
-          ends = λ i on. ap (ends_in number into) (named i on) ∙ m.placed.ends i on
+          ends = λ i on. ap (ends_in into) (named i on) ∙ m.placed.ends i on
               ∙ sym (linked i on);
         };
       }
 
-  module _ (chained : IsChained old_number old) where
+  module _ (chained : IsChained old) where
     agreed : IsAgreed held
     agreed = chained.agreed
 
     -- the links that are left between chains
-    gone_ends : (order : List ℕ) (from : Content (IndexLink J U)) → AreTaken last old order from
-        → (j : ℕ) → On order j → ends_in old_number from j ≡ None
-    gone_ends order from t j on = ap (option_map (entry_ends old_number)) (t.gone j on)
+    gone_ends : (order : List ℕ) (from : Content (IndexLink U)) → AreTaken last old order from
+        → (j : ℕ) → On order j → ends_in from j ≡ None
+    gone_ends order from t j on = ap (option_map entry_ends) (t.gone j on)
 
-    stay_ends : (order : List ℕ) (from : Content (IndexLink J U)) → AreTaken last old order from
-        → (j : ℕ) → Off order j → ends_in old_number from j ≡ held j
-    stay_ends order from t j off = ap (option_map (entry_ends old_number)) (t.stay j off)
+    stay_ends : (order : List ℕ) (from : Content (IndexLink U)) → AreTaken last old order from
+        → (j : ℕ) → Off order j → ends_in from j ≡ held j
+    stay_ends order from t j off = ap (option_map entry_ends) (t.stay j off)
 
-    pub left_chained : (low : ℕ) (f' : F) (from : Content (IndexLink J U))
-        (into : Content (IndexLink I T)) → AreChainsMoved low f' from into
-        → IsChained old_number from
+    pub left_chained : (low : ℕ) (f' : F) (from : Content (IndexLink U))
+        (into : Content (IndexLink T)) → AreChainsMoved low f' from into
+        → IsChained from
     left_chained low f' from into m =
         record {
           formed = m.moved.taken.formed;
           agreed =
-              left_agreed held (ends_in old_number from) low m.done m.are
+              left_agreed held (ends_in from) low m.done m.are
               (gone_ends (all_members m.done) from m.moved.taken)
               (stay_ends (all_members m.done) from m.moved.taken) agreed;
         }
 
     -- at first no chain is moved
-    pub chains_none : (low : ℕ) (into : Content (IndexLink I T)) → low ≡ 1 → into.slots ≡ []
+    pub chains_none : (low : ℕ) (into : Content (IndexLink T)) → low ≡ 1 → into.slots ≡ []
         → into.free ≡ [] → into.counter ≡ g → into.room ≡ room
         → AreChainsMoved low f old into
     chains_none low into is none free counter own =
@@ -198,7 +197,7 @@ module _ {Q U P T J I F : Type 0} (old_index old_generation : Q → ℕ) (index 
             called = called_none old_index old_generation index generation step f last old into
                 listed;
             placed =
-                placed_none number g room (place_in []) held into none free counter own live listed
+                placed_none g room (place_in []) held into none free counter own live listed
                 (record {
                   free = subst (AllVacant into) (sym free) tt;
                   counted = omega (arith, live, slots, unused);
@@ -208,8 +207,8 @@ module _ {Q U P T J I F : Type 0} (old_index old_generation : Q → ℕ) (index 
         }
 
     -- no index before the first that is left is live
-    pub none_before : (low : ℕ) (f' : F) (from : Content (IndexLink J U))
-        (into : Content (IndexLink I T)) (w : Walk) → AreChainsMoved low f' from into → w.low ≡ low
+    pub none_before : (low : ℕ) (f' : F) (from : Content (IndexLink U))
+        (into : Content (IndexLink T)) (w : Walk) → AreChainsMoved low f' from into → w.low ≡ low
         → (j : ℕ) → (IsAhead w j → entry_at from j ≡ None) → j ≤ w.high → entry_at from j ≡ None
     none_before low f' from into w m from_low j ahead within =
         elim (leb_tells low j) [
@@ -219,7 +218,7 @@ module _ {Q U P T J I F : Type 0} (old_index old_generation : Q → ℕ) (index 
                 | inl off ↦ m.moved.taken.stay j off
                     ∙ none_of (entry_at old j)
                     (λ some. on_differs (all_members m.done) j j
-                    (m.are.below j down.1 (live_ends old_number old j ∙ some)) off refl)
+                    (m.are.below j down.1 (live_ends old j ∙ some)) off refl)
                 | inr on ↦ m.moved.taken.gone j on
               ]
         ]
@@ -232,21 +231,21 @@ module _ {Q U P T J I F : Type 0} (old_index old_generation : Q → ℕ) (index 
         (λ there. on_differs (all_members done) i i on (h.fresh i there) refl))
 
     -- a chain is taken in hand
-    pub way_begun : (low k start first : ℕ) (f' : F) (from : Content (IndexLink J U))
-        (into : Content (IndexLink I T)) → AreChainsMoved low f' from into → low ≤ k
-        → IsSome (ends_in old_number from k) → ((j : ℕ) → j < k → ends_in old_number from j ≡ None)
-        → ((c : Chain) → IsChainOf (ends_in old_number from) c → On (members c) k
-        → On (members c) start) → IsHead (ends_in old_number from) start
-        → (IsHead (ends_in old_number from) k → start ≡ k) → first ≡ live_count into + 1
+    pub way_begun : (low k start first : ℕ) (f' : F) (from : Content (IndexLink U))
+        (into : Content (IndexLink T)) → AreChainsMoved low f' from into → low ≤ k
+        → IsSome (ends_in from k) → ((j : ℕ) → j < k → ends_in from j ≡ None)
+        → ((c : Chain) → IsChainOf (ends_in from) c → On (members c) k
+        → On (members c) start) → IsHead (ends_in from) start
+        → (IsHead (ends_in from) k → start ≡ k) → first ≡ live_count into + 1
         → IsOnWay k start start first None f' from into
     way_begun low k start first f' from into m above live lowest same head own count =
         let d = m.are in
-        let e' = ends_in old_number from in
+        let e' = ends_in from in
         let gone = gone_ends (all_members m.done) from m.moved.taken in
         let stay = stay_ends (all_members m.done) from m.moved.taken in
         let c =
         in_hand held e' low m.done d gone stay k start (length from.slots + 1)
-        (left_agreed held e' low m.done d gone stay agreed) (bounded old_number from)
+        (left_agreed held e' low m.done d gone stay agreed) (bounded from)
         live lowest same head own in
         let h = c.1 in
         let begun = hand_begun held m.done start k c.0 h in
@@ -293,33 +292,33 @@ module _ {Q U P T J I F : Type 0} (old_index old_generation : Q → ℕ) (index 
         }
 
     -- a chain is taken in hand at the first link that is left
-    pub way_taken : (w : Walk) (i gen k start first : ℕ) (f' : F) (from : Content (IndexLink J U))
-        (into : Content (IndexLink I T)) → AreChainsMoved w.low f' from into
+    pub way_taken : (w : Walk) (i gen k start first : ℕ) (f' : F) (from : Content (IndexLink U))
+        (into : Content (IndexLink T)) → AreChainsMoved w.low f' from into
         → IsFirstLive (entry_at from) w i gen → w.falls ≡ false → k ≡ i
-        → ((c : Chain) → IsChainOf (ends_in old_number from) c → On (members c) k
-        → On (members c) start) → IsHead (ends_in old_number from) start
-        → (IsHead (ends_in old_number from) k → start ≡ k) → first ≡ live_count into + 1
+        → ((c : Chain) → IsChainOf (ends_in from) c → On (members c) k
+        → On (members c) start) → IsHead (ends_in from) start
+        → (IsHead (ends_in from) k → start ≡ k) → first ≡ live_count into + 1
         → IsOnWay k start start first None f' from into
     way_taken w i gen k start first f' from into m found rises is same head own count =
         way_begun w.low k start first f' from into m (omega (arith, found.ahead.0, is))
-        (live_ends old_number from k
+        (live_ends from k
         ∙ subst (λ n. IsSome (entry_at from n)) (sym is)
         (some_found (entry_at from i) found.live))
         (λ j less.
         let below : j < i = omega (arith, less, is) in
-        ap (option_map (entry_ends old_number))
+        ap (option_map entry_ends)
         (none_before w.low f' from into w m refl j (λ ahead. found.first j ahead (rw rises below))
         (omega (arith, below, found.ahead.1))))
         same head own count
       where
-        some_found : (o : Option (ℕ × IndexLink J U)) → option_map (λ e. e.0) o ≡ Some gen
+        some_found : (o : Option (ℕ × IndexLink U)) → option_map (λ e. e.0) o ≡ Some gen
             → IsSome o
         some_found None is = absurd (let none : None ≡ Some gen = is in cc)
         some_found (Some e) is = refl
 
     -- once no link is found, none is left
-    pub none_at_all : (w : Walk) (f' : F) (from : Content (IndexLink J U))
-        (into : Content (IndexLink I T)) → AreChainsMoved w.low f' from into
+    pub none_at_all : (w : Walk) (f' : F) (from : Content (IndexLink U))
+        (into : Content (IndexLink T)) → AreChainsMoved w.low f' from into
         → ((j : ℕ) → IsAhead w j → entry_at from j ≡ None)
         → ((j : ℕ) → IsSome (entry_at from j) → j ≤ w.high) → (j : ℕ) → entry_at from j ≡ None
     none_at_all w f' from into m finds reaches j =
@@ -329,8 +328,8 @@ module _ {Q U P T J I F : Type 0} (old_index old_generation : Q → ℕ) (index 
               (λ some. let within = reaches j some in omega (arith, within, past.1))
         ]
 
-    module _ (k start at first : ℕ) (prev : Option ℕ) (f' : F) (from : Content (IndexLink J U))
-        (into : Content (IndexLink I T)) (w : IsOnWay k start at first prev f' from into) where
+    module _ (k start at first : ℕ) (prev : Option ℕ) (f' : F) (from : Content (IndexLink U))
+        (into : Content (IndexLink T)) (w : IsOnWay k start at first prev f' from into) where
       -- the links that were moved, and the names of all up to the end of the chain
       abbrev order : List ℕ
       order = all_members w.done ++ w.front
@@ -372,7 +371,7 @@ module _ {Q U P T J I F : Type 0} (old_index old_generation : Q → ℕ) (index 
       at_entry = w.moved.taken.stay at at_off
 
       pub at_live : IsSome (entry_at from at)
-      at_live = ap is_some at_entry ∙ sym (live_ends old_number old at)
+      at_live = ap is_some at_entry ∙ sym (live_ends old at)
           ∙ hand_live held w.done start k w.chain w.hand at at_on
 
       next_is : next_at held at ≡ first_or w.back (closing w.chain)
@@ -436,7 +435,7 @@ module _ {Q U P T J I F : Type 0} (old_index old_generation : Q → ℕ) (index 
           omega (arith, one, all, placed)
 
       -- and so does the next one
-      next_fits : (j : ℕ) (from' : Content (IndexLink J U)) → next_at held at ≡ Some j → j ≢ start
+      next_fits : (j : ℕ) (from' : Content (IndexLink U)) → next_at held at ≡ Some j → j ≢ start
           → AreTaken last old (order ++ at ∷ []) from'
           → live_count into + 1 + 1 ≤ live_count old
       next_fits j from' goes other t =
@@ -449,7 +448,7 @@ module _ {Q U P T J I F : Type 0} (old_index old_generation : Q → ℕ) (index 
           let on : On (members w.chain) j =
           holds_next held w.chain at j w.hand.is_chain at_on goes in
           let live : IsSome (entry_at from' j) = ap is_some (t.stay j off)
-          ∙ sym (live_ends old_number old j)
+          ∙ sym (live_ends old j)
           ∙ hand_live held w.done start k w.chain w.hand j on in
           let one = live-vacated from' j live in
           let long = length_push order at in
@@ -458,42 +457,42 @@ module _ {Q U P T J I F : Type 0} (old_index old_generation : Q → ℕ) (index 
           omega (arith, one, long, all, placed)
 
       -- the next of a link, under the new indexes
-      next_given : (o : Option J) (o' : Option I) (x : I) (placed bound : ℕ)
-          (from' : Content (IndexLink J U)) → option_map old_number o ≡ next_at held at
-          → number x ≡ first
+      next_given : (o : Option ℕ) (o' : Option ℕ) (x : ℕ) (placed bound : ℕ)
+          (from' : Content (IndexLink U)) → o ≡ next_at held at
+          → x ≡ first
           → placed ≡ live_count into + 1 → live_count old ≤ bound
           → AreTaken last old (order ++ at ∷ []) from' → (o ≡ None → o' ≡ None)
-          → (option_map old_number o ≡ Some start → o' ≡ Some x)
-          → ((j : ℕ) → option_map old_number o ≡ Some j → j ≢ start → placed + 1 ≤ bound
-          → option_map number o' ≡ Some (placed + 1))
-          → option_map number o' ≡ option_map to (next_at held at)
+          → (o ≡ Some start → o' ≡ Some x)
+          → ((j : ℕ) → o ≡ Some j → j ≢ start → placed + 1 ≤ bound
+          → o' ≡ Some (placed + 1))
+          → o' ≡ option_map to (next_at held at)
       next_given None o' x placed bound from' is x_is count fits t end round on =
-          ap (option_map number) (end refl) ∙ ap (option_map to) is
+          (end refl) ∙ ap (option_map to) is
       next_given (Some j) o' x placed bound from' is x_is count fits t end round on =
-          elim (eqb_tells (old_number j) start) [
-            | inl same ↦ ap (option_map number) (round (ap Some same.1))
+          elim (eqb_tells j start) [
+            | inl same ↦ (round (ap Some same.1))
                 ∙ ap Some (x_is ∙ to_start ∙ ap to (sym same.1)) ∙ ap (option_map to) is
             | inr other ↦
-                let goes : next_at held at ≡ Some (old_number j) = sym is in
-                let room_for = next_fits (old_number j) from' goes other.1 t in
-                let place = to_next (old_number j) goes other.1 in
+                let goes : next_at held at ≡ Some j = sym is in
+                let room_for = next_fits j from' goes other.1 t in
+                let place = to_next j goes other.1 in
                 let live = w.moved.placed.live in
-                on (old_number j) refl other.1 (omega (arith, room_for, count, fits))
+                on j refl other.1 (omega (arith, room_for, count, fits))
                 ∙ ap Some (omega (arith, place, count, live))
                 ∙ ap (option_map to) is
           ]
 
       -- one link more was moved
-      pub way_more : (f'' : F) (from' : Content (IndexLink J U)) (into' : Content (IndexLink I T))
-          (p : Q) (item : InvalidationOption U) (q : P) (t : T) (l : IndexLink I T)
+      pub way_more : (f'' : F) (from' : Content (IndexLink U)) (into' : Content (IndexLink T))
+          (p : Q) (item : InvalidationOption U) (q : P) (t : T) (l : IndexLink T)
           → IsRemoved entry_at live_count some_counter room_in last at from from'
           → IsWellFormed from'
           → values_in from at ≡ Some (old_generation p, value_of item) → old_index p ≡ at
           → overflowed item ≡ next_wraps last from.counter
           → index q ≡ live_count into + 1 → generation q ≡ g → step f' p item q t f''
           → live_count into < arena_capacity into
-          → into' ≡ inserted into l → l.t ≡ t → option_map number l.prev ≡ prev
-          → option_map number l.next ≡ option_map to (next_at held at)
+          → into' ≡ inserted into l → l.t ≡ t → l.prev ≡ prev
+          → l.next ≡ option_map to (next_at held at)
           → AreMoved (order ++ at ∷ []) to (with_prev held start None) f'' from' into'
       way_more f'' from' into' p item q t l removed formed found has_index wraps at_index
           at_generation ran fits is value prev_same next_same =
@@ -504,9 +503,9 @@ module _ {Q U P T J I F : Type 0} (old_index old_generation : Q → ℕ) (index 
           let count : 1 + length into.slots ≡ index q =
           (let slots = m.placed.slots in let live = m.placed.live in
           omega (arith, slots, live, at_index)) in
-          let before : option_map number l.prev ≡ option_map to (last_or None w.front) = prev_same
+          let before : l.prev ≡ option_map to (last_or None w.front) = prev_same
           ∙ w.prev_is in
-          let after : option_map number l.next ≡ option_map to (first_or w.back (closing w.chain)) =
+          let after : l.next ≡ option_map to (first_or w.back (closing w.chain)) =
           next_same ∙ ap (option_map to) next_is in
           let opened : option_map (ends_renamed to) (with_prev held start None at)
           ≡ Some (
@@ -515,9 +514,9 @@ module _ {Q U P T J I F : Type 0} (old_index old_generation : Q → ℕ) (index 
           ) =
           ap (option_map (ends_renamed to))
           (opened_at held w.done start k w.chain w.hand w.front w.back at w.split) in
-          let linked : Some (option_map number l.prev, option_map number l.next)
+          let linked : Some (l.prev, l.next)
           ≡ option_map (ends_renamed to) (with_prev held start None at) =
-          ap (λ o. Some (o, option_map number l.next)) before
+          ap (λ o. Some (o, l.next)) before
           ∙ ap (λ o. Some (option_map to (last_or None w.front), o)) after ∙ sym opened in
           let listed : listed_values into'
           ≡ listed_values into ++ (index q, (generation q, t)) ∷ [] =
@@ -533,13 +532,13 @@ module _ {Q U P T J I F : Type 0} (old_index old_generation : Q → ℕ) (index 
                 called_more old_index old_generation index generation step f last old order at f'
                 f'' from.counter from'.counter into into' p item q t m.called
                 (sym (ap (option_map valued) at_entry) ∙ found) has_index wraps stepped ran listed;
-            placed = placed_more number g room order at to (with_prev held start None) into into' l
+            placed = placed_more g room order at to (with_prev held start None) into into' l
                 m.placed fits is to_before to_at linked;
           }
 
       -- the way goes on
-      pub way_further : (j place : ℕ) (f'' : F) (from' : Content (IndexLink J U))
-          (into' : Content (IndexLink I T)) → next_at held at ≡ Some j → j ≢ start
+      pub way_further : (j place : ℕ) (f'' : F) (from' : Content (IndexLink U))
+          (into' : Content (IndexLink T)) → next_at held at ≡ Some j → j ≢ start
           → place ≡ live_count into + 1
           → AreMoved (order ++ at ∷ []) to (with_prev held start None) f'' from' into'
           → IsOnWay k start j first (Some place) f'' from' into'
@@ -572,7 +571,7 @@ module _ {Q U P T J I F : Type 0} (old_index old_generation : Q → ℕ) (index 
       to_done : (i : ℕ) → place_in (all_members (w.done ++ w.chain ∷ [])) i ≡ to i
       to_done i = ap (λ l. place_in l i) (all_append w.done w.chain)
 
-      chains_more : (f'' : F) (from' : Content (IndexLink J U)) (into' : Content (IndexLink I T))
+      chains_more : (f'' : F) (from' : Content (IndexLink U)) (into' : Content (IndexLink T))
           → w.back ≡ []
           → AreMoved (order ++ at ∷ []) to held f'' from' into'
           → AreChainsMoved (k + 1) f'' from' into'
@@ -589,7 +588,7 @@ module _ {Q U P T J I F : Type 0} (old_index old_generation : Q → ℕ) (index 
           }
 
       -- a linear chain is moved
-      pub chain_ends : (f'' : F) (from' : Content (IndexLink J U)) (into' : Content (IndexLink I T))
+      pub chain_ends : (f'' : F) (from' : Content (IndexLink U)) (into' : Content (IndexLink T))
           → next_at held at ≡ None
           → AreMoved (order ++ at ∷ []) to (with_prev held start None) f'' from' into'
           → AreChainsMoved (k + 1) f'' from' into'
@@ -616,10 +615,10 @@ module _ {Q U P T J I F : Type 0} (old_index old_generation : Q → ℕ) (index 
               ]
 
       -- a ring is moved, and its first link has its previous one
-      pub chain_closes : (f'' : F) (from' : Content (IndexLink J U))
-          (into' into'' : Content (IndexLink I T)) (x y : I) → next_at held at ≡ Some start
-          → number x ≡ first → number y ≡ live_count into + 1
-          → into'' ≡ with_prev_of number into' (Some x) (Some y)
+      pub chain_closes : (f'' : F) (from' : Content (IndexLink U))
+          (into' into'' : Content (IndexLink T)) (x y : ℕ) → next_at held at ≡ Some start
+          → x ≡ first → y ≡ live_count into + 1
+          → into'' ≡ with_prev_of into' (Some x) (Some y)
           → AreMoved (order ++ at ∷ []) to (with_prev held start None) f'' from' into'
           → AreChainsMoved (k + 1) f'' from' into''
       chain_closes f'' from' into' into'' x y round x_is y_is is m =
@@ -630,10 +629,10 @@ module _ {Q U P T J I F : Type 0} (old_index old_generation : Q → ℕ) (index 
             called = called_same old_index old_generation index generation step f last old
                 (order ++ at ∷ []) f'' from'.counter into' into''
                 (ap listed_values is ∙ values_listed into'
-                (with_prev_of number into' (Some x) (Some y))
-                (values-with_prev_of number into' (Some x) (Some y))) m.called;
+                (with_prev_of into' (Some x) (Some y))
+                (values-with_prev_of into' (Some x) (Some y))) m.called;
             placed =
-                placed_closed number g room (order ++ at ∷ []) start to held (Some at) into' into''
+                placed_closed g room (order ++ at ∷ []) start to held (Some at) into' into''
                 x y m.placed is on_start
                 (λ i j on on' same. place_apart (all_members w.done ++ members w.chain) i j
                 (subst (λ l. On l i) whole on) (subst (λ l. On l j) whole on') same)
@@ -661,29 +660,29 @@ module _ {Q U P T J I F : Type 0} (old_index old_generation : Q → ℕ) (index 
               (sym (next_is ∙ ap (λ l. first_or l (closing w.chain)) none) ∙ round)
 
       -- a link is moved
-      pub link_moved : (f'' : F) (from' : Content (IndexLink J U)) (into' : Content (IndexLink I T))
-          (p : Q) (item : InvalidationOption U) (o : Option J) (q : P) (t : T)
-          (before : Option I) (o' : Option I) (x : I) (placed place bound : ℕ)
+      pub link_moved : (f'' : F) (from' : Content (IndexLink U)) (into' : Content (IndexLink T))
+          (p : Q) (item : InvalidationOption U) (o : Option ℕ) (q : P) (t : T)
+          (before : Option ℕ) (o' : Option ℕ) (x : ℕ) (placed place bound : ℕ)
           → IsRemoved entry_at live_count some_counter room_in last at from from'
           → IsWellFormed from'
           → values_in from at ≡ Some (old_generation p, value_of item) → old_index p ≡ at
           → overflowed item ≡ next_wraps last from.counter
-          → option_map old_number o ≡ next_at (ends_in old_number from) at
+          → o ≡ next_at (ends_in from) at
           → placed ≡ live_count into → place ≡ placed + 1 → index q ≡ place → generation q ≡ g
           → step f' p item q t f''
           → live_count old ≤ arena_capacity into → live_count old ≤ bound
           → (live_count into < arena_capacity into
           → into' ≡ inserted into (record { prev = before; next = o'; t = t }))
-          → option_map number before ≡ prev → number x ≡ first
-          → (o ≡ None → o' ≡ None) → (option_map old_number o ≡ Some start → o' ≡ Some x)
-          → ((j : ℕ) → option_map old_number o ≡ Some j → j ≢ start → placed + 1 + 1 ≤ bound
-          → option_map number o' ≡ Some (placed + 1 + 1))
-          → IsLinkMoved k start first place (option_map old_number o) f'' from' into'
+          → before ≡ prev → x ≡ first
+          → (o ≡ None → o' ≡ None) → (o ≡ Some start → o' ≡ Some x)
+          → ((j : ℕ) → o ≡ Some j → j ≢ start → placed + 1 + 1 ≤ bound
+          → o' ≡ Some (placed + 1 + 1))
+          → IsLinkMoved k start first place o f'' from' into'
       link_moved f'' from' into' p item o q t before o' x placed place bound removed formed found
           has_index wraps goes count place_is at_index at_generation ran fits bounds is
           prev_same x_is end round on =
-          let same : option_map old_number o ≡ next_at held at = goes
-          ∙ ap (λ e. next_in (option_map (entry_ends old_number) e)) at_entry in
+          let same : o ≡ next_at held at = goes
+          ∙ ap (λ e. next_in (option_map entry_ends e)) at_entry in
           let one = way_fits in
           let moved =
           way_more f'' from' into' p item q t (record { prev = before; next = o'; t = t }) removed

@@ -68,12 +68,12 @@ led_some e placed i k l within none =
     let no : None ≡ Some n.to = sym none ∙ n.noted in
     cc
 
-pub led_live : {I T : Type 0} (number : I → ℕ) (c : Content (IndexLink I T)) (placed i k : ℕ)
-    → IsLed (ends_in number c) placed i k → i ≤ placed
+pub led_live : {T : Type 0} (c : Content (IndexLink T)) (placed i k : ℕ)
+    → IsLed (ends_in c) placed i k → i ≤ placed
     → IsSome (entry_at c i)
-led_live number c placed i k l within =
-    let n = led_on (ends_in number c) placed i k l within in
-    sym (live_ends number c i) ∙ live_prev_in (ends_in number c i) n.to n.noted
+led_live c placed i k l within =
+    let n = led_on (ends_in c) placed i k l within in
+    sym (live_ends c i) ∙ live_prev_in (ends_in c i) n.to n.noted
 
 -- notes that stay lead where they led
 leads_same : (e e' : ℕ → Option Ends) (placed : ℕ)
@@ -152,20 +152,20 @@ prev_of_reprev : (o : Option Ends) (n : Option ℕ) → IsSome o → prev_in (re
 prev_of_reprev None n some = absurd (true≢false (sym some))
 prev_of_reprev (Some v) n some = refl
 
-module _ {I T : Type 0} (number : I → ℕ) where
+module _ {T : Type 0} where
   -- no link is at index 0
-  pub none_at_zero : (laid : ℕ → Option Ends) (now : Content (IndexLink I T))
-      → ((k : ℕ) → is_some (ends_in number now k) ≡ is_some (laid k))
+  pub none_at_zero : (laid : ℕ → Option Ends) (now : Content (IndexLink T))
+      → ((k : ℕ) → is_some (ends_in now k) ≡ is_some (laid k))
       → laid 0 ≡ None
   none_at_zero laid now live = by (laid 0) (live 0)
     where
-      by : (o : Option Ends) → is_some (ends_in number now 0) ≡ is_some o → o ≡ None
+      by : (o : Option Ends) → is_some (ends_in now 0) ≡ is_some o → o ≡ None
       by None is = refl
       by (Some v) is = absurd (true≢false (sym is))
 
   -- before any link is placed
-  pub noted_none : (c : Content (IndexLink I T)) → IsWellFormed c
-      → AreNoted number 0 0 (λ i. i) c (ends_in number c) c
+  pub noted_none : (c : Content (IndexLink T)) → IsWellFormed c
+      → AreNoted 0 0 (λ i. i) c (ends_in c) c
   noted_none c formed =
       record {
         live = λ k. refl;
@@ -173,18 +173,18 @@ module _ {I T : Type 0} (number : I → ℕ) where
         kept = record { live = refl; slots = refl; free = refl; counter = refl; room = refl };
         formed = formed;
         ahead = λ x some past. refl;
-        raw = λ x some is. ap (next_at (ends_in number c)) (sym is);
+        raw = λ x some is. ap (next_at (ends_in c)) (sym is);
         done = λ k within other. refl;
         led = λ x some past. record { steps = 0; leads = (past, refl) };
       }
 
   -- one link more is placed
   module _ (m last : ℕ) (before : Option ℕ) (to : ℕ → ℕ) (a : ℕ)
-      (old c c' : Content (IndexLink I T)) (laid : ℕ → Option Ends)
-      (n : AreNoted number m last to old laid c)
+      (old c c' : Content (IndexLink T)) (laid : ℕ → Option Ends)
+      (n : AreNoted m last to old laid c)
       (opens : (before ≡ Some last) ⊎ ((before ≡ None) × (last ≡ 0))) (low : last ≤ m) (up : m < a)
-      (b : IsBrought number before a (m + 1) c c')
-      (live : IsSome (ends_in number c a)) (zeroth : laid 0 ≡ None)
+      (b : IsBrought before a (m + 1) c c')
+      (live : IsSome (ends_in c a)) (zeroth : laid 0 ≡ None)
       (inner : (k q : ℕ) → next_at laid k ≡ Some q → k ≤ m → k ≢ last → q ≤ m)
       (goes : before ≡ Some last → next_at laid last ≡ Some a) where
     abbrev s : ℕ → ℕ
@@ -194,38 +194,38 @@ module _ {I T : Type 0} (number : I → ℕ) where
     laid' = under (swapped_index a (m + 1)) laid
 
     abbrev f : ℕ → Option Ends
-    f = with_next_if (ends_in number c) before (Some (m + 1))
+    f = with_next_if (ends_in c) before (Some (m + 1))
 
     -- an index that is not the last one has its interlinks still
-    keeps : (k : ℕ) → k ≢ last → f k ≡ ends_in number c k
+    keeps : (k : ℕ) → k ≢ last → f k ≡ ends_in c k
     keeps k other = by opens
       where
-        by : (before ≡ Some last) ⊎ ((before ≡ None) × (last ≡ 0)) → f k ≡ ends_in number c k
-        by (inl is) = ap (λ o. with_next_if (ends_in number c) o (Some (m + 1)) k) is
+        by : (before ≡ Some last) ⊎ ((before ≡ None) × (last ≡ 0)) → f k ≡ ends_in c k
+        by (inl is) = ap (λ o. with_next_if (ends_in c) o (Some (m + 1)) k) is
             ∙ rw (ne_eqb k last other) refl
-        by (inr is) = ap (λ o. with_next_if (ends_in number c) o (Some (m + 1)) k) is.0
+        by (inr is) = ap (λ o. with_next_if (ends_in c) o (Some (m + 1)) k) is.0
 
-    away : (k : ℕ) → k ≢ m + 1 → ends_in number c' k ≡ f (s k)
+    away : (k : ℕ) → k ≢ m + 1 → ends_in c' k ≡ f (s k)
     away k other = b.ends k ∙ rw (ne_eqb k (m + 1) other) refl
 
-    here : ends_in number c' (m + 1) ≡ reprev (Some a) (f a)
+    here : ends_in c' (m + 1) ≡ reprev (Some a) (f a)
     here = b.ends (m + 1) ∙ rw (eq-eqb (m + 1) (m + 1) refl) refl
         ∙ ap (λ k. reprev (Some a) (f k)) (swap_j a (m + 1))
 
-    at_a : f a ≡ ends_in number c a
+    at_a : f a ≡ ends_in c a
     at_a = keeps a (λ is. omega (arith, is, low, up))
 
     fixed : (k : ℕ) → k ≤ m → s k ≡ k
     fixed k within = swap_other a (m + 1) k (λ is. omega (arith, is, within, up))
         (λ is. omega (arith, is, within))
 
-    note : prev_at (ends_in number c') (m + 1) ≡ Some a
+    note : prev_at (ends_in c') (m + 1) ≡ Some a
     note = ap prev_in here ∙ prev_of_reprev (f a) (Some a) (ap is_some at_a ∙ live)
 
-    prevs : (k : ℕ) → k ≤ m → prev_at (ends_in number c') k ≡ prev_at (ends_in number c) k
+    prevs : (k : ℕ) → k ≤ m → prev_at (ends_in c') k ≡ prev_at (ends_in c) k
     prevs k within =
         ap prev_in (away k (λ is. omega (arith, is, within))) ∙ ap (prev_at f) (fixed k within)
-        ∙ prev-with_next_if (ends_in number c) before (Some (m + 1)) k
+        ∙ prev-with_next_if (ends_in c) before (Some (m + 1)) k
 
     -- an index that is past the new place was somewhere past the old ones
     was : (x : ℕ) → m + 1 < s (to x) → m < to x
@@ -249,26 +249,26 @@ module _ {I T : Type 0} (number : I → ℕ) where
         (ap laid (fixed 0 (omega arith)) ∙ zeroth)
 
     done_last : (before ≡ Some last) ⊎ ((before ≡ None) × (last ≡ 0))
-        → next_at (ends_in number c') last ≡ next_at laid' last
-    done_last (inr is) = ap (next_at (ends_in number c')) is.1 ∙ sym (ap next_in (unlaid))
+        → next_at (ends_in c') last ≡ next_at laid' last
+    done_last (inr is) = ap (next_at (ends_in c')) is.1 ∙ sym (ap next_in (unlaid))
         ∙ ap (next_at laid') (sym is.1)
     done_last (inl is) =
-        let there : IsSome (ends_in number c last) =
+        let there : IsSome (ends_in c last) =
         n.live last ∙ live_next_in (laid last) a (goes is) in
-        let written : f last ≡ renext (Some (m + 1)) (ends_in number c last) =
-        ap (λ o. with_next_if (ends_in number c) o (Some (m + 1)) last) is
+        let written : f last ≡ renext (Some (m + 1)) (ends_in c last) =
+        ap (λ o. with_next_if (ends_in c) o (Some (m + 1)) last) is
         ∙ rw (eq-eqb last last refl) refl in
         ap next_in (away last (λ at. omega (arith, at, low)))
         ∙ ap (next_at f) (fixed last low) ∙ ap next_in written
-        ∙ next_of_renext (ends_in number c last) (Some (m + 1)) there
+        ∙ next_of_renext (ends_in c last) (Some (m + 1)) there
         ∙ sym (next_laid last low ∙ ap (option_map s) (goes is) ∙ ap Some (swap_i a (m + 1)))
 
-    live_at : (k : ℕ) → is_some (ends_in number c' k) ≡ is_some (ends_in number c (s k))
+    live_at : (k : ℕ) → is_some (ends_in c' k) ≡ is_some (ends_in c (s k))
     live_at k =
-        live_ends number c' k ∙ sym (some_valued (entry_at c' k)) ∙ ap is_some (b.values k)
-        ∙ some_valued (entry_at c (s k)) ∙ sym (live_ends number c (s k))
+        live_ends c' k ∙ sym (some_valued (entry_at c' k)) ∙ ap is_some (b.values k)
+        ∙ some_valued (entry_at c (s k)) ∙ sym (live_ends c (s k))
 
-    pub noted_more : AreNoted number (m + 1) (m + 1) (λ i. swapped_index a (m + 1) (to i)) old
+    pub noted_more : AreNoted (m + 1) (m + 1) (λ i. swapped_index a (m + 1) (to i)) old
         (under (swapped_index a (m + 1)) laid) c'
     noted_more =
         record {
@@ -287,12 +287,12 @@ module _ {I T : Type 0} (number : I → ℕ) where
           raw = λ x some is.
               let at : to x ≡ a = sym (swap_twice a (m + 1) (to x)) ∙ ap s is ∙ swap_j a (m + 1) in
               ap next_in here ∙ next_reprev (f a) (Some a) ∙ ap next_in at_a
-              ∙ ap (next_at (ends_in number c)) (sym at)
+              ∙ ap (next_at (ends_in c)) (sym at)
               ∙ ap next_in (n.ahead x some (omega (arith, at, up)));
           done = λ k within other.
               let low_k : k ≤ m = omega (arith, within, other) in
               elim (eqb_tells k last) [
-                | inl same ↦ ap (next_at (ends_in number c')) same.1 ∙ done_last opens
+                | inl same ↦ ap (next_at (ends_in c')) same.1 ∙ done_last opens
                     ∙ ap (next_at laid') (sym same.1)
                 | inr differs ↦
                     ap next_in (away k other) ∙ ap (next_at f) (fixed k low_k)
@@ -305,21 +305,21 @@ module _ {I T : Type 0} (number : I → ℕ) where
               let before = was x past in
               let other : to x ≢ a = λ is.
               let at : s (to x) ≡ m + 1 = ap s is ∙ swap_i a (m + 1) in omega (arith, at, past) in
-              led_more (ends_in number c) (ends_in number c') m a prevs note up x (to x)
+              led_more (ends_in c) (ends_in c') m a prevs note up x (to x)
               (n.led x some before) other;
         }
 
   -- the next of the last one is known
-  module _ (m last : ℕ) (to : ℕ → ℕ) (old c : Content (IndexLink I T)) (laid : ℕ → Option Ends)
-      (n : AreNoted number m last to old laid c)
+  module _ (m last : ℕ) (to : ℕ → ℕ) (old c : Content (IndexLink T)) (laid : ℕ → Option Ends)
+      (n : AreNoted m last to old laid c)
       (zeroth : laid 0 ≡ None)
-      (names : (x : ℕ) → IsSome (ends_in number old x) → IsSome (laid (to x))) where
-    no_zero : (x : ℕ) → IsSome (ends_in number old x) → to x ≢ 0
+      (names : (x : ℕ) → IsSome (ends_in old x) → IsSome (laid (to x))) where
+    no_zero : (x : ℕ) → IsSome (ends_in old x) → to x ≢ 0
     no_zero x some is = true≢false
         (sym (subst (λ k. IsSome (laid k)) is (names x some)) ∙ ap is_some zeroth)
 
-    pub noted_over : next_at (ends_in number c) last ≡ next_at laid last
-        → AreNoted number m 0 to old laid c
+    pub noted_over : next_at (ends_in c) last ≡ next_at laid last
+        → AreNoted m 0 to old laid c
     noted_over same =
         record {
           live = n.live;
@@ -330,7 +330,7 @@ module _ {I T : Type 0} (number : I → ℕ) where
           raw = λ x some is. absurd (no_zero x some is);
           done = λ k within other.
               elim (eqb_tells k last) [
-                | inl at ↦ ap (next_at (ends_in number c)) at.1 ∙ same
+                | inl at ↦ ap (next_at (ends_in c)) at.1 ∙ same
                     ∙ ap (next_at laid) (sym at.1)
                 | inr differs ↦ n.done k within differs.1
               ];
@@ -338,14 +338,14 @@ module _ {I T : Type 0} (number : I → ℕ) where
         }
 
     -- or written
-    pub noted_closed : (next : Option ℕ) (c' : Content (IndexLink I T)) → next ≡ next_at laid last
-        → last ≤ m → IsSome (ends_in number c last)
-        → ((k : ℕ) → ends_in number c' k ≡ with_next (ends_in number c) last next k)
+    pub noted_closed : (next : Option ℕ) (c' : Content (IndexLink T)) → next ≡ next_at laid last
+        → last ≤ m → IsSome (ends_in c last)
+        → ((k : ℕ) → ends_in c' k ≡ with_next (ends_in c) last next k)
         → ((k : ℕ) → values_in c' k ≡ values_in c k)
-        → IsKept c c' → IsWellFormed c' → AreNoted number m 0 to old laid c'
+        → IsKept c c' → IsWellFormed c' → AreNoted m 0 to old laid c'
     noted_closed next c' is low live ends values kept formed =
         record {
-          live = λ k. live_ends number c' k ∙ live_as c c' values k ∙ sym (live_ends number c k)
+          live = λ k. live_ends c' k ∙ live_as c c' values k ∙ sym (live_ends c k)
               ∙ n.live k;
           values = λ x some. values (to x) ∙ n.values x some;
           kept = kept_on old c c' n.kept kept;
@@ -357,20 +357,20 @@ module _ {I T : Type 0} (number : I → ℕ) where
           done = λ k within other.
               elim (eqb_tells k last) [
                 | inl at ↦
-                    let written : with_next (ends_in number c) last next k
-                    ≡ renext next (ends_in number c k) = rw at.0 refl in
+                    let written : with_next (ends_in c) last next k
+                    ≡ renext next (ends_in c k) = rw at.0 refl in
                     ap next_in (ends k ∙ written)
-                    ∙ next_of_renext (ends_in number c k) next
-                    (subst (λ i. IsSome (ends_in number c i)) (sym at.1) live)
+                    ∙ next_of_renext (ends_in c k) next
+                    (subst (λ i. IsSome (ends_in c i)) (sym at.1) live)
                     ∙ is ∙ ap (next_at laid) (sym at.1)
                 | inr differs ↦
-                    let stays : with_next (ends_in number c) last next k ≡ ends_in number c k =
+                    let stays : with_next (ends_in c) last next k ≡ ends_in c k =
                     rw differs.0 refl in
                     ap next_in (ends k ∙ stays) ∙ n.done k within differs.1
               ];
           led = λ x some past.
-              led_same (ends_in number c) (ends_in number c') m
+              led_same (ends_in c) (ends_in c') m
               (λ y within. ap prev_in (ends y)
-              ∙ prev-with_next_if (ends_in number c) (Some last) next y)
+              ∙ prev-with_next_if (ends_in c) (Some last) next y)
               x (to x) (n.led x some past);
         }

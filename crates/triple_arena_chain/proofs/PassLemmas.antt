@@ -7,59 +7,59 @@ use Rattle.std.proofs.lemmas.Bool.{eq-eqb, ne_eqb}
 use Rattle.std.proofs.lemmas.Bool.Decides.{eqb_tells, leb_tells}
 use Rattle.triple_arena.specs.Content.{Content, entry_at, IsWellFormed}
 use Rattle.triple_arena.specs.Entries.{generation_at}
-use Rattle.triple_arena.specs.Walk.{Walk, IsAhead, IsFirstLive, past}
+use Rattle.triple_arena.specs.Walk.{Walk, IsFirstLive, past}
 use Rattle.triple_arena_chain.specs.LinkShape.{IndexLink}
 use Rattle.triple_arena_chain.specs.Chains.{Ends, next_in, prev_in, next_at, prev_at, renext}
-use Rattle.triple_arena_chain.specs.Chains.{reprev, IsAgreed}
+use Rattle.triple_arena_chain.specs.Chains.{reprev}
 use Rattle.triple_arena_chain.specs.LinkLaws.{ends-with_prev_of, ends-with_next_of}
 use Rattle.triple_arena_chain.specs.LinkLaws.{values-with_prev_of, values-with_next_of}
 use Rattle.triple_arena_chain.specs.LinkLaws.{kept-with_prev_of, kept-with_next_of, kept_on}
 use Rattle.triple_arena_chain.specs.LinkLaws.{formed-with_prev_of, formed-with_next_of}
 use Rattle.triple_arena_chain.specs.Links.{valued, values_in, entry_ends, ends_in, with_next_of}
-use Rattle.triple_arena_chain.specs.Links.{with_prev_of, IsKept, IsRelinked}
+use Rattle.triple_arena_chain.specs.Links.{with_prev_of, IsKept}
 use Rattle.triple_arena_chain.specs.Renaming.{live_below, numbered, prev_of, forwarded}
 use Rattle.triple_arena_chain.proofs.RenamingLemmas.{live_below-live, live_below-below}
 use Rattle.triple_arena_chain.proofs.RenamingLemmas.{live_below-flat}
 
-module _ {I T : Type 0} where
-  pub some_valued : (o : Option (ℕ × IndexLink I T)) → is_some (option_map valued o) ≡ is_some o
+module _ {T : Type 0} where
+  pub some_valued : (o : Option (ℕ × IndexLink T)) → is_some (option_map valued o) ≡ is_some o
   some_valued None = refl
   some_valued (Some e) = refl
 
   -- the same values stand at the same indexes
-  pub live_as : (c d : Content (IndexLink I T)) → ((j : ℕ) → values_in d j ≡ values_in c j)
+  pub live_as : (c d : Content (IndexLink T)) → ((j : ℕ) → values_in d j ≡ values_in c j)
       → (j : ℕ) → is_some (entry_at d j) ≡ is_some (entry_at c j)
   live_as c d same j = sym (some_valued (entry_at d j)) ∙ ap is_some (same j)
       ∙ some_valued (entry_at c j)
 
-  pub none_of : (o : Option (ℕ × IndexLink I T)) → (IsSome o → ⊥) → o ≡ None
+  pub none_of : (o : Option (ℕ × IndexLink T)) → (IsSome o → ⊥) → o ≡ None
   none_of None not = refl
   none_of (Some e) not = absurd (not refl)
 
-module _ {I T : Type 0} (number : I → ℕ) where
-  some_ended : (o : Option (ℕ × IndexLink I T))
-      → is_some (option_map (entry_ends number) o) ≡ is_some o
+module _ {T : Type 0} where
+  some_ended : (o : Option (ℕ × IndexLink T))
+      → is_some (option_map entry_ends o) ≡ is_some o
   some_ended None = refl
   some_ended (Some e) = refl
 
-  pub live_ends : (c : Content (IndexLink I T)) (j : ℕ)
-      → is_some (ends_in number c j) ≡ is_some (entry_at c j)
+  pub live_ends : (c : Content (IndexLink T)) (j : ℕ)
+      → is_some (ends_in c j) ≡ is_some (entry_at c j)
   live_ends c j = some_ended (entry_at c j)
 
-  no_ends : (c : Content (IndexLink I T)) (j : ℕ) → entry_at c j ≡ None → ends_in number c j ≡ None
-  no_ends c j none = ap (option_map (entry_ends number)) none
+  no_ends : (c : Content (IndexLink T)) (j : ℕ) → entry_at c j ≡ None → ends_in c j ≡ None
+  no_ends c j none = ap (option_map entry_ends) none
 
   -- below an index the interlinks are these, and from there on as they were
   pub record IsPassed (wanted : ℕ → Option Ends) (low : ℕ)
-      (old new : Content (IndexLink I T)) : Type 0 where
-    pub passed : (j : ℕ) → j < low → ends_in number new j ≡ wanted j
-    pub ahead : (j : ℕ) → low ≤ j → ends_in number new j ≡ ends_in number old j
+      (old new : Content (IndexLink T)) : Type 0 where
+    pub passed : (j : ℕ) → j < low → ends_in new j ≡ wanted j
+    pub ahead : (j : ℕ) → low ≤ j → ends_in new j ≡ ends_in old j
     pub values : (j : ℕ) → values_in new j ≡ values_in old j
     pub kept : IsKept old new
     pub formed : IsWellFormed new
 
-  module _ (wanted : ℕ → Option Ends) (old : Content (IndexLink I T))
-      (free : (j : ℕ) → ends_in number old j ≡ None → wanted j ≡ None) where
+  module _ (wanted : ℕ → Option Ends) (old : Content (IndexLink T))
+      (free : (j : ℕ) → ends_in old j ≡ None → wanted j ≡ None) where
     pub begun : (low : ℕ) → low ≡ 1 → IsWellFormed old → IsPassed wanted low old old
     begun low is formed =
         record {
@@ -72,23 +72,23 @@ module _ {I T : Type 0} (number : I → ℕ) where
         }
 
     -- what is passed is not live from the lowest index to the one that is found
-    none_between : (c : Content (IndexLink I T)) (w : Walk) (i g : ℕ) → w.falls ≡ false
+    none_between : (c : Content (IndexLink T)) (w : Walk) (i g : ℕ) → w.falls ≡ false
         → IsFirstLive (entry_at c) w i g → (j : ℕ) → w.low ≤ j → j < i
         → entry_at c j ≡ None
     none_between c w i g rises first j above below =
         first.first j (above, omega (arith, below, first.ahead.1)) (rw rises below)
 
-    pub passed_one : (c new : Content (IndexLink I T)) (w : Walk) (i g : ℕ)
+    pub passed_one : (c new : Content (IndexLink T)) (w : Walk) (i g : ℕ)
         → IsPassed wanted w.low old c → w.falls ≡ false → IsFirstLive (entry_at c) w i g
-        → ends_in number new i ≡ wanted i
-        → ((j : ℕ) → j ≢ i → ends_in number new j ≡ ends_in number c j)
+        → ends_in new i ≡ wanted i
+        → ((j : ℕ) → j ≢ i → ends_in new j ≡ ends_in c j)
         → ((j : ℕ) → values_in new j ≡ values_in c j) → IsKept c new → IsWellFormed new
         → IsPassed wanted (i + 1) old new
     passed_one c new w i g p rises first here others values kept formed =
         record {
           passed = λ j below.
               elim (eqb_tells j i) [
-                | inl same ↦ subst (λ k. ends_in number new k ≡ wanted k) (sym same.1) here
+                | inl same ↦ subst (λ k. ends_in new k ≡ wanted k) (sym same.1) here
                 | inr other ↦
                     others j other.1
                     ∙ elim (leb_tells w.low j) [
@@ -115,53 +115,33 @@ module _ {I T : Type 0} (number : I → ℕ) where
               | inr under ↦ under.1
             ]
 
-    pub passed_all : (c : Content (IndexLink I T)) (w : Walk) → IsPassed wanted w.low old c
-        → ((j : ℕ) → IsSome (entry_at c j) → j ≤ w.high)
-        → ((j : ℕ) → IsAhead w j → entry_at c j ≡ None) → IsRelinked number wanted old c
-    passed_all c w p reaches over =
-        record {
-          ends = λ k.
-              elim (leb_tells w.low k) [
-                | inl above ↦
-                    let none = no_ends c k (left k above.1) in none
-                    ∙ sym (free k (sym (p.ahead k above.1) ∙ none))
-                | inr under ↦ p.passed k under.1
-              ];
-          values = p.values;
-          kept = p.kept;
-        }
-      where
-        left : (k : ℕ) → w.low ≤ k → entry_at c k ≡ None
-        left k above = none_of (entry_at c k)
-            (λ some. true≢false (sym some ∙ ap is_some (over k (above, reaches k some))))
-
-  pub prev_written : (c new : Content (IndexLink I T)) (i : I) (o : Option I) (k : ℕ) → number i ≡ k
-      → new ≡ with_prev_of number c (Some i) o
-      → ends_in number new k ≡ reprev (option_map number o) (ends_in number c k)
+  pub prev_written : (c new : Content (IndexLink T)) (i : ℕ) (o : Option ℕ) (k : ℕ) → i ≡ k
+      → new ≡ with_prev_of c (Some i) o
+      → ends_in new k ≡ reprev o (ends_in c k)
   prev_written c new i o k is made =
-      ap (λ d. ends_in number d k) made ∙ ends-with_prev_of number c (Some i) o k
-      ∙ rw (eq-eqb k (number i) (sym is)) refl
+      ap (λ d. ends_in d k) made ∙ ends-with_prev_of c (Some i) o k
+      ∙ rw (eq-eqb k i (sym is)) refl
 
-  pub prev_unwritten : (c new : Content (IndexLink I T)) (i : I) (o : Option I) (k : ℕ)
-      → number i ≡ k → new ≡ with_prev_of number c (Some i) o
-      → (j : ℕ) → j ≢ k → ends_in number new j ≡ ends_in number c j
+  pub prev_unwritten : (c new : Content (IndexLink T)) (i : ℕ) (o : Option ℕ) (k : ℕ)
+      → i ≡ k → new ≡ with_prev_of c (Some i) o
+      → (j : ℕ) → j ≢ k → ends_in new j ≡ ends_in c j
   prev_unwritten c new i o k is made j other =
-      ap (λ d. ends_in number d j) made ∙ ends-with_prev_of number c (Some i) o j
-      ∙ rw (ne_eqb j (number i) (λ same. other (same ∙ is))) refl
+      ap (λ d. ends_in d j) made ∙ ends-with_prev_of c (Some i) o j
+      ∙ rw (ne_eqb j i (λ same. other (same ∙ is))) refl
 
-  pub next_written : (c new : Content (IndexLink I T)) (i : I) (o : Option I) (k : ℕ) → number i ≡ k
-      → new ≡ with_next_of number c (Some i) o
-      → ends_in number new k ≡ renext (option_map number o) (ends_in number c k)
+  pub next_written : (c new : Content (IndexLink T)) (i : ℕ) (o : Option ℕ) (k : ℕ) → i ≡ k
+      → new ≡ with_next_of c (Some i) o
+      → ends_in new k ≡ renext o (ends_in c k)
   next_written c new i o k is made =
-      ap (λ d. ends_in number d k) made ∙ ends-with_next_of number c (Some i) o k
-      ∙ rw (eq-eqb k (number i) (sym is)) refl
+      ap (λ d. ends_in d k) made ∙ ends-with_next_of c (Some i) o k
+      ∙ rw (eq-eqb k i (sym is)) refl
 
-  pub next_unwritten : (c new : Content (IndexLink I T)) (i : I) (o : Option I) (k : ℕ)
-      → number i ≡ k → new ≡ with_next_of number c (Some i) o
-      → (j : ℕ) → j ≢ k → ends_in number new j ≡ ends_in number c j
+  pub next_unwritten : (c new : Content (IndexLink T)) (i : ℕ) (o : Option ℕ) (k : ℕ)
+      → i ≡ k → new ≡ with_next_of c (Some i) o
+      → (j : ℕ) → j ≢ k → ends_in new j ≡ ends_in c j
   next_unwritten c new i o k is made j other =
-      ap (λ d. ends_in number d j) made ∙ ends-with_next_of number c (Some i) o j
-      ∙ rw (ne_eqb j (number i) (λ same. other (same ∙ is))) refl
+      ap (λ d. ends_in d j) made ∙ ends-with_next_of c (Some i) o j
+      ∙ rw (ne_eqb j i (λ same. other (same ∙ is))) refl
 
 -- the number after a count, where it is an index of the type
 made_index : {I : Type 0} (number : I → ℕ) (o : Option I) (greatest n count : ℕ)
@@ -176,39 +156,39 @@ renumbered : (o : Option Ends) (n : ℕ)
 renumbered None n = refl
 renumbered (Some v) n = refl
 
-module _ {I T : Type 0} (number : I → ℕ) (old : Content (IndexLink I T)) where
+module _ {T : Type 0} (old : Content (IndexLink T)) where
   abbrev before : ℕ → Option Ends
-  before = ends_in number old
+  before = ends_in old
 
   pub free_numbered : (j : ℕ) → before j ≡ None → numbered before j ≡ None
   free_numbered j none = rw none refl
 
   -- the ranks up to the first live index
-  pub record IsCounted (c : Content (IndexLink I T)) (w : Walk) (i count : ℕ) : Type 0 where
+  pub record IsCounted (c : Content (IndexLink T)) (w : Walk) (i count : ℕ) : Type 0 where
     pub below : count + 1 ≤ i
     pub rank_is : count ≡ live_below before i
     pub after : count + 1 ≡ live_below before (i + 1)
 
-  pub counted : (c : Content (IndexLink I T)) (w : Walk) (i g count : ℕ)
-      → IsPassed number (numbered before) w.low old c → w.falls ≡ false
+  pub counted : (c : Content (IndexLink T)) (w : Walk) (i g count : ℕ)
+      → IsPassed (numbered before) w.low old c → w.falls ≡ false
       → IsFirstLive (entry_at c) w i g → count ≡ live_below before w.low → IsCounted c w i count
   counted c w i g count p rises first is = by_index i refl
     where
       some_live : IsSome (entry_at c i)
       some_live = by_entry (entry_at c i) first.live
         where
-          by_entry : (o : Option (ℕ × IndexLink I T))
-              → option_map (λ (e : ℕ × IndexLink I T). e.0) o ≡ Some g → IsSome o
+          by_entry : (o : Option (ℕ × IndexLink T))
+              → option_map (λ (e : ℕ × IndexLink T). e.0) o ≡ Some g → IsSome o
           by_entry None gone = absurd (cc)
           by_entry (Some e) is = refl
 
       live : IsSome (before i)
-      live = live_ends number old i ∙ sym (live_as old c p.values i) ∙ some_live
+      live = live_ends old i ∙ sym (live_as old c p.values i) ∙ some_live
 
       flat : live_below before i ≡ live_below before w.low
       flat = live_below-flat before w.low i first.ahead.0
           (λ j above under. sym (p.ahead j above)
-          ∙ no_ends number c j (first.first j (above, omega (arith, under, first.ahead.1))
+          ∙ no_ends c j (first.first j (above, omega (arith, under, first.ahead.1))
           (rw rises under)))
 
       by_index : (k : ℕ) → i ≡ k → IsCounted c w i count
@@ -228,28 +208,31 @@ module _ {I T : Type 0} (number : I → ℕ) (old : Content (IndexLink I T)) whe
           }
 
   -- the first live index ahead has its number
-  pub numbered_one : (c new : Content (IndexLink I T)) (w : Walk) (i g count greatest n : ℕ) (x : I)
-      (o : Option I)
-      → IsPassed number (numbered before) w.low old c → w.falls ≡ false
-      → IsFirstLive (entry_at c) w i g → IsCounted c w i count → number x ≡ i
-      → new ≡ with_prev_of number c (Some x) o → (IsNone o ↔ (greatest < n))
+  pub numbered_one : {I : Type 0} (number : I → ℕ) (c new : Content (IndexLink T)) (w : Walk)
+      (i g count greatest n : ℕ) (x : ℕ) (o : Option I)
+      → IsPassed (numbered before) w.low old c → w.falls ≡ false
+      → IsFirstLive (entry_at c) w i g → IsCounted c w i count → x ≡ i
+      → new ≡ with_prev_of c (Some x) (option_map number o)
+      → (IsNone o ↔ (greatest < n))
       → IfSome o (λ y. number y ≡ n) → n ≡ count + 1 → i ≤ greatest
-      → IsPassed number (numbered before) (i + 1) old new
-  numbered_one c new w i g count greatest n x o p rises first count_is at made past same is within =
+      → IsPassed (numbered before) (i + 1) old new
+  numbered_one number c new w i g count greatest n x o p rises first count_is at made past same is
+      within =
+      let own = option_map number o in
       let below = count_is.below in
       let index = made_index number o greatest n count past same is (omega (arith, below, within))
       in
-      passed_one number (numbered before) old free_numbered c new w i g p rises first
-      (prev_written number c new x o i at made ∙ ap (λ m. reprev m (ends_in number c i)) index
-      ∙ renumbered (ends_in number c i) (count + 1)
+      passed_one (numbered before) old free_numbered c new w i g p rises first
+      (prev_written c new x own i at made ∙ ap (λ m. reprev m (ends_in c i)) index
+      ∙ renumbered (ends_in c i) (count + 1)
       ∙ ap (λ e. option_map (λ (v : Ends). (let r : Ends = (Some (count + 1), v.1) in r)) e)
       (p.ahead i first.ahead.0)
       ∙ ap (λ m. option_map (λ (v : Ends). (let r : Ends = (Some (m + 1), v.1) in r)) (before i))
       count_is.rank_is)
-      (prev_unwritten number c new x o i at made)
-      (λ j. ap (λ d. values_in d j) made ∙ values-with_prev_of number c (Some x) o j)
-      (subst (IsKept c) (sym made) (kept-with_prev_of number c (Some x) o))
-      (subst IsWellFormed (sym made) (formed-with_prev_of number c (Some x) o p.formed))
+      (prev_unwritten c new x own i at made)
+      (λ j. ap (λ d. values_in d j) made ∙ values-with_prev_of c (Some x) own j)
+      (subst (IsKept c) (sym made) (kept-with_prev_of c (Some x) own))
+      (subst IsWellFormed (sym made) (formed-with_prev_of c (Some x) own p.formed))
 
 -- what was found is live
 pub found_live : {X : Type 0} (entries : ℕ → Option (ℕ × X)) (i g : ℕ)
@@ -260,14 +243,14 @@ found_live {X} entries i g live = by_entry (entries i) live
     by_entry None gone = absurd (cc)
     by_entry (Some e) is = refl
 
-module _ {I T : Type 0} (number : I → ℕ) where
-  pub unchanged : (c new : Content (IndexLink I T)) (at o : Option I)
-      → new ≡ with_prev_of number c at o → (j : ℕ) → values_in new j ≡ values_in c j
-  unchanged c new at o made j = ap (λ d. values_in d j) made ∙ values-with_prev_of number c at o j
+module _ {T : Type 0} where
+  pub unchanged : (c new : Content (IndexLink T)) (at o : Option ℕ)
+      → new ≡ with_prev_of c at o → (j : ℕ) → values_in new j ≡ values_in c j
+  unchanged c new at o made j = ap (λ d. values_in d j) made ∙ values-with_prev_of c at o j
 
-module _ {I T : Type 0} (number : I → ℕ) (old : Content (IndexLink I T)) where
+module _ {T : Type 0} (old : Content (IndexLink T)) where
   abbrev pub held : ℕ → Option Ends
-  held = ends_in number old
+  held = ends_in old
 
   pub free_forwarded : (j : ℕ) → held j ≡ None → forwarded held j ≡ None
   free_forwarded j none = rw none refl
@@ -279,48 +262,48 @@ module _ {I T : Type 0} (number : I → ℕ) (old : Content (IndexLink I T)) whe
   same_prev (Some v) = refl
 
   -- the previous indexes stay
-  prevs_stay : (c : Content (IndexLink I T)) (low : ℕ) → IsPassed number (forwarded held) low old c
+  prevs_stay : (c : Content (IndexLink T)) (low : ℕ) → IsPassed (forwarded held) low old c
       → (j : ℕ)
-      → prev_at (ends_in number c) j ≡ prev_at held j
+      → prev_at (ends_in c) j ≡ prev_at held j
   prevs_stay c low p j =
       elim (leb_tells low j) [
         | inl above ↦ ap prev_in (p.ahead j above.1)
         | inr under ↦ ap prev_in (p.passed j under.1) ∙ same_prev (held j)
       ]
 
-  prev_of_stays : (c : Content (IndexLink I T)) (low : ℕ)
-      → IsPassed number (forwarded held) low old c → (o : Option ℕ)
-      → prev_of (ends_in number c) o ≡ prev_of held o
+  prev_of_stays : (c : Content (IndexLink T)) (low : ℕ)
+      → IsPassed (forwarded held) low old c → (o : Option ℕ)
+      → prev_of (ends_in c) o ≡ prev_of held o
   prev_of_stays c low p None = refl
   prev_of_stays c low p (Some j) = prevs_stay c low p j
 
   -- what a link ahead names is live
-  pub passed_next : (c : Content (IndexLink I T)) (low : ℕ)
-      → IsPassed number (forwarded held) low old c
+  pub passed_next : (c : Content (IndexLink T)) (low : ℕ)
+      → IsPassed (forwarded held) low old c
       → ((p q : ℕ) → next_at held p ≡ Some q → IsSome (held q)) → (i : ℕ) → low ≤ i → (q : ℕ)
-      → next_at (ends_in number c) i ≡ Some q
+      → next_at (ends_in c) i ≡ Some q
       → IsSome (entry_at c q)
   passed_next c low p live i above q goes =
-      live_as old c p.values q ∙ sym (live_ends number old q)
+      live_as old c p.values q ∙ sym (live_ends old q)
       ∙ live i q (sym (ap next_in (p.ahead i above)) ∙ goes)
 
   -- the first live index ahead has its next under the new index
-  pub forwarded_one : (c new : Content (IndexLink I T)) (w : Walk) (i g : ℕ) (x : I) (o : Option I)
-      → IsPassed number (forwarded held) w.low old c → w.falls ≡ false
-      → IsFirstLive (entry_at c) w i g → number x ≡ i
-      → option_map number o ≡ prev_of (ends_in number c) (next_at (ends_in number c) i)
-      → new ≡ with_next_of number c (Some x) o → IsPassed number (forwarded held) (i + 1) old new
+  pub forwarded_one : (c new : Content (IndexLink T)) (w : Walk) (i g : ℕ) (x : ℕ) (o : Option ℕ)
+      → IsPassed (forwarded held) w.low old c → w.falls ≡ false
+      → IsFirstLive (entry_at c) w i g → x ≡ i
+      → o ≡ prev_of (ends_in c) (next_at (ends_in c) i)
+      → new ≡ with_next_of c (Some x) o → IsPassed (forwarded held) (i + 1) old new
   forwarded_one c new w i g x o p rises first at gives made =
-      passed_one number (forwarded held) old free_forwarded c new w i g p rises first
-      (next_written number c new x o i at made
-      ∙ ap (λ m. renext m (ends_in number c i))
-      (gives ∙ prev_of_stays c w.low p (next_at (ends_in number c) i))
+      passed_one (forwarded held) old free_forwarded c new w i g p rises first
+      (next_written c new x o i at made
+      ∙ ap (λ m. renext m (ends_in c i))
+      (gives ∙ prev_of_stays c w.low p (next_at (ends_in c) i))
       ∙ ap (λ e. renext (prev_of held (next_in e)) e) (p.ahead i first.ahead.0)
       ∙ by_ends (held i))
-      (next_unwritten number c new x o i at made)
-      (λ j. ap (λ d. values_in d j) made ∙ values-with_next_of number c (Some x) o j)
-      (subst (IsKept c) (sym made) (kept-with_next_of number c (Some x) o))
-      (subst IsWellFormed (sym made) (formed-with_next_of number c (Some x) o p.formed))
+      (next_unwritten c new x o i at made)
+      (λ j. ap (λ d. values_in d j) made ∙ values-with_next_of c (Some x) o j)
+      (subst (IsKept c) (sym made) (kept-with_next_of c (Some x) o))
+      (subst IsWellFormed (sym made) (formed-with_next_of c (Some x) o p.formed))
     where
       by_ends : (e : Option Ends)
           → renext (prev_of held (next_in e)) e
@@ -330,11 +313,11 @@ module _ {I T : Type 0} (number : I → ℕ) (old : Content (IndexLink I T)) whe
 
   -- no previous index but of a link that is passed, of which each that has a next is its previous
   -- one
-  pub record IsJoined (low : ℕ) (c : Content (IndexLink I T)) : Type 0 where
-    pub nexts : (j : ℕ) → next_at (ends_in number c) j ≡ next_at held j
+  pub record IsJoined (low : ℕ) (c : Content (IndexLink T)) : Type 0 where
+    pub nexts : (j : ℕ) → next_at (ends_in c) j ≡ next_at held j
     pub joined : (p q : ℕ) → p < low → next_at held p ≡ Some q
-        → prev_at (ends_in number c) q ≡ Some p
-    pub only : (p q : ℕ) → prev_at (ends_in number c) q ≡ Some p
+        → prev_at (ends_in c) q ≡ Some p
+    pub only : (p q : ℕ) → prev_at (ends_in c) q ≡ Some p
         → (p < low) × (next_at held p ≡ Some q)
     pub values : (j : ℕ) → values_in c j ≡ values_in old j
     pub kept : IsKept old c
@@ -365,29 +348,29 @@ module _ {I T : Type 0} (number : I → ℕ) (old : Content (IndexLink I T)) whe
   prev_reprev m None some = absurd (true≢false (sym some))
   prev_reprev m (Some v) some = refl
 
-module _ {I T : Type 0} (number : I → ℕ) where
-  pub next_unchanged : (c new : Content (IndexLink I T)) (at o : Option I)
-      → new ≡ with_next_of number c at o → (j : ℕ) → values_in new j ≡ values_in c j
+module _ {T : Type 0} where
+  pub next_unchanged : (c new : Content (IndexLink T)) (at o : Option ℕ)
+      → new ≡ with_next_of c at o → (j : ℕ) → values_in new j ≡ values_in c j
   next_unchanged c new at o made j = ap (λ d. values_in d j) made
-      ∙ values-with_next_of number c at o j
+      ∙ values-with_next_of c at o j
 
-module _ {I T : Type 0} (number : I → ℕ) (old : Content (IndexLink I T)) where
+module _ {T : Type 0} (old : Content (IndexLink T)) where
   -- a next that is there is live
-  pub next_live : (low : ℕ) (c : Content (IndexLink I T)) (o : Option I) (i : ℕ)
-      → IsJoined number old low c
-      → ((p q : ℕ) → next_at (held number old) p ≡ Some q → IsSome (held number old q))
-      → option_map number o ≡ next_at (ends_in number c) i
-      → IfSome o (λ y. IsSome (entry_at c (number y)))
+  pub next_live : (low : ℕ) (c : Content (IndexLink T)) (o : Option ℕ) (i : ℕ)
+      → IsJoined old low c
+      → ((p q : ℕ) → next_at (held old) p ≡ Some q → IsSome (held old q))
+      → o ≡ next_at (ends_in c) i
+      → IfSome o (λ y. IsSome (entry_at c y))
   next_live low c None i j live goes = tt
   next_live low c (Some y) i j live goes =
-      live_as old c j.values (number y) ∙ sym (live_ends number old (number y))
-      ∙ live i (number y) (sym (j.nexts i) ∙ sym goes)
+      live_as old c j.values y ∙ sym (live_ends old y)
+      ∙ live i y (sym (j.nexts i) ∙ sym goes)
 
-  module _ (apart : AreNextsApart number old) (c new : Content (IndexLink I T)) (w : Walk) (i g : ℕ)
-      (x : I) (j : IsJoined number old w.low c)
-      (rises : w.falls ≡ false) (first : IsFirstLive (entry_at c) w i g) (at : number x ≡ i) where
+  module _ (apart : AreNextsApart old) (c new : Content (IndexLink T)) (w : Walk) (i g : ℕ)
+      (x : ℕ) (j : IsJoined old w.low c)
+      (rises : w.falls ≡ false) (first : IsFirstLive (entry_at c) w i g) (at : x ≡ i) where
     -- a link up to this one that has a next is passed, or is this one
-    up_to : (p q : ℕ) → p < i + 1 → next_at (held number old) p ≡ Some q → (p < w.low) ⊎ (p ≡ i)
+    up_to : (p q : ℕ) → p < i + 1 → next_at (held old) p ≡ Some q → (p < w.low) ⊎ (p ≡ i)
     up_to p q below goes =
         elim (leb_tells w.low p) [
           | inl above ↦
@@ -400,7 +383,7 @@ module _ {I T : Type 0} (number : I → ℕ) (old : Content (IndexLink I T)) whe
                       | inr less ↦
                           less.1
                     ] in
-                    let none = no_ends number c p
+                    let none = no_ends c p
                     (first.first p (above.1, omega (arith, under, first.ahead.1))
                     (rw rises under)) in
                     let gone : None ≡ Some q = sym (ap next_in none) ∙ j.nexts p ∙ goes in
@@ -410,7 +393,7 @@ module _ {I T : Type 0} (number : I → ℕ) (old : Content (IndexLink I T)) whe
           | inr under ↦ inl under.1
         ]
 
-    here_none : next_at (ends_in number c) i ≡ None → IsJoined number old (i + 1) c
+    here_none : next_at (ends_in c) i ≡ None → IsJoined old (i + 1) c
     here_none ends =
         record {
           nexts = j.nexts;
@@ -418,7 +401,7 @@ module _ {I T : Type 0} (number : I → ℕ) (old : Content (IndexLink I T)) whe
               elim (up_to p q below goes) [
                 | inl under ↦ j.joined p q under goes
                 | inr same ↦ absurd (let gone : None ≡ Some q = sym ends ∙ j.nexts i
-                    ∙ ap (next_at (held number old)) (sym same) ∙ goes in cc)
+                    ∙ ap (next_at (held old)) (sym same) ∙ goes in cc)
               ];
           only = λ p q comes. let o = j.only p q comes in (omega (arith, o.0, first.ahead.0), o.1);
           values = j.values;
@@ -426,97 +409,74 @@ module _ {I T : Type 0} (number : I → ℕ) (old : Content (IndexLink I T)) whe
           formed = j.formed;
         }
 
-    here_some : (y : I) → next_at (ends_in number c) i ≡ Some (number y)
-        → IsSome (entry_at c (number y)) → new ≡ with_prev_of number c (Some y) (Some x)
-        → IsJoined number old (i + 1) new
+    here_some : (y : ℕ) → next_at (ends_in c) i ≡ Some y
+        → IsSome (entry_at c y) → new ≡ with_prev_of c (Some y) (Some x)
+        → IsJoined old (i + 1) new
     here_some y goes some made =
         record {
           nexts = λ k.
-              elim (eqb_tells k (number y)) [
-                | inl same ↦ subst (λ n. next_at (ends_in number new) n
-                    ≡ next_at (ends_in number c) n) (sym same.1)
-                    (ap next_in written ∙ next_reprev number old (Some (number x))
-                    (ends_in number c (number y)))
+              elim (eqb_tells k y) [
+                | inl same ↦ subst (λ n. next_at (ends_in new) n
+                    ≡ next_at (ends_in c) n) (sym same.1)
+                    (ap next_in written ∙ next_reprev old (Some x)
+                    (ends_in c y))
                 | inr other ↦ ap next_in (unwritten k other.1)
               ] ∙ j.nexts k;
           joined = λ p q below out.
-              elim (eqb_tells q (number y)) [
+              elim (eqb_tells q y) [
                 | inl same ↦
-                    let is : p ≡ i = apart p i (number y) (out ∙ ap Some same.1)
+                    let is : p ≡ i = apart p i y (out ∙ ap Some same.1)
                     (sym (j.nexts i) ∙ goes) in
-                    ap (prev_at (ends_in number new)) same.1 ∙ prev_here ∙ ap Some (sym is)
+                    ap (prev_at (ends_in new)) same.1 ∙ prev_here ∙ ap Some (sym is)
                 | inr other ↦
                     ap prev_in (unwritten q other.1)
                     ∙ elim (up_to p q below out) [
                       | inl under ↦ j.joined p q under out
                       | inr is ↦
                           absurd (other.1 (
-                          let both : Some q ≡ Some (number y) = sym out
-                          ∙ ap (next_at (held number old)) is ∙ sym (j.nexts i) ∙ goes in
-                          let same : q ≡ number y = cc in
+                          let both : Some q ≡ Some y = sym out
+                          ∙ ap (next_at (held old)) is ∙ sym (j.nexts i) ∙ goes in
+                          let same : q ≡ y = cc in
                           same
                           ))
                     ]
               ];
           only = λ p q comes.
-              elim (eqb_tells q (number y)) [
+              elim (eqb_tells q y) [
                 | inl same ↦
                     let back : Some i ≡ Some p = sym prev_here
-                    ∙ ap (prev_at (ends_in number new)) (sym same.1) ∙ comes in
+                    ∙ ap (prev_at (ends_in new)) (sym same.1) ∙ comes in
                     let is : i ≡ p = cc in (
                       omega (arith, is),
-                      ap (next_at (held number old)) (sym is) ∙ sym (j.nexts i)
+                      ap (next_at (held old)) (sym is) ∙ sym (j.nexts i)
                           ∙ goes ∙ ap Some (sym same.1),
                     )
                 | inr other ↦ let o = j.only p q (sym (ap prev_in (unwritten q other.1)) ∙ comes) in
                     (omega (arith, o.0, first.ahead.0), o.1)
               ];
-          values = λ k. unchanged number c new (Some y) (Some x) made k ∙ j.values k;
+          values = λ k. unchanged c new (Some y) (Some x) made k ∙ j.values k;
           kept = kept_on old c new j.kept
-              (subst (IsKept c) (sym made) (kept-with_prev_of number c (Some y) (Some x)));
+              (subst (IsKept c) (sym made) (kept-with_prev_of c (Some y) (Some x)));
           formed = subst IsWellFormed (sym made)
-              (formed-with_prev_of number c (Some y) (Some x) j.formed);
+              (formed-with_prev_of c (Some y) (Some x) j.formed);
         }
       where
-        written : ends_in number new (number y)
-            ≡ reprev (Some (number x)) (ends_in number c (number y))
-        written = prev_written number c new y (Some x) (number y) refl made
+        written : ends_in new y
+            ≡ reprev (Some x) (ends_in c y)
+        written = prev_written c new y (Some x) y refl made
 
-        unwritten : (k : ℕ) → k ≢ number y → ends_in number new k ≡ ends_in number c k
-        unwritten = prev_unwritten number c new y (Some x) (number y) refl made
+        unwritten : (k : ℕ) → k ≢ y → ends_in new k ≡ ends_in c k
+        unwritten = prev_unwritten c new y (Some x) y refl made
 
-        prev_here : prev_at (ends_in number new) (number y) ≡ Some i
+        prev_here : prev_at (ends_in new) y ≡ Some i
         prev_here =
-            ap prev_in written ∙ prev_reprev number old (Some (number x))
-            (ends_in number c (number y)) (live_ends number c (number y) ∙ some) ∙ ap Some at
+            ap prev_in written ∙ prev_reprev old (Some x)
+            (ends_in c y) (live_ends c y ∙ some) ∙ ap Some at
 
     -- the next of the first live index ahead has it as its previous one
-    pub joined_one : (next : Option I) → option_map number next ≡ next_at (ends_in number c) i
-        → IfSome next (λ y. IsSome (entry_at c (number y)))
-        → new ≡ with_prev_of number c next (Some x) → IsJoined number old (i + 1) new
+    pub joined_one : (next : Option ℕ) → next ≡ next_at (ends_in c) i
+        → IfSome next (λ y. IsSome (entry_at c y))
+        → new ≡ with_prev_of c next (Some x) → IsJoined old (i + 1) new
     joined_one None goes some made =
-        subst (IsJoined number old (i + 1)) (sym made) (here_none (sym goes))
+        subst (IsJoined old (i + 1)) (sym made) (here_none (sym goes))
     joined_one (Some y) goes some made = here_some y (sym goes) some made
-
-  -- all are joined
-  pub joined_all : (c : Content (IndexLink I T)) (w : Walk) → IsJoined number old w.low c
-      → ((j : ℕ) → IsSome (entry_at c j) → j ≤ w.high)
-      → ((j : ℕ) → IsAhead w j → entry_at c j ≡ None) → IsAgreed (ends_in number c)
-  joined_all c w j reaches over =
-      record { forward = forward; backward = λ p q comes. j.nexts p ∙ (j.only p q comes).1 }
-    where
-      forward : (p q : ℕ) → next_at (ends_in number c) p ≡ Some q
-          → prev_at (ends_in number c) q ≡ Some p
-      forward p q goes =
-          elim (leb_tells w.low p) [
-            | inl above ↦
-                absurd (
-                let none = no_ends number c p
-                (none_of (entry_at c p)
-                (λ some. true≢false (sym some ∙ ap is_some (over p (above.1, reaches p some)))))
-                in
-                let gone : None ≡ Some q = sym (ap next_in none) ∙ goes in
-                cc
-                )
-            | inr under ↦ j.joined p q under.1 (sym (j.nexts p) ∙ goes)
-          ]

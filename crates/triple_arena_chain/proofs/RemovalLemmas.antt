@@ -30,95 +30,95 @@ entry_of_value : {T : Type 0} (o : Option (ℕ × T)) (t : T)
 entry_of_value None t is = absurd (let no : None ≡ Some t = is in cc)
 entry_of_value (Some e) t is = (e.0, ap (λ x. Some (e.0, x)) (some_is is))
 
-module _ {I T : Type 0} (number : I → ℕ) where
+module _ {T : Type 0} where
   -- what a link names is live
-  pub neighbors_live : (c : Content (IndexLink I T)) (p : ℕ) (l : IndexLink I T)
-      → IsChained number c → option_map (λ (e : ℕ × IndexLink I T). e.1) (entry_at c p) ≡ Some l
-      → AreNeighborsLive number c (Between l.prev l.next)
+  pub neighbors_live : (c : Content (IndexLink T)) (p : ℕ) (l : IndexLink T)
+      → IsChained c → option_map (λ (e : ℕ × IndexLink T). e.1) (entry_at c p) ≡ Some l
+      → AreNeighborsLive c (Between l.prev l.next)
   neighbors_live c p l chained seen =
       let at = (entry_of_value (entry_at c p) l seen).1 in (
-        by_prev l.prev (ap (λ o. prev_in (option_map (entry_ends number) o)) at),
-        by_next l.next (ap (λ o. next_in (option_map (entry_ends number) o)) at),
+        by_prev l.prev (ap (λ o. prev_in (option_map entry_ends o)) at),
+        by_next l.next (ap (λ o. next_in (option_map entry_ends o)) at),
       )
     where
-      by_prev : (o : Option I) → prev_in (ends_in number c p) ≡ option_map number o
-          → IfSome o (λ i. IsSome (entry_at c (number i)))
+      by_prev : (o : Option ℕ) → prev_in (ends_in c p) ≡ o
+          → IfSome o (λ i. IsSome (entry_at c i))
       by_prev None is = tt
-      by_prev (Some i) is = live_prev number c p (number i) chained is
+      by_prev (Some i) is = live_prev c p i chained is
 
-      by_next : (o : Option I) → next_in (ends_in number c p) ≡ option_map number o
-          → IfSome o (λ i. IsSome (entry_at c (number i)))
+      by_next : (o : Option ℕ) → next_in (ends_in c p) ≡ o
+          → IfSome o (λ i. IsSome (entry_at c i))
       by_next None is = tt
-      by_next (Some i) is = live_next number c p (number i) chained is
+      by_next (Some i) is = live_next c p i chained is
 
   -- a link stays as it is where its own next, or its own previous one, is written again
-  next_again : (c : Content (IndexLink I T)) (p g : ℕ) (l : IndexLink I T) (o : Option I)
+  next_again : (c : Content (IndexLink T)) (p g : ℕ) (l : IndexLink T) (o : Option ℕ)
       → entry_at c p ≡ Some (g, l)
-      → entry_at (with_next_of number c o l.next) p ≡ Some (g, l)
+      → entry_at (with_next_of c o l.next) p ≡ Some (g, l)
   next_again c p g l None at = at
   next_again c p g l (Some i) at =
-      entry-with_link c (number i) (λ link. record link { next = l.next }) p
-      ∙ elim (eqb_tells p (number i)) [
+      entry-with_link c i (λ link. record link { next = l.next }) p
+      ∙ elim (eqb_tells p i) [
         | inl same ↦
             rw same.0
-            (ap (option_map (λ (e : ℕ × IndexLink I T). (let v : ℕ × IndexLink I T =
+            (ap (option_map (λ (e : ℕ × IndexLink T). (let v : ℕ × IndexLink T =
             (e.0, record e.1 { next = l.next }) in v))) (ap (entry_at c) (sym same.1) ∙ at))
         | inr differs ↦ rw differs.0 at
       ]
 
-  prev_again : (c : Content (IndexLink I T)) (p g : ℕ) (l : IndexLink I T) (o : Option I)
+  prev_again : (c : Content (IndexLink T)) (p g : ℕ) (l : IndexLink T) (o : Option ℕ)
       → entry_at c p ≡ Some (g, l)
-      → entry_at (with_prev_of number c o l.prev) p ≡ Some (g, l)
+      → entry_at (with_prev_of c o l.prev) p ≡ Some (g, l)
   prev_again c p g l None at = at
   prev_again c p g l (Some i) at =
-      entry-with_link c (number i) (λ link. record link { prev = l.prev }) p
-      ∙ elim (eqb_tells p (number i)) [
+      entry-with_link c i (λ link. record link { prev = l.prev }) p
+      ∙ elim (eqb_tells p i) [
         | inl same ↦
             rw same.0
-            (ap (option_map (λ (e : ℕ × IndexLink I T). (let v : ℕ × IndexLink I T =
+            (ap (option_map (λ (e : ℕ × IndexLink T). (let v : ℕ × IndexLink T =
             (e.0, record e.1 { prev = l.prev }) in v))) (ap (entry_at c) (sym same.1) ∙ at))
         | inr differs ↦ rw differs.0 at
       ]
 
   -- a link is as it was once its neighbors are joined
-  pub entry-bridged : (c : Content (IndexLink I T)) (p g : ℕ) (l : IndexLink I T)
-      → entry_at c p ≡ Some (g, l) → entry_at (bridged_over number c l) p ≡ Some (g, l)
+  pub entry-bridged : (c : Content (IndexLink T)) (p g : ℕ) (l : IndexLink T)
+      → entry_at c p ≡ Some (g, l) → entry_at (bridged_over c l) p ≡ Some (g, l)
   entry-bridged c p g l at =
-      prev_again (with_next_of number c l.prev l.next) p g l l.next (next_again c p g l l.prev at)
+      prev_again (with_next_of c l.prev l.next) p g l l.next (next_again c p g l l.prev at)
 
-  pub record TakenOut (last : Option ℕ) (p : ℕ) (c new : Content (IndexLink I T)) : Type 0 where
-    pub taken : IsTakenOut number last p c new
-    pub chained : IsChained number new
+  pub record TakenOut (last : Option ℕ) (p : ℕ) (c new : Content (IndexLink T)) : Type 0 where
+    pub taken : IsTakenOut last p c new
+    pub chained : IsChained new
 
   -- a link is removed once its neighbors are joined
-  pub taken_out_by : (last : Option ℕ) (c joined new : Content (IndexLink I T)) (p g : ℕ)
-      (l : IndexLink I T) → IsChained number c
-      → entry_at c p ≡ Some (g, l) → joined ≡ bridged_over number c l → new ≡ removed last joined p
+  pub taken_out_by : (last : Option ℕ) (c joined new : Content (IndexLink T)) (p g : ℕ)
+      (l : IndexLink T) → IsChained c
+      → entry_at c p ≡ Some (g, l) → joined ≡ bridged_over c l → new ≡ removed last joined p
       → TakenOut last p c new
   taken_out_by last c joined new p g l chained at join remove =
-      let d = bridged_over number c l in
-      let e = ends_in number c in
-      let b = option_map number l.prev in
-      let n = option_map number l.next in
-      let own : e p ≡ Some (b, n) = ap (option_map (entry_ends number)) at in
+      let d = bridged_over c l in
+      let e = ends_in c in
+      let b = l.prev in
+      let n = l.next in
+      let own : e p ≡ Some (b, n) = ap (option_map entry_ends) at in
       let live : IsSome (entry_at d p) = ap is_some (entry-bridged c p g l at) in
-      let joined_by = both_written number c d l.prev l.next l.next l.prev refl in
+      let joined_by = both_written c d l.prev l.next l.next l.prev refl in
       let kept = joined_by.kept in
       let is : new ≡ removed last d p = remove ∙ ap (λ x. removed last x p) join in
       let dropped_ends : (k : ℕ)
-      → ends_in number (removed last d p) k ≡ dropped (bridged e b n) p k =
-      λ k. ap (option_map (entry_ends number)) (entry-removed last d p live k)
+      → ends_in (removed last d p) k ≡ dropped (bridged e b n) p k =
+      λ k. ap (option_map entry_ends) (entry-removed last d p live k)
       ∙ elim (eqb_tells k p) [
         | inl same ↦ rw same.0 refl
         | inr differs ↦ rw differs.0 (joined_by.ends k)
       ] in
-      let ends : (k : ℕ) → ends_in number (removed last d p) k ≡ taken_from e p (e p) k =
+      let ends : (k : ℕ) → ends_in (removed last d p) k ≡ taken_from e p (e p) k =
       λ k. dropped_ends k ∙ ap (λ o. taken_from e p o k) (sym own) in
       rw is
       (record {
         taken = record {
           ends = ends;
-          lists = is_taken e chained.agreed p b n own (ends_in number (removed last d p)) ends;
+          lists = is_taken e chained.agreed p b n own (ends_in (removed last d p)) ends;
           values = λ k.
               ap (option_map valued) (entry-removed last d p live k)
               ∙ elim (eqb_tells k p) [
@@ -138,43 +138,43 @@ module _ {I T : Type 0} (number : I → ℕ) where
         };
         chained = record {
           formed = formed-removed last d p live
-              (both_formed number c d l.prev l.next l.next l.prev refl chained.formed);
-          agreed = IsAgreed-same (dropped (bridged e b n) p) (ends_in number (removed last d p))
+              (both_formed c d l.prev l.next l.next l.prev refl chained.formed);
+          agreed = IsAgreed-same (dropped (bridged e b n) p) (ends_in (removed last d p))
               dropped_ends (IsAgreed-taken e p b n own chained.agreed);
         };
       })
 
   -- a link that is live is so once its neighbors are joined
-  pub live_bridged : (c d : Content (IndexLink I T)) (p : ℕ) (l : IndexLink I T)
-      → option_map (λ (e : ℕ × IndexLink I T). e.1) (entry_at c p) ≡ Some l
-      → d ≡ bridged_over number c l → IsSome (entry_at d p)
+  pub live_bridged : (c d : Content (IndexLink T)) (p : ℕ) (l : IndexLink T)
+      → option_map (λ (e : ℕ × IndexLink T). e.1) (entry_at c p) ≡ Some l
+      → d ≡ bridged_over c l → IsSome (entry_at d p)
   live_bridged c d p l seen join =
       let found = entry_of_value (entry_at c p) l seen in
       ap (λ x. is_some (entry_at x p)) join
       ∙ ap is_some (entry-bridged c p found.0 l found.1)
 
   -- the entry of a link that is taken out once its neighbors are joined
-  pub record TakenLive (last : Option ℕ) (p g : ℕ) (link : IndexLink I T)
-      (c new : Content (IndexLink I T)) : Type 0 where
+  pub record TakenLive (last : Option ℕ) (p g : ℕ) (link : IndexLink T)
+      (c new : Content (IndexLink T)) : Type 0 where
     pub value : Some (g, link) ≡ entry_at c p
-    pub taken : IsTakenOut number last p c new
-    pub exact : new ≡ removed last (bridged_over number c link) p
-    pub chained : IsChained number new
+    pub taken : IsTakenOut last p c new
+    pub exact : new ≡ removed last (bridged_over c link) p
+    pub chained : IsChained new
 
-  pub taken_live : (last : Option ℕ) (c d new : Content (IndexLink I T)) (p g : ℕ)
-      (l link : IndexLink I T) → IsChained number c
-      → option_map (λ (e : ℕ × IndexLink I T). e.1) (entry_at c p) ≡ Some l
-      → d ≡ bridged_over number c l → Some (g, link) ≡ entry_at d p → new ≡ removed last d p
+  pub taken_live : (last : Option ℕ) (c d new : Content (IndexLink T)) (p g : ℕ)
+      (l link : IndexLink T) → IsChained c
+      → option_map (λ (e : ℕ × IndexLink T). e.1) (entry_at c p) ≡ Some l
+      → d ≡ bridged_over c l → Some (g, link) ≡ entry_at d p → new ≡ removed last d p
       → TakenLive last p g link c new
   taken_live last c d new p g l link chained seen join value remove =
       let found = entry_of_value (entry_at c p) l seen in
       let t = taken_out_by last c d new p found.0 l chained found.1 join remove in
       let given = value ∙ ap (λ x. entry_at x p) join ∙ entry-bridged c p found.0 l found.1 in
-      let same = ap (λ (e : ℕ × IndexLink I T). e.1) (some_is given) in
+      let same = ap (λ (e : ℕ × IndexLink T). e.1) (some_is given) in
       record {
         value = given ∙ sym found.1;
         taken = t.taken;
         exact = remove ∙ ap (λ x. removed last x p)
-            (join ∙ ap (bridged_over number c) (sym same));
+            (join ∙ ap (bridged_over c) (sym same));
         chained = t.chained;
       }

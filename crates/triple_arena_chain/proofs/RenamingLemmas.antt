@@ -8,7 +8,7 @@ use Rattle.std.proofs.lemmas.Bool.Decides.{leb_tells}
 use Rattle.triple_arena.specs.Content.{Content, entry_at}
 use Rattle.triple_arena.specs.LiveEntries.{listed_from}
 use Rattle.triple_arena_chain.specs.Chains.{Ends, next_at, prev_at, IsAgreed, first_or, last_or}
-use Rattle.triple_arena_chain.specs.Chains.{Stands, Off, On, Apart}
+use Rattle.triple_arena_chain.specs.Chains.{IsSegment, Off, On, Apart}
 use Rattle.triple_arena_chain.specs.ChainLaws.{On-cons}
 use Rattle.triple_arena_chain.specs.ListLaws.{of_live, live_next_in, live_prev_in, live_on}
 use Rattle.triple_arena_chain.specs.ListLaws.{On-first}
@@ -255,8 +255,8 @@ module _ (to : ℕ → ℕ) (old new : ℕ → Option Ends) where
         lasts b [] = refl
         lasts b (x ∷ xs) = lasts (Some x) xs
 
-        stands : (b a : Option ℕ) (xs : List ℕ) → Stands old b xs a
-            → Stands new (option_map to b) (map to xs) (option_map to a)
+        stands : (b a : Option ℕ) (xs : List ℕ) → IsSegment old b xs a
+            → IsSegment new (option_map to b) (map to xs) (option_map to a)
         stands b a [] s = tt
         stands b a (x ∷ xs) s = (
           ends x (ap is_some s.0) ∙ ap (option_map (ends_renamed to)) s.0
@@ -283,9 +283,10 @@ module _ (to : ℕ → ℕ) (old new : ℕ → Option Ends) where
         lists (Linear xs) s = stands None None xs s
         lists (Cyclic xs) ring =
             record {
-              stands = subst (λ o. Stands new o (map to xs) (first_or (map to xs) None))
+              stands = subst (λ o. IsSegment new o (map to xs) (first_or (map to xs) None))
                   (lasts None xs)
-                  (subst (Stands new (option_map to (last_or None xs)) (map to xs)) (firsts xs None)
+                  (subst (IsSegment new (option_map to (last_or None xs)) (map to xs))
+                  (firsts xs None)
                   (stands (last_or None xs) (first_or xs None) xs ring.stands));
               apart = aparts xs (λ k there. live_on old (last_or None xs) (first_or xs None) xs k
                   ring.stands there) ring.apart;

@@ -29,10 +29,10 @@ none_free number root [] is first told so = refl
 none_free number None (x ∷ xs) is first told so = absurd (let no : None ≡ Some x = first in cc)
 none_free number (Some i) (x ∷ xs) is first told so = absurd (true≢false (told ∙ ap not so))
 
-module _ {I T : Type 0} (number : I → ℕ) (last : Option ℕ) (reset : Bool)
-    (c0 c3 : Content (IndexLink I T)) where
+module _ {T : Type 0} (last : Option ℕ) (reset : Bool)
+    (c0 c3 : Content (IndexLink T)) where
   pub record AreRenewed : Type 0 where
-    pub chained : IsChained number c0
+    pub chained : IsChained c0
     pub full : c0.free ≡ []
     pub links : AllZip IsLeftInPlace (live_entries c0) (live_entries c3)
     pub compressed : IsCompressed entry_at live_count some_counter room_in last live_entries reset
@@ -41,7 +41,7 @@ module _ {I T : Type 0} (number : I → ℕ) (last : Option ℕ) (reset : Bool)
 
   module _ (m : AreRenewed) where
     abbrev e0 : ℕ → Option Ends
-    e0 = ends_in number c0
+    e0 = ends_in c0
 
     pub renewed_listed : AreListed last reset c0 c0 c3 c3
     renewed_listed =
@@ -70,19 +70,19 @@ module _ {I T : Type 0} (number : I → ℕ) (last : Option ℕ) (reset : Bool)
     fixed : (i : ℕ) → IsSome (e0 i) → new_index e0 i ≡ i
     fixed zero some = absurd (true≢false (sym some))
     fixed (suc k) some =
-        let within = within_slots number c0 (suc k) some in
+        let within = within_slots c0 (suc k) some in
         live_below_full e0 (suc k) refl
-        (λ j low high. full_live number c0 j m.chained.formed m.full low
+        (λ j low high. full_live c0 j m.chained.formed m.full low
         (omega (arith, within, high))) (omega arith)
 
     ranked : (k : ℕ) → live_below e0 (suc k) ≡ live_below (slot_at c0.slots) k
-    ranked k = slots_ranked e0 c0 (λ j. sym (live_ends number c0 j)) k
+    ranked k = slots_ranked e0 c0 (λ j. sym (live_ends c0 j)) k
 
     -- a link stays where it is
-    stays : (k : ℕ) (e : ℕ × IndexLink I T) → slot_at c0.slots k ≡ Some e
-        → ends_in number c3 (suc k) ≡ Some (entry_ends number e)
+    stays : (k : ℕ) (e : ℕ × IndexLink T) → slot_at c0.slots k ≡ Some e
+        → ends_in c3 (suc k) ≡ Some (entry_ends e)
     stays k e is =
-        let own = fixed (suc k) (ap (λ o. is_some (option_map (entry_ends number) o)) is) in
+        let own = fixed (suc k) (ap (λ o. is_some (option_map entry_ends o)) is) in
         let rank = ranked k in
         let here : live_below (slot_at c0.slots) k ≡ k = omega (arith, own, rank) in
         let there = listed-ranked 1 k c0.slots e is in
@@ -91,41 +91,41 @@ module _ {I T : Type 0} (number : I → ℕ) (last : Option ℕ) (reset : Bool)
         let next : suc k ≡ k + 1 = omega arith in
         let placed = entry_placed last reset c0 c3 m.compressed k z.0
         (ap (slice_get (live_entries c3)) (sym here) ∙ z.1) in
-        ap (ends_in number c3) next
-        ∙ ap (option_map (entry_ends number)) placed
-        ∙ ap (λ o. Some (option_map number o, option_map number z.0.1.1.next)) z.2.0
-        ∙ ap (λ o. Some (option_map number e.1.prev, option_map number o)) z.2.1
+        ap (ends_in c3) next
+        ∙ ap (option_map entry_ends) placed
+        ∙ ap (λ o. Some (o, z.0.1.1.next)) z.2.0
+        ∙ ap (λ o. Some (e.1.prev, o)) z.2.1
 
     -- and there is no other one
-    from : (k : ℕ) (f : ℕ × (ℕ × IndexLink I T)) → slice_get (live_entries c3) k ≡ Some f
+    from : (k : ℕ) (f : ℕ × (ℕ × IndexLink T)) → slice_get (live_entries c3) k ≡ Some f
         → IsSome (slot_at c0.slots k)
     from k f is =
         let z = zip_back IsLeftInPlace (live_entries c0) (live_entries c3) m.links k f is in
         let o = listed-onto 1 k c0.slots z.0 z.1 in
-        let own = fixed (suc o.0) (ap (λ s. is_some (option_map (entry_ends number) s)) o.1) in
+        let own = fixed (suc o.0) (ap (λ s. is_some (option_map entry_ends s)) o.1) in
         let rank = ranked o.0 in
         let same : k ≡ o.0 = omega (arith, own, rank, o.2) in
         ap (λ n. is_some (slot_at c0.slots n)) same ∙ ap is_some o.1
 
-    same : (k : ℕ) → ends_in number c3 k ≡ ends_in number c0 k
+    same : (k : ℕ) → ends_in c3 k ≡ ends_in c0 k
     same zero = refl
     same (suc k) = by (slot_at c0.slots k) refl
       where
-        none : (o : Option (ℕ × (ℕ × IndexLink I T))) → slice_get (live_entries c3) k ≡ o
+        none : (o : Option (ℕ × (ℕ × IndexLink T))) → slice_get (live_entries c3) k ≡ o
             → slot_at c0.slots k ≡ None
-            → option_map (entry_ends number) (option_map entry_of_listed o) ≡ None
+            → option_map entry_ends (option_map entry_of_listed o) ≡ None
         none None is gone = refl
         none (Some f) is gone = absurd (true≢false (sym (from k f is) ∙ ap is_some gone))
 
-        by : (o : Option (ℕ × IndexLink I T)) → slot_at c0.slots k ≡ o
-            → ends_in number c3 (suc k) ≡ ends_in number c0 (suc k)
+        by : (o : Option (ℕ × IndexLink T)) → slot_at c0.slots k ≡ o
+            → ends_in c3 (suc k) ≡ ends_in c0 (suc k)
         by None is =
             let next : suc k ≡ k + 1 = omega arith in
-            ap (ends_in number c3) next
-            ∙ ap (option_map (entry_ends number)) (m.compressed.entries k)
+            ap (ends_in c3) next
+            ∙ ap (option_map entry_ends) (m.compressed.entries k)
             ∙ none (slice_get (live_entries c3) k) refl is
-            ∙ sym (ap (option_map (entry_ends number)) is)
-        by (Some e) is = stays k e is ∙ sym (ap (option_map (entry_ends number)) is)
+            ∙ sym (ap (option_map entry_ends) is)
+        by (Some e) is = stays k e is ∙ sym (ap (option_map entry_ends) is)
 
     keeps : (o : Option ℕ) → ((p : ℕ) → o ≡ Some p → IsSome (e0 p))
         → o ≡ option_map (new_index e0) o
@@ -133,14 +133,14 @@ module _ {I T : Type 0} (number : I → ℕ) (last : Option ℕ) (reset : Bool)
     keeps (Some p) each = ap Some (sym (fixed p (each p refl)))
 
     -- the interlinks follow the renaming, which renames nothing
-    pub unmoved_links : FollowsRenaming (new_index e0) e0 (ends_in number c3)
+    pub unmoved_links : FollowsRenaming (new_index e0) e0 (ends_in c3)
     unmoved_links =
-        renamed_by (new_index e0) e0 (ends_in number c3) m.chained.agreed
+        renamed_by (new_index e0) e0 (ends_in c3) m.chained.agreed
         (record {
-          live = λ i some. ap (λ k. is_some (ends_in number c3 k)) (fixed i some)
+          live = λ i some. ap (λ k. is_some (ends_in c3 k)) (fixed i some)
               ∙ ap is_some (same i) ∙ some;
           nexts = λ i some.
-              ap (next_at (ends_in number c3)) (fixed i some) ∙ ap next_in (same i)
+              ap (next_at (ends_in c3)) (fixed i some) ∙ ap next_in (same i)
               ∙ keeps (next_at e0 i)
               (λ p goes. live_prev_in (e0 p) i (m.chained.agreed.forward i p goes));
           onto = λ k some.
@@ -148,11 +148,11 @@ module _ {I T : Type 0} (number : I → ℕ) (last : Option ℕ) (reset : Bool)
               (k, there, fixed k there);
         })
         (λ i j some some' is. sym (fixed i some) ∙ is ∙ fixed j some')
-        (IsAgreed-same e0 (ends_in number c3) same m.chained.agreed)
+        (IsAgreed-same e0 (ends_in c3) same m.chained.agreed)
 
-    pub unmoved_chained : IsWellFormed c3 → IsChained number c3
+    pub unmoved_chained : IsWellFormed c3 → IsChained c3
     unmoved_chained formed =
         record {
           formed = formed;
-          agreed = IsAgreed-same e0 (ends_in number c3) same m.chained.agreed;
+          agreed = IsAgreed-same e0 (ends_in c3) same m.chained.agreed;
         }

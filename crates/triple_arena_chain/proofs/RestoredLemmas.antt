@@ -33,13 +33,13 @@ use Rattle.triple_arena_chain.proofs.AgreedLemmas.{valid_next}
 use Rattle.triple_arena_chain.proofs.ExchangeLemmas.{next_where, prev_where}
 use Rattle.triple_arena_chain.proofs.ReversalLemmas.{two_back_at}
 
-module _ {I T : Type 0} (number : I → ℕ) where
+module _ {T : Type 0} where
   -- a pointer that found a link finds it with the interlinks of now, if the generations stay
-  still_found : (g : ℕ) (v : Ends) (o o' : Option (ℕ × IndexLink I T))
-      → IsSome (option_map (link_ends number) (value_if g o))
+  still_found : (g : ℕ) (v : Ends) (o o' : Option (ℕ × IndexLink T))
+      → IsSome (option_map link_ends (value_if g o))
       → option_map valued o' ≡ option_map valued o
-      → option_map (λ e. link_ends number e.1) o' ≡ Some v
-      → option_map (link_ends number) (value_if g o') ≡ Some v
+      → option_map (λ e. link_ends e.1) o' ≡ Some v
+      → option_map link_ends (value_if g o') ≡ Some v
   still_found g v None o' was same is = absurd (let no : false ≡ true = was in cc)
   still_found g v (Some e) None was same is = absurd (let no : None ≡ Some v = is in cc)
   still_found g v (Some e) (Some e') was same is =
@@ -51,13 +51,13 @@ module _ {I T : Type 0} (number : I → ℕ) where
       ]
 
   -- it has the next that is there now
-  pub still_next : (c d : Content (IndexLink I T)) (i g n : ℕ) → IsSome (ends_found number c i g)
+  pub still_next : (c d : Content (IndexLink T)) (i g n : ℕ) → IsSome (ends_found c i g)
       → values_in d i ≡ values_in c i
-      → next_at (ends_in number d) i ≡ Some n → IsSome (next_in (ends_found number d i g))
+      → next_at (ends_in d) i ≡ Some n → IsSome (next_in (ends_found d i g))
   still_next c d i g n was same next =
-      let v = valid_next (ends_in number d i) n next in
+      let v = valid_next (ends_in d i) n next in
       let found = still_found g v.0 (entry_at c i) (entry_at d i) was same v.1 in
-      let out : next_in (ends_found number d i g) ≡ Some n = ap next_in (found ∙ sym v.1) ∙ next in
+      let out : next_in (ends_found d i g) ≡ Some n = ap next_in (found ∙ sym v.1) ∙ next in
       rw out refl
 
 -- a pointer with a next finds its link
@@ -152,21 +152,21 @@ without_again es fs i t vacant new k =
           rw differs.0 is
     ]
 
-module _ {I T : Type 0} (number : I → ℕ) (c d f : Content (IndexLink I T)) (i g : ℕ) (t : T)
-    (last : Option ℕ) (chained : IsChained number c) (formed : IsChained number d) where
+module _ {T : Type 0} (c d f : Content (IndexLink T)) (i g : ℕ) (t : T)
+    (last : Option ℕ) (chained : IsChained c) (formed : IsChained d) where
   -- an insertion between two neighbors, or beyond an end, and the removal of what it put in
-  restored_between : (b a : Option ℕ) → ((p : ℕ) → b ≡ Some p → IsSome (ends_in number c p))
-      → ((q : ℕ) → a ≡ Some q → IsSome (ends_in number c q))
-      → ((p : ℕ) → b ≡ Some p → next_at (ends_in number c) p ≡ a)
-      → ((q : ℕ) → a ≡ Some q → prev_at (ends_in number c) q ≡ b)
-      → IsLinkInserted number (Between b a) i g t c d → IsTakenOut number last i d f
-      → (k : ℕ) → (ends_in number f k ≡ ends_in number c k) × (values_in f k ≡ values_in c k)
+  restored_between : (b a : Option ℕ) → ((p : ℕ) → b ≡ Some p → IsSome (ends_in c p))
+      → ((q : ℕ) → a ≡ Some q → IsSome (ends_in c q))
+      → ((p : ℕ) → b ≡ Some p → next_at (ends_in c) p ≡ a)
+      → ((q : ℕ) → a ≡ Some q → prev_at (ends_in c) q ≡ b)
+      → IsLinkInserted (Between b a) i g t c d → IsTakenOut last i d f
+      → (k : ℕ) → (ends_in f k ≡ ends_in c k) × (values_in f k ≡ values_in c k)
   restored_between b a b_lives a_lives b_next a_prev placed taken k =
-      let vacant : ends_in number c i ≡ None = ap (option_map (entry_ends number)) placed.vacant in
-      let differs : (p : ℕ) → IsSome (ends_in number c p) → p ≢ i = λ p lives same.
-      let no : false ≡ true = rw (ap (ends_in number c) same ∙ vacant) at lives in absurd (cc) in (
+      let vacant : ends_in c i ≡ None = ap (option_map entry_ends) placed.vacant in
+      let differs : (p : ℕ) → IsSome (ends_in c p) → p ≢ i = λ p lives same.
+      let no : false ≡ true = rw (ap (ends_in c) same ∙ vacant) at lives in absurd (cc) in (
         taken.ends k
-            ∙ removed_again (ends_in number c) (ends_in number d) i b a placed.ends formed.agreed
+            ∙ removed_again (ends_in c) (ends_in d) i b a placed.ends formed.agreed
             vacant
             (λ p is. differs p (b_lives p is)) (λ q is. differs q (a_lives q is)) b_next a_prev k,
         taken.values k ∙ without_again (values_in c) (values_in d) i (g, t)
@@ -174,27 +174,27 @@ module _ {I T : Type 0} (number : I → ℕ) (c d f : Content (IndexLink I T)) (
       )
 
 module _ {P I T : Type 0} (index generation : P → ℕ) (number : I → ℕ)
-    (c d f : Content (IndexLink I T)) (p : P) (i g : ℕ) (t : T) (last : Option ℕ)
-    (chained : IsChained number c) (formed : IsChained number d) where
+    (c d f : Content (IndexLink T)) (p : P) (i g : ℕ) (t : T) (last : Option ℕ)
+    (chained : IsChained c) (formed : IsChained d) where
   pub restored_after : IsSome (gap_among index generation number c (NextTo p))
       → IfSome (gap_among index generation number c (NextTo p))
-      (λ place. IsLinkInserted number place i g t c d) → IsTakenOut number last i d f
-      → (k : ℕ) → (ends_in number f k ≡ ends_in number c k) × (values_in f k ≡ values_in c k)
+      (λ place. IsLinkInserted place i g t c d) → IsTakenOut last i d f
+      → (k : ℕ) → (ends_in f k ≡ ends_in c k) × (values_in f k ≡ values_in c k)
   restored_after there placed taken k =
-      by (ends_found number c (index p) (generation p))
-      (λ v is. found number c (index p) (generation p) v is) there placed
+      by (ends_found c (index p) (generation p))
+      (λ v is. found c (index p) (generation p) v is) there placed
     where
-      by : (o : Option Ends) → ((v : Ends) → o ≡ Some v → ends_in number c (index p) ≡ Some v)
+      by : (o : Option Ends) → ((v : Ends) → o ≡ Some v → ends_in c (index p) ≡ Some v)
           → IsSome (after_link (index p) o)
-          → IfSome (after_link (index p) o) (λ place. IsLinkInserted number place i g t c d)
-          → (ends_in number f k ≡ ends_in number c k) × (values_in f k ≡ values_in c k)
+          → IfSome (after_link (index p) o) (λ place. IsLinkInserted place i g t c d)
+          → (ends_in f k ≡ ends_in c k) × (values_in f k ≡ values_in c k)
       by None at there placed = absurd (let no : false ≡ true = there in cc)
       by (Some v) at there placed =
           let own = at v refl in
-          let next : next_at (ends_in number c) (index p) ≡ v.1 = ap next_in own in
-          restored_between number c d f i g t last chained formed (Some (index p)) v.1
+          let next : next_at (ends_in c) (index p) ≡ v.1 = ap next_in own in
+          restored_between c d f i g t last chained formed (Some (index p)) v.1
           (λ x is. let same : index p ≡ x = cc in rw (sym same, own) refl)
-          (λ q is. live_prev_in (ends_in number c q) (index p)
+          (λ q is. live_prev_in (ends_in c q) (index p)
           (chained.agreed.forward (index p) q (next ∙ is)))
           (λ x is. let same : index p ≡ x = cc in rw (sym same) next)
           (λ q is. chained.agreed.forward (index p) q (next ∙ is))
@@ -202,22 +202,22 @@ module _ {P I T : Type 0} (index generation : P → ℕ) (number : I → ℕ)
 
   pub restored_before : IsSome (gap_among index generation number c (PrevTo p))
       → IfSome (gap_among index generation number c (PrevTo p))
-      (λ place. IsLinkInserted number place i g t c d) → IsTakenOut number last i d f
-      → (k : ℕ) → (ends_in number f k ≡ ends_in number c k) × (values_in f k ≡ values_in c k)
+      (λ place. IsLinkInserted place i g t c d) → IsTakenOut last i d f
+      → (k : ℕ) → (ends_in f k ≡ ends_in c k) × (values_in f k ≡ values_in c k)
   restored_before there placed taken k =
-      by (ends_found number c (index p) (generation p))
-      (λ v is. found number c (index p) (generation p) v is) there placed
+      by (ends_found c (index p) (generation p))
+      (λ v is. found c (index p) (generation p) v is) there placed
     where
-      by : (o : Option Ends) → ((v : Ends) → o ≡ Some v → ends_in number c (index p) ≡ Some v)
+      by : (o : Option Ends) → ((v : Ends) → o ≡ Some v → ends_in c (index p) ≡ Some v)
           → IsSome (before_link (index p) o)
-          → IfSome (before_link (index p) o) (λ place. IsLinkInserted number place i g t c d)
-          → (ends_in number f k ≡ ends_in number c k) × (values_in f k ≡ values_in c k)
+          → IfSome (before_link (index p) o) (λ place. IsLinkInserted place i g t c d)
+          → (ends_in f k ≡ ends_in c k) × (values_in f k ≡ values_in c k)
       by None at there placed = absurd (let no : false ≡ true = there in cc)
       by (Some v) at there placed =
           let own = at v refl in
-          let prev : prev_at (ends_in number c) (index p) ≡ v.0 = ap prev_in own in
-          restored_between number c d f i g t last chained formed v.0 (Some (index p))
-          (λ q is. live_next_in (ends_in number c q) (index p)
+          let prev : prev_at (ends_in c) (index p) ≡ v.0 = ap prev_in own in
+          restored_between c d f i g t last chained formed v.0 (Some (index p))
+          (λ q is. live_next_in (ends_in c q) (index p)
           (chained.agreed.backward q (index p) (prev ∙ is)))
           (λ x is. let same : index p ≡ x = cc in rw (sym same, own) refl)
           (λ q is. chained.agreed.backward q (index p) (prev ∙ is))

@@ -72,8 +72,8 @@ module _ {T : Type 0} where
   value_kept renewed None = refl
   value_kept renewed (Some e) = refl
 
-module _ {I T : Type 0} (number : I → ℕ) where
-  values_kept : (to : ℕ → ℕ) (old new : Content (IndexLink I T)) (list : List ℕ)
+module _ {T : Type 0} where
+  values_kept : (to : ℕ → ℕ) (old new : Content (IndexLink T)) (list : List ℕ)
       → ((i : ℕ) → On list i → value_in new (to i) ≡ value_in old i)
       → map (value_in new) (map to list) ≡ map (value_in old) list
   values_kept to old new [] kept = refl
@@ -83,24 +83,24 @@ module _ {I T : Type 0} (number : I → ℕ) where
       cc
 
   -- a list is a run after a canonical compression
-  pub canonical_run : (last : Option ℕ) (reset : Bool) (old new : Content (IndexLink I T))
-      (list : List ℕ) → IsCanonical number last reset old new
-      → IsLinear (ends_in number old) list → (first : ℕ) × IsRunFrom number first list old new
+  pub canonical_run : (last : Option ℕ) (reset : Bool) (old new : Content (IndexLink T))
+      (list : List ℕ) → IsCanonical last reset old new
+      → IsLinear (ends_in old) list → (first : ℕ) × IsRunFrom first list old new
   canonical_run last reset old new list canonical linear =
       let to = canonical.to in
-      let moved : IsLinear (ends_in number new) (map to list) =
+      let moved : IsLinear (ends_in new) (map to list) =
       canonical.renamed.lists (Linear list) linear in
-      let run = linear_run (ends_in number new) (live_count old) (map to list) canonical.laid_out
+      let run = linear_run (ends_in new) (live_count old) (map to list) canonical.laid_out
       moved in
       let many : map to list ≡ range_with_len run.0 (length list) = run.1
       ∙ ap (range_with_len run.0) (length-map list to) in
       let kept : (i : ℕ) → On list i → value_in new (to i) ≡ value_in old i = λ i on.
       ap (option_map (λ e. e.1))
-      (canonical.values i (live_in (ends_in number old) (Linear list) i linear on))
+      (canonical.values i (live_in (ends_in old) (Linear list) i linear on))
       ∙ value_kept (renewed last reset old.counter) (values_in old i) in (
         run.0,
         record {
-          linear = subst (IsLinear (ends_in number new)) many moved;
+          linear = subst (IsLinear (ends_in new)) many moved;
           values = ap (map (value_in new)) (sym many) ∙ values_kept to old new list kept;
         },
       )

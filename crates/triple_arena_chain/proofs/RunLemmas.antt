@@ -5,7 +5,7 @@ use Rattle.std.proofs.Common.{inr, ◌⊎◌}
 use Rattle.std.specs.List.{range_with_len}
 use Rattle.std.proofs.lemmas.Bool.Decides.{eqb_tells, leb_tells}
 use Rattle.triple_arena_chain.specs.Chains.{Ends, next_in, next_at, prev_at, IsAgreed, last_or}
-use Rattle.triple_arena_chain.specs.Chains.{Stands, Off, On, Apart, IsLinear, IsRing}
+use Rattle.triple_arena_chain.specs.Chains.{IsSegment, Off, On, Apart, IsLinear, IsRing}
 use Rattle.triple_arena_chain.specs.ListLaws.{On-first, On-back, On-either, on_differs}
 use Rattle.triple_arena_chain.specs.ListLaws.{live_next_in}
 use Rattle.triple_arena_chain.specs.Lists.{Chain, Linear, Cyclic, members, all_members, IsChainOf}
@@ -76,7 +76,7 @@ run-split (x ∷ xs) ys u (suc n) is =
 
 module _ (e : ℕ → Option Ends) where
   -- the nexts along a run
-  pub run_next : (b a : Option ℕ) (u m p : ℕ) → Stands e b (range_with_len u m) a → u ≤ p
+  pub run_next : (b a : Option ℕ) (u m p : ℕ) → IsSegment e b (range_with_len u m) a → u ≤ p
       → p + 1 < u + m → next_at e p ≡ Some (p + 1)
   run_next b a u zero p s low high = absurd (omega (arith, low, high))
   run_next b a u (suc zero) p s low high = absurd (omega (arith, low, high))
@@ -89,7 +89,7 @@ module _ (e : ℕ → Option Ends) where
             (omega (arith, high))
       ]
 
-  pub run_end : (b a : Option ℕ) (u m p : ℕ) → Stands e b (range_with_len u m) a → u ≤ p
+  pub run_end : (b a : Option ℕ) (u m p : ℕ) → IsSegment e b (range_with_len u m) a → u ≤ p
       → p + 1 ≡ u + m → next_at e p ≡ a
   run_end b a u zero p s low is = absurd (omega (arith, low, is))
   run_end b a u (suc zero) p s low is = let same : u ≡ p = omega (arith, is) in

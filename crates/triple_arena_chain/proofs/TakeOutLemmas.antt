@@ -1,8 +1,8 @@
 -- Taking an index out of its list keeps the two ways agreed.
-use Rattle.std.proofs.Common.{◌≡◌, ◌≢◌, ℕ, Option, Some, None, refl, sym, ap, subst, ◌∙◌, inl, inr}
+use Rattle.std.proofs.Common.{◌≡◌, ◌≢◌, ℕ, Option, Some, None, sym, ap, subst, ◌∙◌, inl, inr}
 use Rattle.std.proofs.lemmas.Bool.{ne_eqb}
 use Rattle.std.proofs.lemmas.Bool.Decides.{eqb_tells}
-use Rattle.triple_arena_chain.specs.Chains.{Ends, with_next_if, with_prev_if, dropped, bridged}
+use Rattle.triple_arena_chain.specs.Chains.{Ends, with_next_if, dropped, bridged}
 use Rattle.triple_arena_chain.specs.Chains.{IsAgreed, next_at, prev_at, next_in, prev_in}
 use Rattle.triple_arena_chain.proofs.AgreedLemmas.{valid_next, valid_prev}
 use Rattle.triple_arena_chain.proofs.GapLemmas.{is_it, next-with_prev_if, prev-with_next_if}
@@ -25,26 +25,6 @@ module _ (e : ℕ → Option Ends) where
 
   prev_miss : (b n : Option ℕ) (i : ℕ) → n ≢ Some i → prev_at (bridged e b n) i ≡ prev_at e i
   prev_miss b n i other = prev-miss (with_next_if e b n) n b i other ∙ prev-with_next_if e b n i
-
-  pub bridged_self : (p : ℕ) (b n : Option ℕ) → e p ≡ Some (b, n) → bridged e b n p ≡ Some (b, n)
-  bridged_self p b n at = after n (before b at)
-    where
-      before : (o : Option ℕ) → e p ≡ Some (b, n) → with_next_if e o n p ≡ Some (b, n)
-      before None at = at
-      before (Some j) at =
-          elim (eqb_tells p j) [
-            | inl same ↦ rw (same.0, at) refl
-            | inr differs ↦ rw differs.0 at
-          ]
-
-      after : (o : Option ℕ) → with_next_if e b n p ≡ Some (b, n)
-          → with_prev_if (with_next_if e b n) o b p ≡ Some (b, n)
-      after None at = at
-      after (Some j) at =
-          elim (eqb_tells p j) [
-            | inl same ↦ rw (same.0, at) refl
-            | inr differs ↦ rw differs.0 at
-          ]
 
   split_next : (f : ℕ → Option Ends) (p x y : ℕ) → next_at (dropped f p) x ≡ Some y
       → (x ≢ p) × (next_at f x ≡ Some y)

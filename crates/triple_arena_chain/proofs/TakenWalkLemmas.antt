@@ -6,7 +6,7 @@ use Rattle.std.proofs.lemmas.Bool.Decides.{eqb_tells}
 use Rattle.std.proofs.lemmas.List.{reverse-append, append-nil}
 use Rattle.triple_arena_chain.specs.Chains.{Ends, next_in, prev_in, IsAgreed, first_or, last_or}
 use Rattle.triple_arena_chain.specs.Chains.{Off, IsLinear, taken_out}
-use Rattle.triple_arena_chain.specs.ChainLaws.{off_or_on, Off-front, Off-back, Stands-back}
+use Rattle.triple_arena_chain.specs.ChainLaws.{off_or_on, Off-front, Off-back, segment-back}
 use Rattle.triple_arena_chain.specs.ChainLaws.{last_or-append}
 use Rattle.triple_arena_chain.specs.ListLaws.{Apart-split}
 use Rattle.triple_arena_chain.specs.TakenLaws.{linear_taken, ring_taken, taken_is, untouched}
@@ -68,10 +68,10 @@ module _ (e : ℕ → Option Ends) (agreed : IsAgreed e) (i : ℕ) (b n : Option
   walk_goes_on walk (along before [] s is) = by_before (ended before)
     where
       own : b ≡ last_or None before
-      own = sym (ap prev_in at) ∙ ap prev_in (Stands-back e None None before (i ∷ []) s).0
+      own = sym (ap prev_in at) ∙ ap prev_in (segment-back e None None before (i ∷ []) s).0
 
       last : n ≡ None
-      last = sym (ap next_in at) ∙ ap next_in (Stands-back e None None before (i ∷ []) s).0
+      last = sym (ap next_in at) ∙ ap next_in (segment-back e None None before (i ∷ []) s).0
 
       by_before : Ended before → Onward walk
       by_before (none none_is) =
@@ -100,7 +100,7 @@ module _ (e : ℕ → Option Ends) (agreed : IsAgreed e) (i : ℕ) (b n : Option
                 (along zs [] u refl);
           }
   walk_goes_on walk (along before (x ∷ after) s is) =
-      let back = Stands-back e None None before (i ∷ x ∷ after) s in
+      let back = segment-back e None None before (i ∷ x ∷ after) s in
       let n_is : n ≡ Some x = sym (ap next_in at) ∙ ap next_in back.0 in
       let off = (Apart-split before (x ∷ after) i
       (linear_apart e None (before ++ i ∷ x ∷ after) s)).1 in
@@ -138,7 +138,7 @@ module _ (e : ℕ → Option Ends) (agreed : IsAgreed e) (i : ℕ) (b n : Option
       let off' : Off (i ∷ (after ++ reverse before)) k = subst (λ l. Off l k) is off in
       let front = Off-front after (reverse before) k off'.1 in
       let back = Off-reverse before k (Off-back after (reverse before) k off'.1) in
-      let own = (Stands-back e None None before (i ∷ after) s).0 in
+      let own = (segment-back e None None before (i ∷ after) s).0 in
       untouched e agreed i b n at k (λ same. off'.0 (sym same))
       (λ j is_b. Off-last None before j k (sym (sym (ap prev_in at) ∙ ap prev_in own) ∙ is_b) back
       (λ first. none_at j first))

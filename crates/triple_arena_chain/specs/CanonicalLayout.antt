@@ -49,39 +49,39 @@ pub record AreGathered (placed : ℕ) (to : ℕ → ℕ) (old now : ℕ → Opti
   pub closed : IsClosed now placed
   pub stays : (n : ℕ) → IsLaidOut old n → (i : ℕ) → to i ≡ i
 
-module _ {I T : Type 0} where
+module _ {T : Type 0} where
   -- each link has the counter as its generation
-  abbrev pub IsAlike : Content (IndexLink I T) → Type 0
+  abbrev pub IsAlike : Content (IndexLink T) → Type 0
   IsAlike c = (k : ℕ) (e : ℕ × T) → values_in c k ≡ Some e → e.0 ≡ c.counter
 
-module _ {I T : Type 0} (number : I → ℕ) where
+module _ {T : Type 0} where
   -- the links stand at other indexes, each with its chain and its value; the same indexes are live
-  pub record IsMoved (to : ℕ → ℕ) (old new : Content (IndexLink I T)) : Type 0 where
-    pub renamed : FollowsRenaming to (ends_in number old) (ends_in number new)
-    pub values : (i : ℕ) → IsSome (ends_in number old i) → values_in new (to i) ≡ values_in old i
-    pub live : (i : ℕ) → IsSome (ends_in number new i) → IsSome (ends_in number old i)
+  pub record IsMoved (to : ℕ → ℕ) (old new : Content (IndexLink T)) : Type 0 where
+    pub renamed : FollowsRenaming to (ends_in old) (ends_in new)
+    pub values : (i : ℕ) → IsSome (ends_in old i) → values_in new (to i) ≡ values_in old i
+    pub live : (i : ℕ) → IsSome (ends_in new i) → IsSome (ends_in old i)
     pub kept : IsKept old new
-    pub chained : IsChained number new
+    pub chained : IsChained new
 
   -- all chains are runs from index 1 on
-  pub record IsAllGathered (old new : Content (IndexLink I T)) : Type 0 where
+  pub record IsAllGathered (old new : Content (IndexLink T)) : Type 0 where
     pub to : ℕ → ℕ
     pub moved : IsMoved to old new
-    pub laid_out : IsLaidOut (ends_in number new) (length old.slots)
-    pub stays : (n : ℕ) → IsLaidOut (ends_in number old) n → (i : ℕ) → to i ≡ i
+    pub laid_out : IsLaidOut (ends_in new) (length old.slots)
+    pub stays : (n : ℕ) → IsLaidOut (ends_in old) n → (i : ℕ) → to i ≡ i
 
   -- each chain is one run of the indexes from 1 on, with its values and with the generation
   -- renewed; no index is free. Where that was so before, no index changes
-  pub record IsCanonical (last : Option ℕ) (reset : Bool) (old new : Content (IndexLink I T))
+  pub record IsCanonical (last : Option ℕ) (reset : Bool) (old new : Content (IndexLink T))
       : Type 0 where
     pub to : ℕ → ℕ
-    pub renamed : FollowsRenaming to (ends_in number old) (ends_in number new)
-    pub values : (i : ℕ) → IsSome (ends_in number old i)
+    pub renamed : FollowsRenaming to (ends_in old) (ends_in new)
+    pub values : (i : ℕ) → IsSome (ends_in old i)
         → values_in new (to i) ≡ option_map (λ e. (renewed last reset old.counter, e.1))
         (values_in old i)
-    pub laid_out : IsLaidOut (ends_in number new) (live_count old)
-    pub stays : IsLaidOut (ends_in number old) (live_count old) → (i : ℕ)
-        → IsSome (ends_in number old i) → to i ≡ i
+    pub laid_out : IsLaidOut (ends_in new) (live_count old)
+    pub stays : IsLaidOut (ends_in old) (live_count old) → (i : ℕ)
+        → IsSome (ends_in old i) → to i ≡ i
     pub live : live_count new ≡ live_count old
     pub slots : length new.slots ≡ live_count old
     pub free : new.free ≡ []

@@ -24,28 +24,27 @@ pub record AreInOrder (ends : ℕ → Option Ends) (cs : List Chain) : Type 0 wh
   pub are : AreChains ends cs
   pub rising : AreRising cs
 
-module _ {J I U T : Type 0} (old_number : J → ℕ) (number : I → ℕ) where
+module _ {U T : Type 0} where
   -- chain after chain was moved, with the values in this order, to the indexes from 1 on, and no
   -- index is free
-  pub record IsMovedAlong (order : List (ℕ × (ℕ × U))) (old : Content (IndexLink J U))
-      (new : Content (IndexLink I T)) : Type 0 where
+  pub record IsMovedAlong (order : List (ℕ × (ℕ × U))) (old : Content (IndexLink U))
+      (new : Content (IndexLink T)) : Type 0 where
     pub chains : List Chain
-    pub in_order : AreInOrder (ends_in old_number old) chains
+    pub in_order : AreInOrder (ends_in old) chains
     pub along : order ≡ links_along (values_in old) (all_members chains)
     pub to : ℕ → ℕ
     pub runs : map to (all_members chains) ≡ range_with_len 1 (live_count old)
-    pub renamed : FollowsRenaming to (ends_in old_number old) (ends_in number new)
+    pub renamed : FollowsRenaming to (ends_in old) (ends_in new)
     pub slots : length new.slots ≡ live_count old
     pub free : new.free ≡ []
 
-module _ {Q U P T J I F : Type 0} (old_index old_generation : Q → ℕ) (index generation : P → ℕ)
-    (old_number : J → ℕ) (number : I → ℕ)
+module _ {Q U P T F : Type 0} (old_index old_generation : Q → ℕ) (index generation : P → ℕ)
     (step : F → Q → InvalidationOption U → P → T → F → Type 0) where
   -- a map was called once at each link, chain after chain, and what it gave stands in chains as
   -- before
-  pub record IsMovedInOrder (f : F) (last : Option ℕ) (old : Content (IndexLink J U))
-      (new : Content (IndexLink I T)) : Type 0 where
+  pub record IsMovedInOrder (f : F) (last : Option ℕ) (old : Content (IndexLink U))
+      (new : Content (IndexLink T)) : Type 0 where
     pub order : List (ℕ × (ℕ × U))
-    pub laid : IsMovedAlong old_number number order old new
+    pub laid : IsMovedAlong order old new
     pub moved : IsTransferred old_index old_generation index generation step f last
         (some_counter old) order (listed_values new)

@@ -146,20 +146,20 @@ module _ (e : ℕ → Option Ends) where
           absurd (Apart-both (members c) (members d ++ all_members ds) m.0 once here
           (On-front (members d) (all_members ds) m.0 m.1))
 
-module _ {J I U T : Type 0} (old_number : J → ℕ) (number : I → ℕ) (order : List (ℕ × (ℕ × U)))
-    (old : Content (IndexLink J U)) (new : Content (IndexLink I T))
-    (w : List ℕ) (linear : IsLinear (ends_in old_number old) w)
-    (whole : (i : ℕ) → IsSome (ends_in old_number old i) → On w i)
-    (m : IsMovedAlong old_number number order old new) where
+module _ {U T : Type 0} (order : List (ℕ × (ℕ × U)))
+    (old : Content (IndexLink U)) (new : Content (IndexLink T))
+    (w : List ℕ) (linear : IsLinear (ends_in old) w)
+    (whole : (i : ℕ) → IsSome (ends_in old i) → On w i)
+    (m : IsMovedAlong order old new) where
   -- where all links stand in one linear chain, they are moved in its order
   pub linear_order : all_members m.chains ≡ w
-  linear_order = linear_in_order (ends_in old_number old) w m.chains m.in_order.are linear whole
+  linear_order = linear_in_order (ends_in old) w m.chains m.in_order.are linear whole
 
   -- each goes to the next index, from 1 on
   pub linear_run : map m.to w ≡ range_with_len 1 (live_count old)
   linear_run = sym (ap (map m.to) linear_order) ∙ m.runs
 
   -- and the new chain is those indexes
-  pub linear_moved : IsLinear (ends_in number new) (range_with_len 1 (live_count old))
-  linear_moved = subst (IsLinear (ends_in number new)) linear_run
+  pub linear_moved : IsLinear (ends_in new) (range_with_len 1 (live_count old))
+  linear_moved = subst (IsLinear (ends_in new)) linear_run
       (m.renamed.lists (Linear w) linear)

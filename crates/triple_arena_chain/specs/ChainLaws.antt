@@ -4,7 +4,7 @@ use Rattle.std.proofs.Common.{length, Option, Some, None, IsSome, is_some, refl,
 use Rattle.std.proofs.Common.{◌∙◌, arith, true, false, inl, inr, ◌⊎◌, append_assoc, length-append}
 use Rattle.std.proofs.lemmas.Bool.Decides.{eqb_tells}
 use Rattle.triple_arena_chain.specs.Chains.{Ends, next_in, prev_in, next_at, prev_at, IsAgreed}
-use Rattle.triple_arena_chain.specs.Chains.{first_or, last_or, Stands, Off, Apart, On, Standing}
+use Rattle.triple_arena_chain.specs.Chains.{first_or, last_or, IsSegment, Off, Apart, On, Standing}
 use Rattle.triple_arena_chain.specs.Chains.{linear, ring}
 
 -- interlinks that are the same at each index
@@ -156,26 +156,26 @@ off_later x y zs (w ∷ front) back is off =
     (Off-back front (y ∷ back) x (subst (λ l. Off l x) same off)).1
 
 module _ (e : ℕ → Option Ends) where
-  pub Stands-append : (b a : Option ℕ) (xs ys : List ℕ) → Stands e b xs (first_or ys a)
-      → Stands e (last_or b xs) ys a → Stands e b (xs ++ ys) a
-  Stands-append b a [] ys s t = t
-  Stands-append b a (x ∷ xs) ys s t
-      = (rw (first_or-append xs ys a) s.0, Stands-append (Some x) a xs ys s.1 t)
+  pub segment-append : (b a : Option ℕ) (xs ys : List ℕ) → IsSegment e b xs (first_or ys a)
+      → IsSegment e (last_or b xs) ys a → IsSegment e b (xs ++ ys) a
+  segment-append b a [] ys s t = t
+  segment-append b a (x ∷ xs) ys s t
+      = (rw (first_or-append xs ys a) s.0, segment-append (Some x) a xs ys s.1 t)
 
-  pub Stands-front : (b a : Option ℕ) (xs ys : List ℕ) → Stands e b (xs ++ ys) a
-      → Stands e b xs (first_or ys a)
-  Stands-front b a [] ys s = tt
-  Stands-front b a (x ∷ xs) ys s
-      = (rw (← first_or-append xs ys a) s.0, Stands-front (Some x) a xs ys s.1)
+  pub segment-front : (b a : Option ℕ) (xs ys : List ℕ) → IsSegment e b (xs ++ ys) a
+      → IsSegment e b xs (first_or ys a)
+  segment-front b a [] ys s = tt
+  segment-front b a (x ∷ xs) ys s
+      = (rw (← first_or-append xs ys a) s.0, segment-front (Some x) a xs ys s.1)
 
-  pub Stands-back : (b a : Option ℕ) (xs ys : List ℕ) → Stands e b (xs ++ ys) a
-      → Stands e (last_or b xs) ys a
-  Stands-back b a [] ys s = s
-  Stands-back b a (x ∷ xs) ys s = Stands-back (Some x) a xs ys s.1
+  pub segment-back : (b a : Option ℕ) (xs ys : List ℕ) → IsSegment e b (xs ++ ys) a
+      → IsSegment e (last_or b xs) ys a
+  segment-back b a [] ys s = s
+  segment-back b a (x ∷ xs) ys s = segment-back (Some x) a xs ys s.1
 
   -- the next of the last of a list is what follows the list
   pub next_of_last : (b a : Option ℕ) (x : ℕ) (xs : List ℕ) (z : ℕ) → last_or (Some x) xs ≡ Some z
-      → Stands e b (x ∷ xs) a → next_at e z ≡ a
+      → IsSegment e b (x ∷ xs) a → next_at e z ≡ a
   next_of_last b a x [] z is s = let same : x ≡ z = cc in ap (next_at e) (sym same) ∙ ap next_in s.0
   next_of_last b a x (y ∷ ys) z is s = next_of_last (Some x) a y ys z is s.1
 
@@ -189,12 +189,12 @@ module _ (e : ℕ → Option Ends) where
 
     -- from an index on: to an end, or back to it
     data Onward (b : Option ℕ) (i : ℕ) : Type 0 where
-      to_end : (ys : List ℕ) → Stands e b (i ∷ ys) None → Apart (i ∷ ys) → Below n (i ∷ ys)
+      to_end : (ys : List ℕ) → IsSegment e b (i ∷ ys) None → Apart (i ∷ ys) → Below n (i ∷ ys)
           → Onward b i
-      around : (ys : List ℕ) → Stands e b (i ∷ ys) (Some i) → Apart (i ∷ ys) → Onward b i
+      around : (ys : List ℕ) → IsSegment e b (i ∷ ys) (Some i) → Apart (i ∷ ys) → Onward b i
 
     onward : (fuel : ℕ) (b : Option ℕ) (i : ℕ) (ys : List ℕ) (a : Option ℕ)
-        → length (i ∷ ys) + fuel ≡ n + 1 → Stands e b (i ∷ ys) a
+        → length (i ∷ ys) + fuel ≡ n + 1 → IsSegment e b (i ∷ ys) a
         → Apart (i ∷ ys) → Below n (i ∷ ys) → Onward b i
     onward fuel b i ys None long s apart all = to_end ys s apart all
     onward zero b i ys (Some y) long s apart all = let less =
@@ -205,22 +205,22 @@ module _ (e : ℕ → Option Ends) where
         agreed.forward z.0 y (next_of_last b (Some y) i ys z.0 z.1 s) in
         let here : e y ≡ Some (Some z.0, next_at e y) = live_by_prev (e y) z.0 into in
         elim (eqb_tells i y) [
-          | inl same ↦ around ys (subst (λ w. Stands e b (i ∷ ys) (Some w)) (sym same.1) s) apart
+          | inl same ↦ around ys (subst (λ w. IsSegment e b (i ∷ ys) (Some w)) (sym same.1) s) apart
           | inr differs ↦
               elim (off_or_on ys y) [
                 | inl off ↦
-                    let tail : Stands e (last_or b (i ∷ ys)) (y ∷ []) (next_at e y) =
+                    let tail : IsSegment e (last_or b (i ∷ ys)) (y ∷ []) (next_at e y) =
                     (here ∙ ap (λ w. Some (w, next_at e y)) (sym z.1), tt) in
                     let grown = length-append ys (y ∷ []) in
                     onward fuel b i (ys ++ y ∷ []) (next_at e y) (omega (arith, long, grown))
-                    (Stands-append b (next_at e y) (i ∷ ys) (y ∷ []) s tail)
+                    (segment-append b (next_at e y) (i ∷ ys) (y ∷ []) s tail)
                     (Apart-last (i ∷ ys) y apart (differs.1, off))
                     (Below-last (i ∷ ys) y all (below y (Some z.0, next_at e y) here))
                 | inr on ↦
                     let parts : i ∷ ys ≡ (i ∷ on.front) ++ y ∷ on.back = ap (λ l. i ∷ l) on.is in
-                    let s' : Stands e b ((i ∷ on.front) ++ y ∷ on.back) (Some y) =
-                    subst (λ l. Stands e b l (Some y)) parts s in
-                    let at_y = (Stands-back b (Some y) (i ∷ on.front) (y ∷ on.back) s').0 in
+                    let s' : IsSegment e b ((i ∷ on.front) ++ y ∷ on.back) (Some y) =
+                    subst (λ l. IsSegment e b l (Some y)) parts s in
+                    let at_y = (segment-back b (Some y) (i ∷ on.front) (y ∷ on.back) s').0 in
                     let w = last_is i on.front in
                     let before : prev_at e y ≡ Some w.0 = ap prev_in at_y ∙ w.1 in
                     let both : Some w.0 ≡ Some z.0 = sym before ∙ into in
@@ -236,7 +236,7 @@ module _ (e : ℕ → Option Ends) where
         ]
 
     backward : (fuel : ℕ) (i : ℕ) (ys xs : List ℕ) (b : Option ℕ)
-        → length (xs ++ i ∷ ys) + fuel ≡ n + 1 → Stands e b (xs ++ i ∷ ys) None
+        → length (xs ++ i ∷ ys) + fuel ≡ n + 1 → IsSegment e b (xs ++ i ∷ ys) None
         → Apart (xs ++ i ∷ ys) → Below n (xs ++ i ∷ ys) → Standing e i
     backward fuel i ys xs None long s apart all = linear xs ys s
     backward zero i ys xs (Some y) long s apart all = let less =
@@ -254,7 +254,8 @@ module _ (e : ℕ → Option Ends) where
             = absurd (let long' = ap length none in let sizes =
             length-append xs (i ∷ ys) in omega (arith, long', sizes))
         by_first on_from (x ∷ zs) is =
-            let t : Stands e (Some y) (x ∷ zs) None = subst (λ l. Stands e (Some y) l None) is s in
+            let t : IsSegment e (Some y) (x ∷ zs) None = subst
+            (λ l. IsSegment e (Some y) l None) is s in
             let out : next_at e y ≡ Some x = agreed.backward y x (ap prev_in t.0) in
             let here : e y ≡ Some (prev_at e y, Some x) = live_by_next (e y) x out in
             let first : Some x ≡ first_or (xs ++ i ∷ ys) None =
@@ -262,8 +263,8 @@ module _ (e : ℕ → Option Ends) where
             elim (off_or_on (xs ++ i ∷ ys) y) [
               | inl off ↦ on_from (prev_at e y) (here ∙ ap (λ w. Some (prev_at e y, w)) first) off
               | inr on ↦
-                  let at_y = (Stands-back (Some y) None on.front (y ∷ on.back)
-                  (subst (λ l. Stands e (Some y) l None) on.is s)).0 in
+                  let at_y = (segment-back (Some y) None on.front (y ∷ on.back)
+                  (subst (λ l. IsSegment e (Some y) l None) on.is s)).0 in
                   let then : first_or on.back None ≡ Some x = sym (ap next_in at_y) ∙ out in
                   let once : Off zs x = (subst Apart is apart).0 in
                   absurd (not_first x on.back
@@ -271,13 +272,13 @@ module _ (e : ℕ → Option Ends) where
             ]
 
     around_stands : (b : Option ℕ) (i : ℕ) (ys : List ℕ) → b ≡ prev_at e i
-        → Stands e b (i ∷ ys) (Some i) → Apart (i ∷ ys) → Standing e i
+        → IsSegment e b (i ∷ ys) (Some i) → Apart (i ∷ ys) → Standing e i
     around_stands b i ys is s apart =
         let z = last_is i ys in
         let into : prev_at e i ≡ Some z.0 =
         agreed.forward z.0 i (next_of_last b (Some i) i ys z.0 z.1 s) in
         ring ys (record {
-          stands = subst (λ o. Stands e o (i ∷ ys) (Some i)) (is ∙ into ∙ sym z.1) s;
+          stands = subst (λ o. IsSegment e o (i ∷ ys) (Some i)) (is ∙ into ∙ sym z.1) s;
           apart = apart;
         })
 

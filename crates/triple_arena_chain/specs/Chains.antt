@@ -41,10 +41,10 @@ last_or before [] = before
 last_or before (x ∷ xs) = last_or (Some x) xs
 
 -- these indexes stand one after another, the first behind `before` and the last in front of `after`
-abbrev pub Stands : (ℕ → Option Ends) → Option ℕ → List ℕ → Option ℕ → Type 0
-Stands ends before [] after = Unit {0}
-Stands ends before (x ∷ xs) after = (ends x ≡ Some (before, first_or xs after))
-    × Stands ends (Some x) xs after
+abbrev pub IsSegment : (ℕ → Option Ends) → Option ℕ → List ℕ → Option ℕ → Type 0
+IsSegment ends before [] after = Unit {0}
+IsSegment ends before (x ∷ xs) after = (ends x ≡ Some (before, first_or xs after))
+    × IsSegment ends (Some x) xs after
 
 -- an index is not on a list
 abbrev pub Off : List ℕ → ℕ → Type 0
@@ -64,11 +64,11 @@ Apart (x ∷ xs) = Off xs x × Apart xs
 
 -- a linear chain
 abbrev pub IsLinear : (ℕ → Option Ends) → List ℕ → Type 0
-IsLinear ends xs = Stands ends None xs None
+IsLinear ends xs = IsSegment ends None xs None
 
 -- a ring, from one of its indexes on
 pub record IsRing (ends : ℕ → Option Ends) (xs : List ℕ) : Type 0 where
-  pub stands : Stands ends (last_or None xs) xs (first_or xs None)
+  pub stands : IsSegment ends (last_or None xs) xs (first_or xs None)
   pub apart : Apart xs
 
 -- the chain that an index stands in: a linear one, or a ring that is read from it on

@@ -2,7 +2,7 @@
 use Rattle.std.proofs.Common.{◌≡◌, ℕ, List, [], ◌∷◌, ◌++◌, reverse, Option, Some, refl, sym, ap}
 use Rattle.std.proofs.Common.{◌∙◌}
 use Rattle.triple_arena_chain.specs.Chains.{Ends, IsRing, Standing, linear, ring}
-use Rattle.triple_arena_chain.specs.ChainLaws.{Apart-last, Stands-append, last_or-append}
+use Rattle.triple_arena_chain.specs.ChainLaws.{Apart-last, segment-append, last_or-append}
 use Rattle.triple_arena_chain.specs.UniquenessLaws.{stands_once}
 use Rattle.triple_arena_chain.specs.Walks.{IsWalkFrom, along, around}
 
@@ -32,6 +32,6 @@ pub rotated : (e : ℕ → Option Ends) (p n : ℕ) (rest : List ℕ) → IsRing
 rotated e p n rest r =
     record {
       stands = rw (last_or-append (Some n) rest (p ∷ []))
-          (Stands-append e (Some p) (Some n) (n ∷ rest) (p ∷ []) r.stands.1 (r.stands.0, tt));
+          (segment-append e (Some p) (Some n) (n ∷ rest) (p ∷ []) r.stands.1 (r.stands.0, tt));
       apart = Apart-last (n ∷ rest) p r.apart.1 r.apart.0;
     }

@@ -56,12 +56,12 @@ module _ {T : Type 0} where
   removed_all last c [] = c
   removed_all last c (i ∷ is) = removed_all last (removed last c i) is
 
-module _ {I T : Type 0} (number : I → ℕ) (last : Option ℕ) where
+module _ {T : Type 0} (last : Option ℕ) where
   -- the links at these indexes are gone, each by a removal in turn; all others stay with their
   -- interlinks
-  pub record IsDrained (walk : List ℕ) (old new : Content (IndexLink I T)) : Type 0 where
-    pub ends : (k : ℕ) → ends_in number new k ≡ dropped_all (ends_in number old) walk k
-    pub lists : IsChainGone walk (ends_in number old) (ends_in number new)
+  pub record IsDrained (walk : List ℕ) (old new : Content (IndexLink T)) : Type 0 where
+    pub ends : (k : ℕ) → ends_in new k ≡ dropped_all (ends_in old) walk k
+    pub lists : IsChainGone walk (ends_in old) (ends_in new)
     pub values : (k : ℕ) → values_in new k ≡ without_all (values_in old) walk k
     pub live : live_count new + length walk ≡ live_count old
     pub counter : new.counter ≡ iterate (next_generation last) (length walk) old.counter
@@ -70,33 +70,33 @@ module _ {I T : Type 0} (number : I → ℕ) (last : Option ℕ) where
     pub room : new.room ≡ old.room
 
   -- the links of the walk from this index, if there is one to start at, are gone
-  abbrev pub IsRestDrained : Option ℕ → Content (IndexLink I T) → Content (IndexLink I T) → Type 0
-  IsRestDrained at old new = (walk : List ℕ) → IsWalk (ends_in number old) at walk
+  abbrev pub IsRestDrained : Option ℕ → Content (IndexLink T) → Content (IndexLink T) → Type 0
+  IsRestDrained at old new = (walk : List ℕ) → IsWalk (ends_in old) at walk
       → IsDrained walk old new
 
-module _ {P I T : Type 0} (number : I → ℕ) (last : Option ℕ) (index generation : P → ℕ) where
+module _ {P T : Type 0} (last : Option ℕ) (index generation : P → ℕ) where
   -- an item is the removal of the link at this index, and whether its step started the generations
   -- again; the walk that began there goes on from the next one
-  pub record IsStep (i : ℕ) (item : InvalidationOption (P × IndexLink I T)) (next : Option ℕ)
-      (old new : Content (IndexLink I T)) : Type 0 where
+  pub record IsStep (i : ℕ) (item : InvalidationOption (P × IndexLink T)) (next : Option ℕ)
+      (old new : Content (IndexLink T)) : Type 0 where
     pub index_is : index (value_of item).0 ≡ i
     pub entry : Some (generation (value_of item).0, (value_of item).1) ≡ entry_at old i
     pub overflow : overflowed item ≡ next_wraps last old.counter
-    pub taken : IsTakenOut number last i old new
-    pub goes_on : (walk : List ℕ) → IsWalk (ends_in number old) (Some i) walk → (rest : List ℕ)
-        × (walk ≡ i ∷ rest) × IsWalk (ends_in number new) next rest
-    pub leaves : (left : Content (IndexLink I T)) → IsRestDrained number last next new left
-        → IsRestDrained number last (Some i) old left
+    pub taken : IsTakenOut last i old new
+    pub goes_on : (walk : List ℕ) → IsWalk (ends_in old) (Some i) walk → (rest : List ℕ)
+        × (walk ≡ i ∷ rest) × IsWalk (ends_in new) next rest
+    pub leaves : (left : Content (IndexLink T)) → IsRestDrained last next new left
+        → IsRestDrained last (Some i) old left
 
-module _ {P I T : Type 0} (index : P → ℕ) where
+module _ {P T : Type 0} (index : P → ℕ) where
   -- the indexes of these items
-  abbrev pub indexes_of : List (InvalidationOption (P × IndexLink I T)) → List ℕ
+  abbrev pub indexes_of : List (InvalidationOption (P × IndexLink T)) → List ℕ
   indexes_of items = map
-      (λ (item : InvalidationOption (P × IndexLink I T)). index (value_of item).0) items
+      (λ (item : InvalidationOption (P × IndexLink T)). index (value_of item).0) items
 
 module _ {P T S Inx Gen Word Alloc : Type 0} where
   -- the links as the drain has them
-  abbrev pub drain_chains : ChainDrain P T S Inx Gen Word Alloc → Content (IndexLink Inx T)
+  abbrev pub drain_chains : ChainDrain P T S Inx Gen Word Alloc → Content (IndexLink T)
   drain_chains d = d.chains.now
 
   -- the ghost name of the reference to the links
@@ -110,7 +110,7 @@ module _ {P T S Inx Gen Word Alloc : Type 0} where
 
     -- these indexes are still to come
     abbrev pub IsLeft : ChainDrain P T S Inx Gen Word Alloc → List ℕ → Type 0
-    IsLeft d walk = IsWalk (ends_in number (drain_chains d)) (drain_at d) walk
+    IsLeft d walk = IsWalk (ends_in (drain_chains d)) (drain_at d) walk
 
     -- what is still to come is a walk
     abbrev pub DrainCanStep : ChainDrain P T S Inx Gen Word Alloc → Type 0
@@ -119,40 +119,40 @@ module _ {P T S Inx Gen Word Alloc : Type 0} where
     module _ (last : Option ℕ) where
       -- what the drain leaves once it is dropped: the links that are still to come are gone
       abbrev pub DrainLeaves : ChainDrain P T S Inx Gen Word Alloc
-          → Content (IndexLink Inx T) → Type 0
-      DrainLeaves d left = IsRestDrained number last (drain_at d) (drain_chains d) left
+          → Content (IndexLink T) → Type 0
+      DrainLeaves d left = IsRestDrained last (drain_at d) (drain_chains d) left
 
       -- both borrow the same arena, and what the later one leaves the earlier one leaves
       abbrev pub DrainKeeps : ChainDrain P T S Inx Gen Word Alloc
           → ChainDrain P T S Inx Gen Word Alloc → Type 0
       DrainKeeps old new = (drain_lender new ≡ drain_lender old)
-          × ((left : Content (IndexLink Inx T)) → DrainLeaves new left → DrainLeaves old left)
+          × ((left : Content (IndexLink T)) → DrainLeaves new left → DrainLeaves old left)
 
       module _ (index generation : P → ℕ) where
         -- the first removal of those that are still to come, or nothing where there is none
         abbrev pub DrainGives : ChainDrain P T S Inx Gen Word Alloc
-            → Option (InvalidationOption (P × IndexLink Inx T))
+            → Option (InvalidationOption (P × IndexLink T))
             → ChainDrain P T S Inx Gen Word Alloc → Type 0
         DrainGives old None new = (drain_at old ≡ None) × (drain_chains new ≡ drain_chains old)
         DrainGives old (Some item) new = (i : ℕ) × (drain_at old ≡ Some i)
-            × IsStep number last index generation i item (drain_at new) (drain_chains old)
+            × IsStep last index generation i item (drain_at new) (drain_chains old)
             (drain_chains new)
 
         abbrev pub DrainSteps : ChainDrain P T S Inx Gen Word Alloc
-            → Option (InvalidationOption (P × IndexLink Inx T))
+            → Option (InvalidationOption (P × IndexLink T))
             → ChainDrain P T S Inx Gen Word Alloc → Type 0
         DrainSteps old item new = DrainGives old item new × DrainKeeps old new × DrainCanStep new
 
         -- each state that steps lead to keeps what the first one keeps
         abbrev pub DrainKeepsAlong : ChainDrain P T S Inx Gen Word Alloc → Type 0
-        DrainKeepsAlong first = (items : List (InvalidationOption (P × IndexLink Inx T)))
+        DrainKeepsAlong first = (items : List (InvalidationOption (P × IndexLink T)))
             (later : ChainDrain P T S Inx Gen Word Alloc)
             → Yields DrainSteps first items later → DrainKeeps first later
 
         -- the items are the walk in order: what is left at each state that steps lead to follows
         -- them
         abbrev pub DrainGoesAlong : ChainDrain P T S Inx Gen Word Alloc → Type 0
-        DrainGoesAlong first = (items : List (InvalidationOption (P × IndexLink Inx T)))
+        DrainGoesAlong first = (items : List (InvalidationOption (P × IndexLink T)))
             (later : ChainDrain P T S Inx Gen Word Alloc)
             → Yields DrainSteps first items later → (walk : List ℕ) → IsLeft first walk
             → (rest : List ℕ) × (walk ≡ indexes_of index items ++ rest) × IsLeft later rest

@@ -1,5 +1,5 @@
 -- What is left of an arena whose links were all taken out: no value. A removal does not change it.
-use Rattle.std.proofs.Common.{◌≡◌, ℕ, Option, option_map, refl, ap}
+use Rattle.std.proofs.Common.{ℕ, Option, option_map, refl, ap}
 use Rattle.triple_arena.specs.Content.{Content, live_count, some_counter}
 use Rattle.triple_arena.specs.DrainLaws.{drained-same}
 use Rattle.triple_arena.specs.Drains.{drained, LeavesGivenUp}
@@ -9,8 +9,8 @@ use Rattle.triple_arena_chain.specs.LinkShape.{IndexLink}
 use Rattle.triple_arena_chain.specs.Links.{valued, values_in}
 use Rattle.triple_arena_chain.specs.Values.{room_in}
 
-module _ {I T : Type 0} (last : Option ℕ) where
-  pub drained-gives_up : (c : Content (IndexLink I T))
+module _ {T : Type 0} (last : Option ℕ) where
+  pub drained-gives_up : (c : Content (IndexLink T))
       → IsGivenUp values_in live_count some_counter room_in last c (drained last c)
   drained-gives_up c = record {
     entries = λ j. ap (option_map valued) (entry-drained last c j);
@@ -19,8 +19,8 @@ module _ {I T : Type 0} (last : Option ℕ) where
     room = refl;
   }
 
-module _ (I T : Type 0) (last : Option ℕ) where
-  pub drained-leaves : LeavesGivenUp {S = Content (IndexLink I T)}
+module _ (T : Type 0) (last : Option ℕ) where
+  pub drained-leaves : LeavesGivenUp {S = Content (IndexLink T)}
       {T = T} values_in live_count some_counter room_in last (drained last)
   unfolding LeavesGivenUp
   drained-leaves = (

@@ -37,7 +37,7 @@ pub record IsLinkRefusal {A : Type 0} (asked : Option (Gap ℕ)) (takes_memory :
 module _ {P T S Inx Gen Word Alloc : Type 0} where
   -- the links as the entry holds them
   abbrev pub entry_chains : ChainArenaInsertEntry P T S Inx Gen Word Alloc
-      → Content (IndexLink Inx T)
+      → Content (IndexLink T)
   entry_chains e = e.chains.now
 
   -- the ghost name of the reference to the links
@@ -52,13 +52,13 @@ module _ {P T S Inx Gen Word Alloc : Type 0} where
   pub record IsReady (number : Inx → ℕ) (index generation : P → ℕ)
       (e : ChainArenaInsertEntry P T S Inx Gen Word Alloc) : Type 0 where
     pub room : live_count (entry_chains e) < arena_capacity (entry_chains e)
-    pub gap : IsGap (ends_in number (entry_chains e)) (entry_gap number e)
+    pub gap : IsGap (ends_in (entry_chains e)) (entry_gap number e)
     pub has_index : index e.ptr ≡ next_index (entry_chains e)
     pub has_generation : generation e.ptr ≡ (entry_chains e).counter
 
   -- room in the gap that a kind asks for, which holds the reference and these links
   pub record IsEntryFor (number : Inx → ℕ) (index generation : P → ℕ) (kind : InsertKind P Inx)
-      (lender : GName) (links old : Content (IndexLink Inx T))
+      (lender : GName) (links old : Content (IndexLink T))
       (result : Result (ChainArenaInsertEntry P T S Inx Gen Word Alloc) ChainInsertionError)
       : Type 0 where
     pub same_reference : IfOk result (λ e. entry_lender e ≡ lender)

@@ -10,18 +10,18 @@ use Rattle.triple_arena_chain.specs.Links.{gap_among, IsChained, IsLinkInserted}
 
 module _ {P I T : Type 0} (index generation : P → ℕ) (number : I → ℕ) (kind : InsertKind P I)
     (t : T)
-    (result : Result P ChainInsertionError) (old new : Content (IndexLink I T)) where
+    (result : Result P ChainInsertionError) (old new : Content (IndexLink T)) where
   -- a link in the gap that the kind asks for
   abbrev pub IsInItsGap : Type 0
   IsInItsGap = IfOk result (λ p. IfSome (gap_among index generation number old kind)
-      (λ gap. IsLinkInserted number gap (index p) (generation p) t old new))
+      (λ gap. IsLinkInserted gap (index p) (generation p) t old new))
 
   -- an insertion that does not grow
   pub record InsertsWithinCapacity : Type 0 where
     pub answer : IsLinkAnswer (gap_among index generation number old kind) (live_count old)
         (arena_capacity old) result
     pub inserted : IsInItsGap
-    pub formed : IsChained number new
+    pub formed : IsChained new
     pub room : new.room ≡ old.room
 
   -- one that grows where it is full, over a stack that may take memory
@@ -29,5 +29,5 @@ module _ {P I T : Type 0} (index generation : P → ℕ) (number : I → ℕ) (k
     pub refusal : IsLinkRefusal (gap_among index generation number old kind) takes_memory
         (live_count old) old.room result
     pub inserted : IsInItsGap
-    pub formed : IsChained number new
+    pub formed : IsChained new
     pub room : OnOk result (new.room ≡ room_after (live_count old) old.room)

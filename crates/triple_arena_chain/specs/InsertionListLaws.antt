@@ -3,7 +3,7 @@ use Rattle.std.proofs.Common.{◌≡◌, ◌≢◌, ℕ, List, [], ◌∷◌, �
 use Rattle.std.proofs.Common.{subst, ◌∙◌, append_assoc}
 use Rattle.triple_arena_chain.specs.Chains.{Ends, next_in, next_at, prev_at, first_or, IsAgreed}
 use Rattle.triple_arena_chain.specs.Chains.{Off, Apart, IsLinear, IsRing}
-use Rattle.triple_arena_chain.specs.ChainLaws.{last_or-append, Off-append, Apart-taken, Stands-back}
+use Rattle.triple_arena_chain.specs.ChainLaws.{last_or-append, Off-append, Apart-taken, segment-back}
 use Rattle.triple_arena_chain.specs.Lists.{Chain, Linear, members, IsChainOf, IsOffIf, IsAppended}
 use Rattle.triple_arena_chain.specs.Lists.{IsSplit, IsPutIn, IsTaken, IsExchanged}
 use Rattle.triple_arena_chain.specs.ListLaws.{turned, off_or_not, on_differs, holds_prev}
@@ -17,7 +17,7 @@ module _ (old new : ℕ → Option Ends) (p n : ℕ)
       → IsLinear new (before ++ (p ∷ n ∷ after))
   linear-put_after before after s =
       let begins : first_or after None ≡ next_at old p =
-      sym (ap next_in (Stands-back old None None before (p ∷ after) s).0) in
+      sym (ap next_in (segment-back old None None before (p ∷ after) s).0) in
       let whole : IsLinear old ((before ++ p ∷ []) ++ after) =
       subst (IsLinear old) (sym (append_assoc before (p ∷ []) after)) s in
       subst (IsLinear new) (append_assoc before (p ∷ []) (n ∷ after))
@@ -113,7 +113,7 @@ module _ (old between broken new : ℕ → Option Ends) (o p q : ℕ)
           → Off (before ++ (o ∷ q ∷ rest)) p
           → IsLinear new (before ++ (o ∷ q ∷ p ∷ rest))
       by (x ∷ xs) t off =
-          let goes_on = ap next_in (Stands-back between None None before (o ∷ q ∷ x ∷ xs) t).1.0 in
+          let goes_on = ap next_in (segment-back between None None before (o ∷ q ∷ x ∷ xs) t).1.0 in
           absurd (let no : None ≡ Some x = sym end ∙ goes_on in cc)
       by [] t off =
           let same = append_assoc before (o ∷ []) (q ∷ []) in

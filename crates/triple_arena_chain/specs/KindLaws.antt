@@ -67,133 +67,133 @@ bridge_gap i j (Some v) (Some w) there = by v.1 w.0 there
     by None (Some m) some = absurd (true≢false (sym some))
     by (Some n) m some = absurd (true≢false (sym some))
 
-module _ {I T : Type 0} (number : I → ℕ) where
+module _ {T : Type 0} where
   -- what a pointer finds is what is at its index
-  pub found : (c : Content (IndexLink I T)) (i g : ℕ) (v : Ends) → ends_found number c i g ≡ Some v
-      → ends_in number c i ≡ Some v
+  pub found : (c : Content (IndexLink T)) (i g : ℕ) (v : Ends) → ends_found c i g ≡ Some v
+      → ends_in c i ≡ Some v
   found c i g v h = by (entry_at c i) refl h
     where
-      by : (o : Option (ℕ × IndexLink I T)) → entry_at c i ≡ o
-          → option_map (link_ends number) (value_if g o) ≡ Some v → ends_in number c i ≡ Some v
+      by : (o : Option (ℕ × IndexLink T)) → entry_at c i ≡ o
+          → option_map link_ends (value_if g o) ≡ Some v → ends_in c i ≡ Some v
       by None at is = absurd (let no : None ≡ Some v = is in cc)
       by (Some e) at is =
           elim (eqb_tells e.0 g) [
-            | inl same ↦ rw at (let it : Some (link_ends number e.1) ≡ Some v =
+            | inl same ↦ rw at (let it : Some (link_ends e.1) ≡ Some v =
                 rw same.0 at is in it)
             | inr differs ↦ absurd (let no : None ≡ Some v = rw differs.0 at is in cc)
           ]
 
 module _ {P I T : Type 0} (index generation : P → ℕ) (number : I → ℕ) where
   -- an insertion directly after a link
-  pub put-next_to : (c d : Content (IndexLink I T)) (p : P) (i g : ℕ) (t : T)
+  pub put-next_to : (c d : Content (IndexLink T)) (p : P) (i g : ℕ) (t : T)
       → IsSome (gap_among index generation number c (NextTo p))
       → IfSome (gap_among index generation number c (NextTo p))
-      (λ gap. IsLinkInserted number gap i g t c d)
-      → IsPutIn (Some (index p), next_at (ends_in number c) (index p)) i (ends_in number c)
-      (ends_in number d)
-  put-next_to c d p i g t there inserted = by (ends_found number c (index p) (generation p))
-      (λ v is. found number c (index p) (generation p) v is) there inserted
+      (λ gap. IsLinkInserted gap i g t c d)
+      → IsPutIn (Some (index p), next_at (ends_in c) (index p)) i (ends_in c)
+      (ends_in d)
+  put-next_to c d p i g t there inserted = by (ends_found c (index p) (generation p))
+      (λ v is. found c (index p) (generation p) v is) there inserted
     where
-      by : (o : Option Ends) → ((v : Ends) → o ≡ Some v → ends_in number c (index p) ≡ Some v)
+      by : (o : Option Ends) → ((v : Ends) → o ≡ Some v → ends_in c (index p) ≡ Some v)
           → IsSome (after_link (index p) o)
-          → IfSome (after_link (index p) o) (λ gap. IsLinkInserted number gap i g t c d)
-          → IsPutIn (Some (index p), next_at (ends_in number c) (index p)) i (ends_in number c)
-          (ends_in number d)
+          → IfSome (after_link (index p) o) (λ gap. IsLinkInserted gap i g t c d)
+          → IsPutIn (Some (index p), next_at (ends_in c) (index p)) i (ends_in c)
+          (ends_in d)
       by None at there inserted = absurd (true≢false (sym there))
       by (Some v) at there inserted =
-          subst (λ o. IsPutIn (Some (index p), o) i (ends_in number c) (ends_in number d))
+          subst (λ o. IsPutIn (Some (index p), o) i (ends_in c) (ends_in d))
           (sym (ap next_in (at v refl))) inserted.lists
 
-  at_gap : (c d : Content (IndexLink I T)) (i g : ℕ) (t : T) (o : Option (Gap ℕ))
+  at_gap : (c d : Content (IndexLink T)) (i g : ℕ) (t : T) (o : Option (Gap ℕ))
       (gap : Gap ℕ) → o ≡ Some gap
-      → IfSome o (λ gap. IsLinkInserted number gap i g t c d) → IsLinkInserted number gap i g t c d
+      → IfSome o (λ gap. IsLinkInserted gap i g t c d) → IsLinkInserted gap i g t c d
   at_gap c d i g t o gap is inserted =
-      let there : IfSome (Some gap) (λ gap. IsLinkInserted number gap i g t c d) =
-      subst (λ x. IfSome x (λ gap. IsLinkInserted number gap i g t c d)) is inserted in there
+      let there : IfSome (Some gap) (λ gap. IsLinkInserted gap i g t c d) =
+      subst (λ x. IfSome x (λ gap. IsLinkInserted gap i g t c d)) is inserted in there
 
   -- a link for itself
-  pub put-disconnected : (c d : Content (IndexLink I T)) (i g : ℕ) (t : T)
+  pub put-disconnected : (c d : Content (IndexLink T)) (i g : ℕ) (t : T)
       → IsSome (gap_among index generation number c Disconnected)
       → IfSome (gap_among index generation number c Disconnected)
-      (λ gap. IsLinkInserted number gap i g t c d)
-      → IsPutIn (None, None) i (ends_in number c) (ends_in number d)
+      (λ gap. IsLinkInserted gap i g t c d)
+      → IsPutIn (None, None) i (ends_in c) (ends_in d)
   put-disconnected c d i g t there inserted =
       inserted.lists
 
   -- a ring of one
-  pub put-own_ring : (c d : Content (IndexLink I T)) (i g : ℕ) (t : T)
+  pub put-own_ring : (c d : Content (IndexLink T)) (i g : ℕ) (t : T)
       → IsSome (gap_among index generation number c SingleLinkCyclic)
       → IfSome (gap_among index generation number c SingleLinkCyclic)
-      (λ gap. IsLinkInserted number gap i g t c d)
-      → IsOwnRing i (ends_in number c) (ends_in number d)
+      (λ gap. IsLinkInserted gap i g t c d)
+      → IsOwnRing i (ends_in c) (ends_in d)
   put-own_ring c d i g t there inserted =
       inserted.lists
 
   -- an insertion behind the end of a chain
-  pub put-chain_end : (c d : Content (IndexLink I T)) (p : P) (i g : ℕ) (t : T)
+  pub put-chain_end : (c d : Content (IndexLink T)) (p : P) (i g : ℕ) (t : T)
       → IsSome (gap_among index generation number c (ChainEnd p))
       → IfSome (gap_among index generation number c (ChainEnd p))
-      (λ gap. IsLinkInserted number gap i g t c d)
-      → IsPutIn (Some (index p), None) i (ends_in number c) (ends_in number d)
+      (λ gap. IsLinkInserted gap i g t c d)
+      → IsPutIn (Some (index p), None) i (ends_in c) (ends_in d)
   put-chain_end c d p i g t there inserted =
-      (at_gap c d i g t (at_end (index p) (ends_found number c (index p) (generation p)))
+      (at_gap c d i g t (at_end (index p) (ends_found c (index p) (generation p)))
       (Between (Some (index p)) None)
-      (end_gap (index p) (ends_found number c (index p) (generation p)) there) inserted).lists
+      (end_gap (index p) (ends_found c (index p) (generation p)) there) inserted).lists
 
   -- in front of its start
-  pub put-chain_start : (c d : Content (IndexLink I T)) (p : P) (i g : ℕ) (t : T)
+  pub put-chain_start : (c d : Content (IndexLink T)) (p : P) (i g : ℕ) (t : T)
       → IsSome (gap_among index generation number c (ChainStart p))
       → IfSome (gap_among index generation number c (ChainStart p))
-      (λ gap. IsLinkInserted number gap i g t c d)
-      → IsPutIn (None, Some (index p)) i (ends_in number c) (ends_in number d)
+      (λ gap. IsLinkInserted gap i g t c d)
+      → IsPutIn (None, Some (index p)) i (ends_in c) (ends_in d)
   put-chain_start c d p i g t there inserted =
-      (at_gap c d i g t (at_start (index p) (ends_found number c (index p) (generation p)))
+      (at_gap c d i g t (at_start (index p) (ends_found c (index p) (generation p)))
       (Between None (Some (index p)))
-      (start_gap (index p) (ends_found number c (index p) (generation p)) there) inserted).lists
+      (start_gap (index p) (ends_found c (index p) (generation p)) there) inserted).lists
 
   -- between a link and its next
-  pub put-at_interlink : (c d : Content (IndexLink I T)) (p q : P) (i g : ℕ) (t : T)
+  pub put-at_interlink : (c d : Content (IndexLink T)) (p q : P) (i g : ℕ) (t : T)
       → IsSome (gap_among index generation number c (AtInterlink p q))
       → IfSome (gap_among index generation number c (AtInterlink p q))
-      (λ gap. IsLinkInserted number gap i g t c d)
-      → IsPutIn (Some (index p), Some (index q)) i (ends_in number c) (ends_in number d)
+      (λ gap. IsLinkInserted gap i g t c d)
+      → IsPutIn (Some (index p), Some (index q)) i (ends_in c) (ends_in d)
   put-at_interlink c d p q i g t there inserted =
       (at_gap c d i g t (at_interlink (index p) (index q)
-      (ends_found number c (index p) (generation p)) (ends_found number c (index q) (generation q)))
+      (ends_found c (index p) (generation p)) (ends_found c (index q) (generation q)))
       (Between (Some (index p)) (Some (index q)))
-      (interlink_gap (index p) (index q) (ends_found number c (index p) (generation p))
-      (ends_found number c (index q) (generation q)) there)
+      (interlink_gap (index p) (index q) (ends_found c (index p) (generation p))
+      (ends_found c (index q) (generation q)) there)
       inserted).lists
 
   -- between an end and a start
-  pub put-bridge : (c d : Content (IndexLink I T)) (p q : P) (i g : ℕ) (t : T)
+  pub put-bridge : (c d : Content (IndexLink T)) (p q : P) (i g : ℕ) (t : T)
       → IsSome (gap_among index generation number c (Bridge p q))
       → IfSome (gap_among index generation number c (Bridge p q))
-      (λ gap. IsLinkInserted number gap i g t c d)
-      → IsPutIn (Some (index p), Some (index q)) i (ends_in number c) (ends_in number d)
+      (λ gap. IsLinkInserted gap i g t c d)
+      → IsPutIn (Some (index p), Some (index q)) i (ends_in c) (ends_in d)
   put-bridge c d p q i g t there inserted =
       (at_gap c d i g t (at_bridge (index p) (index q)
-      (ends_found number c (index p) (generation p)) (ends_found number c (index q) (generation q)))
+      (ends_found c (index p) (generation p)) (ends_found c (index q) (generation q)))
       (Between (Some (index p)) (Some (index q)))
-      (bridge_gap (index p) (index q) (ends_found number c (index p) (generation p))
-      (ends_found number c (index q) (generation q)) there) inserted).lists
+      (bridge_gap (index p) (index q) (ends_found c (index p) (generation p))
+      (ends_found c (index q) (generation q)) there) inserted).lists
 
   -- directly before a link
-  pub put-prev_to : (c d : Content (IndexLink I T)) (p : P) (i g : ℕ) (t : T)
+  pub put-prev_to : (c d : Content (IndexLink T)) (p : P) (i g : ℕ) (t : T)
       → IsSome (gap_among index generation number c (PrevTo p))
       → IfSome (gap_among index generation number c (PrevTo p))
-      (λ gap. IsLinkInserted number gap i g t c d)
-      → IsPutIn (prev_at (ends_in number c) (index p), Some (index p)) i (ends_in number c)
-      (ends_in number d)
-  put-prev_to c d p i g t there inserted = by (ends_found number c (index p) (generation p))
-      (λ v is. found number c (index p) (generation p) v is) there inserted
+      (λ gap. IsLinkInserted gap i g t c d)
+      → IsPutIn (prev_at (ends_in c) (index p), Some (index p)) i (ends_in c)
+      (ends_in d)
+  put-prev_to c d p i g t there inserted = by (ends_found c (index p) (generation p))
+      (λ v is. found c (index p) (generation p) v is) there inserted
     where
-      by : (o : Option Ends) → ((v : Ends) → o ≡ Some v → ends_in number c (index p) ≡ Some v)
+      by : (o : Option Ends) → ((v : Ends) → o ≡ Some v → ends_in c (index p) ≡ Some v)
           → IsSome (before_link (index p) o)
-          → IfSome (before_link (index p) o) (λ gap. IsLinkInserted number gap i g t c d)
-          → IsPutIn (prev_at (ends_in number c) (index p), Some (index p)) i (ends_in number c)
-          (ends_in number d)
+          → IfSome (before_link (index p) o) (λ gap. IsLinkInserted gap i g t c d)
+          → IsPutIn (prev_at (ends_in c) (index p), Some (index p)) i (ends_in c)
+          (ends_in d)
       by None at there inserted = absurd (true≢false (sym there))
       by (Some v) at there inserted =
-          subst (λ o. IsPutIn (o, Some (index p)) i (ends_in number c) (ends_in number d))
+          subst (λ o. IsPutIn (o, Some (index p)) i (ends_in c) (ends_in d))
           (sym (ap prev_in (at v refl))) inserted.lists

@@ -20,19 +20,17 @@ module _ {S T U : Type 0} (entry_of : S → ℕ → Option (ℕ × T)) (live_of 
     pub exact : new ≡ copied_of old source_counter (entries_of new)
 
 -- at links of any type, of which these are the indexes of the neighbors
-module _ {I L : Type 0} (neighbors : L → Option I × Option I) where
+module _ {L : Type 0} (neighbors : L → Option ℕ × Option ℕ) where
   -- two listed links with the same index and the same interlinks
-  abbrev pub HasEndsOf : {T : Type 0} → ℕ × (ℕ × L) → ℕ × (ℕ × IndexLink I T) → Type 0
+  abbrev pub HasEndsOf : {T : Type 0} → ℕ × (ℕ × L) → ℕ × (ℕ × IndexLink T) → Type 0
   HasEndsOf old new = (new.0 ≡ old.0) × (prev_next_of new.1.1 ≡ neighbors old.1.1)
 
   -- each link has the index and the interlinks of the one that it is a copy of
   abbrev pub IsLinkedCopy : {T : Type 0} → List (ℕ × (ℕ × L))
-      → List (ℕ × (ℕ × IndexLink I T)) → Type 0
+      → List (ℕ × (ℕ × IndexLink T)) → Type 0
   IsLinkedCopy old new = AllZip HasEndsOf old new
 
   -- the interlinks at an index, among listed links
-  abbrev pub listed_ends : (I → ℕ) → List (ℕ × (ℕ × L)) → ℕ → Option Ends
-  listed_ends number links i =
-      option_map (λ (e : ℕ × L).
-      (option_map number (neighbors e.1).0, option_map number (neighbors e.1).1))
-      (look_up links i)
+  abbrev pub listed_ends : List (ℕ × (ℕ × L)) → ℕ → Option Ends
+  listed_ends links i =
+      option_map (λ (e : ℕ × L). neighbors e.1) (look_up links i)

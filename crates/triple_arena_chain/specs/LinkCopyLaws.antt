@@ -11,10 +11,10 @@ use Rattle.triple_arena_chain.specs.Links.{ends_in, entry_ends, prev_next_of}
 use Rattle.triple_arena_chain.specs.ListLaws.{chain_where}
 use Rattle.triple_arena_chain.specs.Lists.{Chain, IsChainOf}
 
-module _ {I T : Type 0} (number : I → ℕ) where
-  pub listed_ends-is : (c : Content (IndexLink I T)) (i : ℕ)
-      → listed_ends prev_next_of number (live_entries c) i ≡ ends_in number c i
-  listed_ends-is c i = sym (ap (option_map (entry_ends number)) (entry-listed c i))
+module _ {T : Type 0} where
+  pub listed_ends-is : (c : Content (IndexLink T)) (i : ℕ)
+      → listed_ends prev_next_of (live_entries c) i ≡ ends_in c i
+  listed_ends-is c i = sym (ap (option_map entry_ends) (entry-listed c i))
 
 -- what follows if there is an answer
 pub on_ok : {A E X Y : Type 0} (r : Result A E) → (X → Y) → OnOk r X → OnOk r Y

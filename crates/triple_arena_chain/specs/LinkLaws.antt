@@ -15,9 +15,9 @@ use Rattle.triple_arena_chain.specs.Links.{valued, values_in, with_link, with_li
 use Rattle.triple_arena_chain.specs.Links.{with_value_in, IsKept, IsChained, link_ends, entry_ends}
 use Rattle.triple_arena_chain.specs.Links.{ends_in, with_next_of, with_prev_of}
 
-module _ {I T : Type 0} where
+module _ {T : Type 0} where
   -- what two changes in turn keep
-  pub kept_on : (a b c : Content (IndexLink I T)) → IsKept a b → IsKept b c → IsKept a c
+  pub kept_on : (a b c : Content (IndexLink T)) → IsKept a b → IsKept b c → IsKept a c
   kept_on a b c first second =
       record {
         live = second.live ∙ first.live;
@@ -27,20 +27,20 @@ module _ {I T : Type 0} where
         room = second.room ∙ first.room;
       }
 
-  abbrev changed : (IndexLink I T → IndexLink I T) → ℕ × IndexLink I T → ℕ × IndexLink I T
+  abbrev changed : (IndexLink T → IndexLink T) → ℕ × IndexLink T → ℕ × IndexLink T
   changed f entry = (entry.0, f entry.1)
 
-  abbrev changed_ends : (I → ℕ) → (IndexLink I T → IndexLink I T) → ℕ × IndexLink I T → Ends
-  changed_ends number f entry = link_ends number (f entry.1)
+  abbrev changed_ends : (IndexLink T → IndexLink T) → ℕ × IndexLink T → Ends
+  changed_ends f entry = link_ends (f entry.1)
 
   -- a write of a link changes the entry at its index alone
-  pub entry-with_link : (c : Content (IndexLink I T)) (i : ℕ)
-      (f : IndexLink I T → IndexLink I T) (k : ℕ)
+  pub entry-with_link : (c : Content (IndexLink T)) (i : ℕ)
+      (f : IndexLink T → IndexLink T) (k : ℕ)
       → entry_at (with_link c i f) k
       ≡ (if k == i then option_map (changed f) (entry_at c i) else entry_at c k)
   entry-with_link c i f k = by_entry (entry_at c i) refl
     where
-      by_entry : (o : Option (ℕ × IndexLink I T)) → entry_at c i ≡ o
+      by_entry : (o : Option (ℕ × IndexLink T)) → entry_at c i ≡ o
           → entry_at (with_link c i f) k
           ≡ (if k == i then option_map (changed f) (entry_at c i) else entry_at c k)
       by_entry None is =
@@ -57,11 +57,11 @@ module _ {I T : Type 0} where
             | inr other ↦ rw other.0 refl
           ]
 
-  pub kept-with_link : (c : Content (IndexLink I T)) (i : ℕ) (f : IndexLink I T → IndexLink I T)
+  pub kept-with_link : (c : Content (IndexLink T)) (i : ℕ) (f : IndexLink T → IndexLink T)
       → IsKept c (with_link c i f)
   kept-with_link c i f = by_entry (entry_at c i) refl
     where
-      by_entry : (o : Option (ℕ × IndexLink I T)) → entry_at c i ≡ o → IsKept c (with_link c i f)
+      by_entry : (o : Option (ℕ × IndexLink T)) → entry_at c i ≡ o → IsKept c (with_link c i f)
       by_entry None is =
           subst (IsKept c) (sym (ap (with_link_of c i f) is))
           (record { live = refl; slots = refl; free = refl; counter = refl; room = refl })
@@ -75,19 +75,19 @@ module _ {I T : Type 0} where
             room = room-with_value c i (f e.1);
           })
 
-  pub formed-with_link : (c : Content (IndexLink I T)) (i : ℕ) (f : IndexLink I T → IndexLink I T)
+  pub formed-with_link : (c : Content (IndexLink T)) (i : ℕ) (f : IndexLink T → IndexLink T)
       → IsWellFormed c → IsWellFormed (with_link c i f)
   formed-with_link c i f formed = by_entry (entry_at c i) refl
     where
-      by_entry : (o : Option (ℕ × IndexLink I T)) → entry_at c i ≡ o
+      by_entry : (o : Option (ℕ × IndexLink T)) → entry_at c i ≡ o
           → IsWellFormed (with_link c i f)
       by_entry None is = subst IsWellFormed (sym (ap (with_link_of c i f) is)) formed
       by_entry (Some e) is = subst IsWellFormed (sym (ap (with_link_of c i f) is))
           (formed-with_value c i (f e.1) formed)
 
   -- a write that leaves the values of links leaves the values
-  values-with_link : (c : Content (IndexLink I T)) (i : ℕ) (f : IndexLink I T → IndexLink I T)
-      → ((l : IndexLink I T) → (f l).t ≡ l.t)
+  values-with_link : (c : Content (IndexLink T)) (i : ℕ) (f : IndexLink T → IndexLink T)
+      → ((l : IndexLink T) → (f l).t ≡ l.t)
       → (k : ℕ) → values_in (with_link c i f) k ≡ values_in c k
   values-with_link c i f same k =
       ap (option_map valued) (entry-with_link c i f k)
@@ -96,68 +96,68 @@ module _ {I T : Type 0} where
         | inr other ↦ rw other.0 refl
       ]
     where
-      by_entry : (o : Option (ℕ × IndexLink I T))
+      by_entry : (o : Option (ℕ × IndexLink T))
           → option_map valued (option_map (changed f) o) ≡ option_map valued o
       by_entry None = refl
       by_entry (Some e) = ap (λ t. Some (e.0, t)) (same e.1)
 
-module _ {I T : Type 0} (number : I → ℕ) where
-  ends-with_link : (c : Content (IndexLink I T)) (i : ℕ) (f : IndexLink I T → IndexLink I T) (k : ℕ)
-      → ends_in number (with_link c i f) k
-      ≡ (if k == i then option_map (changed_ends number f) (entry_at c i) else ends_in number c k)
+module _ {T : Type 0} where
+  ends-with_link : (c : Content (IndexLink T)) (i : ℕ) (f : IndexLink T → IndexLink T) (k : ℕ)
+      → ends_in (with_link c i f) k
+      ≡ (if k == i then option_map (changed_ends f) (entry_at c i) else ends_in c k)
   ends-with_link c i f k =
-      ap (option_map (entry_ends number)) (entry-with_link c i f k)
+      ap (option_map entry_ends) (entry-with_link c i f k)
       ∙ elim (eqb_tells k i) [
         | inl at ↦ rw at.0 (by_entry (entry_at c i))
         | inr other ↦ rw other.0 refl
       ]
     where
-      by_entry : (o : Option (ℕ × IndexLink I T))
-          → option_map (entry_ends number) (option_map (changed f) o)
-          ≡ option_map (changed_ends number f) o
+      by_entry : (o : Option (ℕ × IndexLink T))
+          → option_map entry_ends (option_map (changed f) o)
+          ≡ option_map (changed_ends f) o
       by_entry None = refl
       by_entry (Some e) = refl
 
   -- another next of a link
-  pub ends-with_next_of : (c : Content (IndexLink I T)) (at next : Option I) (k : ℕ)
-      → ends_in number (with_next_of number c at next) k
-      ≡ with_next_if (ends_in number c) (option_map number at) (option_map number next) k
+  pub ends-with_next_of : (c : Content (IndexLink T)) (at next : Option ℕ) (k : ℕ)
+      → ends_in (with_next_of c at next) k
+      ≡ with_next_if (ends_in c) at next k
   ends-with_next_of c None next k = refl
   ends-with_next_of c (Some i) next k =
-      ends-with_link c (number i) (λ link. record link { next = next }) k
-      ∙ elim (eqb_tells k (number i)) [
-        | inl at ↦ rw at.0 (by_entry (entry_at c (number i)) ∙ ap
-            (λ n. renext (option_map number next) (ends_in number c n)) (sym at.1))
+      ends-with_link c i (λ link. record link { next = next }) k
+      ∙ elim (eqb_tells k i) [
+        | inl at ↦ rw at.0 (by_entry (entry_at c i) ∙ ap
+            (λ n. renext next (ends_in c n)) (sym at.1))
         | inr other ↦ rw other.0 refl
       ]
     where
-      by_entry : (o : Option (ℕ × IndexLink I T))
-          → option_map (changed_ends number (λ link. record link { next = next })) o
-          ≡ renext (option_map number next) (option_map (entry_ends number) o)
+      by_entry : (o : Option (ℕ × IndexLink T))
+          → option_map (changed_ends (λ link. record link { next = next })) o
+          ≡ renext next (option_map entry_ends o)
       by_entry None = refl
       by_entry (Some e) = refl
 
   -- another previous one of a link
-  pub ends-with_prev_of : (c : Content (IndexLink I T)) (at prev : Option I) (k : ℕ)
-      → ends_in number (with_prev_of number c at prev) k
-      ≡ with_prev_if (ends_in number c) (option_map number at) (option_map number prev) k
+  pub ends-with_prev_of : (c : Content (IndexLink T)) (at prev : Option ℕ) (k : ℕ)
+      → ends_in (with_prev_of c at prev) k
+      ≡ with_prev_if (ends_in c) at prev k
   ends-with_prev_of c None prev k = refl
   ends-with_prev_of c (Some i) prev k =
-      ends-with_link c (number i) (λ link. record link { prev = prev }) k
-      ∙ elim (eqb_tells k (number i)) [
-        | inl at ↦ rw at.0 (by_entry (entry_at c (number i)) ∙ ap
-            (λ n. reprev (option_map number prev) (ends_in number c n)) (sym at.1))
+      ends-with_link c i (λ link. record link { prev = prev }) k
+      ∙ elim (eqb_tells k i) [
+        | inl at ↦ rw at.0 (by_entry (entry_at c i) ∙ ap
+            (λ n. reprev prev (ends_in c n)) (sym at.1))
         | inr other ↦ rw other.0 refl
       ]
     where
-      by_entry : (o : Option (ℕ × IndexLink I T))
-          → option_map (changed_ends number (λ link. record link { prev = prev })) o
-          ≡ reprev (option_map number prev) (option_map (entry_ends number) o)
+      by_entry : (o : Option (ℕ × IndexLink T))
+          → option_map (changed_ends (λ link. record link { prev = prev })) o
+          ≡ reprev prev (option_map entry_ends o)
       by_entry None = refl
       by_entry (Some e) = refl
 
   -- what was live is live
-  pub live-with_link : (c : Content (IndexLink I T)) (i : ℕ) (f : IndexLink I T → IndexLink I T)
+  pub live-with_link : (c : Content (IndexLink T)) (i : ℕ) (f : IndexLink T → IndexLink T)
       (k : ℕ) → IsSome (entry_at c k)
       → IsSome (entry_at (with_link c i f) k)
   live-with_link c i f k some =
@@ -167,76 +167,76 @@ module _ {I T : Type 0} (number : I → ℕ) where
         | inr other ↦ rw other.0 some
       ]
     where
-      by_entry : (o : Option (ℕ × IndexLink I T)) → IsSome o
+      by_entry : (o : Option (ℕ × IndexLink T)) → IsSome o
           → is_some (option_map (changed f) o) ≡ true
       by_entry None h = h
       by_entry (Some e) h = refl
 
-  pub live-with_next_of : (c : Content (IndexLink I T)) (at next : Option I) (k : ℕ)
+  pub live-with_next_of : (c : Content (IndexLink T)) (at next : Option ℕ) (k : ℕ)
       → IsSome (entry_at c k)
-      → IsSome (entry_at (with_next_of number c at next) k)
+      → IsSome (entry_at (with_next_of c at next) k)
   live-with_next_of c None next k some = some
   live-with_next_of c (Some i) next k some
-      = live-with_link c (number i) (λ link. record link { next = next }) k some
+      = live-with_link c i (λ link. record link { next = next }) k some
 
-  pub neighbor-with_next_of : (c : Content (IndexLink I T)) (at next other : Option I)
-      → IfSome other (λ i. IsSome (entry_at c (number i)))
-      → IfSome other (λ i. IsSome (entry_at (with_next_of number c at next) (number i)))
+  pub neighbor-with_next_of : (c : Content (IndexLink T)) (at next other : Option ℕ)
+      → IfSome other (λ i. IsSome (entry_at c i))
+      → IfSome other (λ i. IsSome (entry_at (with_next_of c at next) i))
   neighbor-with_next_of c at next None live = tt
-  neighbor-with_next_of c at next (Some j) live = live-with_next_of c at next (number j) live
+  neighbor-with_next_of c at next (Some j) live = live-with_next_of c at next j live
 
-  kept-same : (c : Content (IndexLink I T)) → IsKept c c
+  kept-same : (c : Content (IndexLink T)) → IsKept c c
   kept-same c = record { live = refl; slots = refl; free = refl; counter = refl; room = refl }
 
-  pub values-with_next_of : (c : Content (IndexLink I T)) (at next : Option I) (k : ℕ)
-      → values_in (with_next_of number c at next) k ≡ values_in c k
+  pub values-with_next_of : (c : Content (IndexLink T)) (at next : Option ℕ) (k : ℕ)
+      → values_in (with_next_of c at next) k ≡ values_in c k
   values-with_next_of c None next k = refl
   values-with_next_of c (Some i) next k
-      = values-with_link c (number i) (λ link. record link { next = next }) (λ l. refl) k
+      = values-with_link c i (λ link. record link { next = next }) (λ l. refl) k
 
-  pub values-with_prev_of : (c : Content (IndexLink I T)) (at prev : Option I) (k : ℕ)
-      → values_in (with_prev_of number c at prev) k ≡ values_in c k
+  pub values-with_prev_of : (c : Content (IndexLink T)) (at prev : Option ℕ) (k : ℕ)
+      → values_in (with_prev_of c at prev) k ≡ values_in c k
   values-with_prev_of c None prev k = refl
   values-with_prev_of c (Some i) prev k
-      = values-with_link c (number i) (λ link. record link { prev = prev }) (λ l. refl) k
+      = values-with_link c i (λ link. record link { prev = prev }) (λ l. refl) k
 
-  pub kept-with_next_of : (c : Content (IndexLink I T)) (at next : Option I)
-      → IsKept c (with_next_of number c at next)
+  pub kept-with_next_of : (c : Content (IndexLink T)) (at next : Option ℕ)
+      → IsKept c (with_next_of c at next)
   kept-with_next_of c None next = kept-same c
   kept-with_next_of c (Some i) next
-      = kept-with_link c (number i) (λ link. record link { next = next })
+      = kept-with_link c i (λ link. record link { next = next })
 
-  pub kept-with_prev_of : (c : Content (IndexLink I T)) (at prev : Option I)
-      → IsKept c (with_prev_of number c at prev)
+  pub kept-with_prev_of : (c : Content (IndexLink T)) (at prev : Option ℕ)
+      → IsKept c (with_prev_of c at prev)
   kept-with_prev_of c None prev = kept-same c
   kept-with_prev_of c (Some i) prev
-      = kept-with_link c (number i) (λ link. record link { prev = prev })
+      = kept-with_link c i (λ link. record link { prev = prev })
 
-  pub formed-with_next_of : (c : Content (IndexLink I T)) (at next : Option I) → IsWellFormed c
-      → IsWellFormed (with_next_of number c at next)
+  pub formed-with_next_of : (c : Content (IndexLink T)) (at next : Option ℕ) → IsWellFormed c
+      → IsWellFormed (with_next_of c at next)
   formed-with_next_of c None next formed = formed
   formed-with_next_of c (Some i) next formed
-      = formed-with_link c (number i) (λ link. record link { next = next }) formed
+      = formed-with_link c i (λ link. record link { next = next }) formed
 
-  pub formed-with_prev_of : (c : Content (IndexLink I T)) (at prev : Option I) → IsWellFormed c
-      → IsWellFormed (with_prev_of number c at prev)
+  pub formed-with_prev_of : (c : Content (IndexLink T)) (at prev : Option ℕ) → IsWellFormed c
+      → IsWellFormed (with_prev_of c at prev)
   formed-with_prev_of c None prev formed = formed
   formed-with_prev_of c (Some i) prev formed
-      = formed-with_link c (number i) (λ link. record link { prev = prev }) formed
+      = formed-with_link c i (λ link. record link { prev = prev }) formed
 
   -- another value in a link leaves the interlinks
-  pub ends-with_value_in : (c : Content (IndexLink I T)) (i : ℕ) (t : T) (k : ℕ)
-      → ends_in number (with_value_in c i t) k ≡ ends_in number c k
+  pub ends-with_value_in : (c : Content (IndexLink T)) (i : ℕ) (t : T) (k : ℕ)
+      → ends_in (with_value_in c i t) k ≡ ends_in c k
   ends-with_value_in c i t k =
       ends-with_link c i (λ link. record link { t = t }) k
       ∙ elim (eqb_tells k i) [
-        | inl at ↦ rw at.0 (ap (ends_in number c) (sym at.1))
+        | inl at ↦ rw at.0 (ap (ends_in c) (sym at.1))
         | inr other ↦ rw other.0 refl
       ]
 
-module _ {I T : Type 0} where
+module _ {T : Type 0} where
   -- and is what it was written
-  pub values-with_value_in : (c : Content (IndexLink I T)) (i : ℕ) (t : T) (k : ℕ)
+  pub values-with_value_in : (c : Content (IndexLink T)) (i : ℕ) (t : T) (k : ℕ)
       → values_in (with_value_in c i t) k ≡ with_value_at (values_in c) i t k
   values-with_value_in c i t k =
       ap (option_map valued) (entry-with_link c i (λ link. record link { t = t }) k)
@@ -245,41 +245,41 @@ module _ {I T : Type 0} where
         | inr other ↦ rw other.0 refl
       ]
     where
-      by_entry : (o : Option (ℕ × IndexLink I T))
+      by_entry : (o : Option (ℕ × IndexLink T))
           → option_map valued (option_map (changed (λ link. record link { t = t })) o)
           ≡ option_map (λ (e : ℕ × T). (let v : ℕ × T = (e.0, t) in v)) (option_map valued o)
       by_entry None = refl
       by_entry (Some e) = refl
 
-  pub kept-with_value_in : (c : Content (IndexLink I T)) (i : ℕ) (t : T)
+  pub kept-with_value_in : (c : Content (IndexLink T)) (i : ℕ) (t : T)
       → IsKept c (with_value_in c i t)
   kept-with_value_in c i t = kept-with_link c i (λ link. record link { t = t })
 
-  pub live-with_value_in : (c : Content (IndexLink I T)) (i : ℕ) (t : T)
+  pub live-with_value_in : (c : Content (IndexLink T)) (i : ℕ) (t : T)
       → live_count (with_value_in c i t) ≡ live_count c
   live-with_value_in c i t = (kept-with_value_in c i t).live
 
-  pub counter-with_value_in : (c : Content (IndexLink I T)) (i : ℕ) (t : T)
+  pub counter-with_value_in : (c : Content (IndexLink T)) (i : ℕ) (t : T)
       → some_counter (with_value_in c i t) ≡ some_counter c
   counter-with_value_in c i t = ap Some (kept-with_value_in c i t).counter
 
-  pub room-with_value_in : (c : Content (IndexLink I T)) (i : ℕ) (t : T)
+  pub room-with_value_in : (c : Content (IndexLink T)) (i : ℕ) (t : T)
       → (with_value_in c i t).room ≡ c.room
   room-with_value_in c i t = (kept-with_value_in c i t).room
 
-  pub formed-with_value_in : (c : Content (IndexLink I T)) (i : ℕ) (t : T) → IsWellFormed c
+  pub formed-with_value_in : (c : Content (IndexLink T)) (i : ℕ) (t : T) → IsWellFormed c
       → IsWellFormed (with_value_in c i t)
   formed-with_value_in c i t formed = formed-with_link c i (λ link. record link { t = t }) formed
 
-module _ {I T : Type 0} (number : I → ℕ) where
+module _ {T : Type 0} where
   -- the interlinks agree as before
-  pub chained-with_value_in : (c : Content (IndexLink I T)) (i : ℕ) (w : T) → IsChained number c
-      → IsChained number (with_value_in c i w)
+  pub chained-with_value_in : (c : Content (IndexLink T)) (i : ℕ) (w : T) → IsChained c
+      → IsChained (with_value_in c i w)
   chained-with_value_in c i w chained =
       record {
         formed = formed-with_value_in c i w chained.formed;
-        agreed = IsAgreed-same (ends_in number c) (ends_in number (with_value_in c i w))
-            (ends-with_value_in number c i w) chained.agreed;
+        agreed = IsAgreed-same (ends_in c) (ends_in (with_value_in c i w))
+            (ends-with_value_in c i w) chained.agreed;
       }
 
 -- what a write of a value changes and keeps

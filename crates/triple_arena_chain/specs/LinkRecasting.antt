@@ -2,12 +2,12 @@
 use Rattle.std.specs.Prelude.{List}
 use Rattle.triple_arena_chain.specs.LinkShape.{IndexLink}
 
-module _ {N I T : Type 0} where
+module _ {N T : Type 0} where
   -- the items of its value
-  abbrev pub link_items : (T → List N) → IndexLink I T → List N
+  abbrev pub link_items : (T → List N) → IndexLink T → List N
   link_items items link = items link.t
 
-module _ {I T : Type 0} where
+module _ {T : Type 0} where
   -- the link with its value recast
-  abbrev pub link_recasted : (T → T) → IndexLink I T → IndexLink I T
+  abbrev pub link_recasted : (T → T) → IndexLink T → IndexLink T
   link_recasted recasted link = record link { t = recasted link.t }

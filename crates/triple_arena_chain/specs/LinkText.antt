@@ -14,8 +14,8 @@ abbrev pub between_text : Option (List ℕ) → Option (List ℕ) → Option (Li
 between_text prev next value
     = Some (codes "(") ++? prev ++? Some (codes ", ") ++? next ++? Some (codes ") ") ++? value
 
-abbrev pub index_link_text : {I T : Type 0} → (I → Option (List ℕ)) → (T → Option (List ℕ))
-    → IndexLink I T → Option (List ℕ)
+abbrev pub index_link_text : {T : Type 0} → (ℕ → Option (List ℕ)) → (T → Option (List ℕ))
+    → IndexLink T → Option (List ℕ)
 index_link_text inx value link = between_text (neighbor_text inx link.prev)
     (neighbor_text inx link.next) (value link.t)
 

@@ -4,12 +4,12 @@ use Rattle.std.proofs.Common.{◌≡◌, ◌≢◌, ℕ, List, [], ◌∷◌, �
 use Rattle.std.proofs.Common.{true, false, refl, sym, ap, subst, ◌∙◌, inl, inr, ◌⊎◌, arith, length}
 use Rattle.std.proofs.Common.{append_assoc, length-append}
 use Rattle.triple_arena_chain.specs.Chains.{Ends, next_in, prev_in, next_at, prev_at, IsAgreed}
-use Rattle.triple_arena_chain.specs.Chains.{first_or, last_or, Stands, Off, On, Apart, IsLinear}
+use Rattle.triple_arena_chain.specs.Chains.{first_or, last_or, IsSegment, Off, On, Apart, IsLinear}
 use Rattle.triple_arena_chain.specs.Chains.{IsRing, linear, ring}
 use Rattle.triple_arena_chain.specs.ChainLaws.{first_or-append, last_or-append, Off-front, Off-back}
 use Rattle.triple_arena_chain.specs.ChainLaws.{Off-append, Off-not_on, off_or_on, Apart-taken}
 use Rattle.triple_arena_chain.specs.ChainLaws.{Apart-both, On-cons, last_is, next_of_last}
-use Rattle.triple_arena_chain.specs.ChainLaws.{Stands-append, Stands-front, Stands-back}
+use Rattle.triple_arena_chain.specs.ChainLaws.{segment-append, segment-front, segment-back}
 use Rattle.triple_arena_chain.specs.UniquenessLaws.{Ended, none, some_last, ended, same_around}
 use Rattle.triple_arena_chain.specs.UniquenessLaws.{stands_once}
 use Rattle.triple_arena_chain.specs.Lists.{Chain, Linear, Cyclic, members, IsChainOf}
@@ -105,7 +105,7 @@ module _ (e : ℕ → Option Ends) where
   Follows [] a = Unit {0}
   Follows (x ∷ xs) a = (IsSome (e x) × (next_at e x ≡ first_or xs a)) × Follows xs a
 
-  pub follows : (b a : Option ℕ) (xs : List ℕ) → Stands e b xs a → Follows xs a
+  pub follows : (b a : Option ℕ) (xs : List ℕ) → IsSegment e b xs a → Follows xs a
   follows b a [] s = tt
   follows b a (x ∷ xs) s = ((ap is_some s.0, ap next_in s.0), follows (Some x) a xs s.1)
 
@@ -130,23 +130,23 @@ module _ (e : ℕ → Option Ends) where
       = (Follows-back a on.front (k ∷ on.back) (subst (λ l. Follows l a) on.is f)).0.0
 
   -- what stands on a list is live
-  pub live_on : (b a : Option ℕ) (xs : List ℕ) (k : ℕ) → Stands e b xs a → On xs k → IsSome (e k)
+  pub live_on : (b a : Option ℕ) (xs : List ℕ) (k : ℕ) → IsSegment e b xs a → On xs k → IsSome (e k)
   live_on b a xs k s on
-      = ap is_some (Stands-back e b a on.front (k ∷ on.back)
-      (subst (λ l. Stands e b l a) on.is s)).0
+      = ap is_some (segment-back e b a on.front (k ∷ on.back)
+      (subst (λ l. IsSegment e b l a) on.is s)).0
 
   -- the next of an index of a list is on it, or follows it
-  pub on_next : (b a : Option ℕ) (xs : List ℕ) (k y : ℕ) → Stands e b xs a → On xs k
+  pub on_next : (b a : Option ℕ) (xs : List ℕ) (k y : ℕ) → IsSegment e b xs a → On xs k
       → next_at e k ≡ Some y → On xs y ⊎ (a ≡ Some y)
   on_next b a xs k y s on out = by on.back on.is
     where
       by : (back : List ℕ) → xs ≡ on.front ++ k ∷ back → On xs y ⊎ (a ≡ Some y)
       by [] is = inr (sym (ap next_in
-          (Stands-back e b a on.front (k ∷ []) (subst (λ l. Stands e b l a) is s)).0) ∙ out)
+          (segment-back e b a on.front (k ∷ []) (subst (λ l. IsSegment e b l a) is s)).0) ∙ out)
       by (z ∷ zs) is =
           let both : Some z ≡ Some y =
-          sym (ap next_in (Stands-back e b a on.front (k ∷ z ∷ zs)
-          (subst (λ l. Stands e b l a) is s)).0) ∙ out in
+          sym (ap next_in (segment-back e b a on.front (k ∷ z ∷ zs)
+          (subst (λ l. IsSegment e b l a) is s)).0) ∙ out in
           let same : z ≡ y = cc in
           inl (subst (On xs) same
           (record {
@@ -156,13 +156,13 @@ module _ (e : ℕ → Option Ends) where
           }))
 
   -- the previous one of an index of a list is on it, or before it
-  pub on_prev : (b a : Option ℕ) (xs : List ℕ) (k y : ℕ) → Stands e b xs a → On xs k
+  pub on_prev : (b a : Option ℕ) (xs : List ℕ) (k y : ℕ) → IsSegment e b xs a → On xs k
       → prev_at e k ≡ Some y → On xs y ⊎ (b ≡ Some y)
   on_prev b a xs k y s on into = by (ended on.front)
     where
       here : prev_at e k ≡ last_or b on.front
-      here = ap prev_in (Stands-back e b a on.front (k ∷ on.back)
-          (subst (λ l. Stands e b l a) on.is s)).0
+      here = ap prev_in (segment-back e b a on.front (k ∷ on.back)
+          (subst (λ l. IsSegment e b l a) on.is s)).0
 
       by : Ended on.front → On xs y ⊎ (b ≡ Some y)
       by (none is) = inr (sym (here ∙ ap (last_or b) is) ∙ into)
@@ -235,13 +235,14 @@ module _ (e : ℕ → Option Ends) where
       let b' = last_or (Some y) (ys ++ xs) in
       let b'_is : b' ≡ last_or b xs = last_or-append (Some y) ys xs ∙ ap (λ o. last_or o xs)
       (sym b_is) in
-      let front : Stands e (last_or (Some y) ys) xs (Some y) =
-      subst (λ o. Stands e o xs (Some y)) b_is (Stands-front e b a xs (y ∷ ys) r.stands) in
-      let back : Stands e b' (y ∷ ys) (first_or xs (Some y)) =
-      subst (λ o. Stands e o (y ∷ ys) (first_or xs (Some y))) (sym b'_is)
-      (subst (Stands e (last_or b xs) (y ∷ ys)) a_is (Stands-back e b a xs (y ∷ ys) r.stands)) in
+      let front : IsSegment e (last_or (Some y) ys) xs (Some y) =
+      subst (λ o. IsSegment e o xs (Some y)) b_is (segment-front e b a xs (y ∷ ys) r.stands) in
+      let back : IsSegment e b' (y ∷ ys) (first_or xs (Some y)) =
+      subst (λ o. IsSegment e o (y ∷ ys) (first_or xs (Some y))) (sym b'_is)
+      (subst (IsSegment e (last_or b xs) (y ∷ ys)) a_is (segment-back e b a xs (y ∷ ys) r.stands))
+      in
       record {
-        stands = Stands-append e b' (Some y) (y ∷ ys) xs back front;
+        stands = segment-append e b' (Some y) (y ∷ ys) xs back front;
         apart = Apart-turned xs (y ∷ ys) r.apart;
       }
 
@@ -287,18 +288,18 @@ module _ (e : ℕ → Option Ends) where
   module _ (agreed : IsAgreed e) where
     -- a list whose nexts are known stands
     pub stands_by : (x : ℕ) (xs : List ℕ) (a : Option ℕ) → Follows (x ∷ xs) a
-        → Stands e (prev_at e x) (x ∷ xs) a
+        → IsSegment e (prev_at e x) (x ∷ xs) a
     stands_by x [] a f = (of_live (e x) f.0.0 ∙ ap (λ o. Some (prev_at e x, o)) f.0.1, tt)
     stands_by x (y ∷ ys) a f =
         let into : prev_at e y ≡ Some x = agreed.forward x y f.0.1 in (
           of_live (e x) f.0.0 ∙ ap (λ o. Some (prev_at e x, o)) f.0.1,
-          subst (λ o. Stands e o (y ∷ ys) a) into (stands_by y ys a f.1),
+          subst (λ o. IsSegment e o (y ∷ ys) a) into (stands_by y ys a f.1),
         )
 
     pub linear_by : (xs : List ℕ) → Follows xs None
         → ((f : ℕ) → first_or xs None ≡ Some f → prev_at e f ≡ None) → IsLinear e xs
     linear_by [] f start = tt
-    linear_by (x ∷ xs) f start = subst (λ o. Stands e o (x ∷ xs) None) (start x refl)
+    linear_by (x ∷ xs) f start = subst (λ o. IsSegment e o (x ∷ xs) None) (start x refl)
         (stands_by x xs None f)
 
     pub ring_by : (x : ℕ) (xs : List ℕ) → Follows (x ∷ xs) (Some x) → Off xs x → IsRing e (x ∷ xs)
@@ -308,20 +309,20 @@ module _ (e : ℕ → Option Ends) where
         let into : prev_at e x ≡ last_or (Some x) xs =
         agreed.forward z.0 x (next_of_last e (prev_at e x) (Some x) x xs z.0 z.1 s) ∙ sym z.1 in
         record {
-          stands = subst (λ o. Stands e o (x ∷ xs) (Some x)) into s;
+          stands = subst (λ o. IsSegment e o (x ∷ xs) (Some x)) into s;
           apart = (off, once (prev_at e x) x xs [] s off);
         }
       where
         -- no index comes twice before the first one comes again
-        once : (b : Option ℕ) (y : ℕ) (ys zs : List ℕ) → Stands e b (y ∷ ys) (Some x)
+        once : (b : Option ℕ) (y : ℕ) (ys zs : List ℕ) → IsSegment e b (y ∷ ys) (Some x)
             → Off ys x → Apart ys
         once b y [] zs s off = tt
         once b y (v ∷ vs) zs s off = (
           off_or_not vs v
               (λ on.
-              let t : Stands e (Some v) (on.front ++ v ∷ on.back) (Some x) =
-              subst (λ l. Stands e (Some v) l (Some x)) on.is s.1.1 in
-              let again = Stands-back e (Some v) (Some x) on.front (v ∷ on.back) t in
+              let t : IsSegment e (Some v) (on.front ++ v ∷ on.back) (Some x) =
+              subst (λ l. IsSegment e (Some v) l (Some x)) on.is s.1.1 in
+              let again = segment-back e (Some v) (Some x) on.front (v ∷ on.back) t in
               let short = Off-back (on.front ++ v ∷ []) on.back x
               (subst (λ l. Off l x) (on.is ∙ sym (append_assoc on.front (v ∷ []) on.back)) off.1) in
               let same = same_around e x (Some y) (last_or (Some v) on.front) v vs on.back off.1
@@ -342,20 +343,20 @@ module _ (e : ℕ → Option Ends) where
 
 module _ (e e' : ℕ → Option Ends) where
   -- a list stands in other interlinks that are the same on it
-  pub Stands-where : (b a : Option ℕ) (xs : List ℕ) → ((k : ℕ) → On xs k → e' k ≡ e k)
-      → Stands e b xs a → Stands e' b xs a
-  Stands-where b a [] same s = tt
-  Stands-where b a (x ∷ xs) same s
+  pub segment-where : (b a : Option ℕ) (xs : List ℕ) → ((k : ℕ) → On xs k → e' k ≡ e k)
+      → IsSegment e b xs a → IsSegment e' b xs a
+  segment-where b a [] same s = tt
+  segment-where b a (x ∷ xs) same s
       = (
         same x (On-first x xs) ∙ s.0,
-        Stands-where (Some x) a xs (λ k on. same k (On-cons x k xs on)) s.1,
+        segment-where (Some x) a xs (λ k on. same k (On-cons x k xs on)) s.1,
       )
 
   pub chain_where : (c : Chain) → ((k : ℕ) → On (members c) k → e' k ≡ e k) → IsChainOf e c
       → IsChainOf e' c
-  chain_where (Linear xs) same s = Stands-where None None xs same s
+  chain_where (Linear xs) same s = segment-where None None xs same s
   chain_where (Cyclic xs) same r
       = record {
-        stands = Stands-where (last_or None xs) (first_or xs None) xs same r.stands;
+        stands = segment-where (last_or None xs) (first_or xs None) xs same r.stands;
         apart = r.apart;
       }

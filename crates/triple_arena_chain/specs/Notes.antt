@@ -32,13 +32,13 @@ pub record IsRejoinable (e : ℕ → Option Ends) (n : ℕ) : Type 0 where
   pub named : (p q : ℕ) → next_at e p ≡ Some q → IsSome (e q)
   pub apart : (p q r : ℕ) → next_at e p ≡ Some r → next_at e q ≡ Some r → p ≡ q
 
-module _ {I T : Type 0} (number : I → ℕ) where
+module _ {T : Type 0} where
   -- the link at `at` changed places with the one at `place`, which is the next of `last` now and
   -- notes where that one went
-  pub record IsBrought (last : Option ℕ) (at place : ℕ) (old new : Content (IndexLink I T))
+  pub record IsBrought (last : Option ℕ) (at place : ℕ) (old new : Content (IndexLink T))
       : Type 0 where
-    pub ends : (k : ℕ) → ends_in number new k
-        ≡ with_prev (λ i. with_next_if (ends_in number old) last (Some place)
+    pub ends : (k : ℕ) → ends_in new k
+        ≡ with_prev (λ i. with_next_if (ends_in old) last (Some place)
         (swapped_index at place i)) place (Some at) k
     pub values : (k : ℕ) → values_in new k ≡ values_in old (swapped_index at place k)
     pub kept : IsKept old new
@@ -47,41 +47,41 @@ module _ {I T : Type 0} (number : I → ℕ) where
   -- the links up to `placed` have the next indexes that they have in `laid`, but for the one at
   -- `last`. The others have the interlinks that they had in `old`, and the notes lead to each of
   -- them. All have their values
-  pub record AreNoted (placed last : ℕ) (to : ℕ → ℕ) (old : Content (IndexLink I T))
-      (laid : ℕ → Option Ends) (now : Content (IndexLink I T)) : Type 0 where
-    pub live : (k : ℕ) → is_some (ends_in number now k) ≡ is_some (laid k)
-    pub values : (x : ℕ) → IsSome (ends_in number old x) → values_in now (to x) ≡ values_in old x
+  pub record AreNoted (placed last : ℕ) (to : ℕ → ℕ) (old : Content (IndexLink T))
+      (laid : ℕ → Option Ends) (now : Content (IndexLink T)) : Type 0 where
+    pub live : (k : ℕ) → is_some (ends_in now k) ≡ is_some (laid k)
+    pub values : (x : ℕ) → IsSome (ends_in old x) → values_in now (to x) ≡ values_in old x
     pub kept : IsKept old now
     pub formed : IsWellFormed now
-    pub ahead : (x : ℕ) → IsSome (ends_in number old x) → placed < to x
-        → ends_in number now (to x) ≡ ends_in number old x
-    pub raw : (x : ℕ) → IsSome (ends_in number old x) → to x ≡ last
-        → next_at (ends_in number now) last ≡ next_at (ends_in number old) x
-    pub done : (k : ℕ) → k ≤ placed → k ≢ last → next_at (ends_in number now) k ≡ next_at laid k
-    pub led : (x : ℕ) → IsSome (ends_in number old x) → placed < to x
-        → IsLed (ends_in number now) placed x (to x)
+    pub ahead : (x : ℕ) → IsSome (ends_in old x) → placed < to x
+        → ends_in now (to x) ≡ ends_in old x
+    pub raw : (x : ℕ) → IsSome (ends_in old x) → to x ≡ last
+        → next_at (ends_in now) last ≡ next_at (ends_in old) x
+    pub done : (k : ℕ) → k ≤ placed → k ≢ last → next_at (ends_in now) k ≡ next_at laid k
+    pub led : (x : ℕ) → IsSome (ends_in old x) → placed < to x
+        → IsLed (ends_in now) placed x (to x)
 
   -- the chains up to `placed` are whole
-  pub record AreLaid (placed : ℕ) (old : Content (IndexLink I T)) (laid : ℕ → Option Ends)
-      (now : Content (IndexLink I T)) : Type 0 where
-    pub chained : IsChained number old
+  pub record AreLaid (placed : ℕ) (old : Content (IndexLink T)) (laid : ℕ → Option Ends)
+      (now : Content (IndexLink T)) : Type 0 where
+    pub chained : IsChained old
     pub full : old.free ≡ []
     pub alike : IsAlike now
     pub to : ℕ → ℕ
-    pub gathered : AreGathered placed to (ends_in number old) laid
+    pub gathered : AreGathered placed to (ends_in old) laid
     pub noted : AreNoted placed 0 to old laid now
 
-  pub record HavePlaces (placed : ℕ) (old now : Content (IndexLink I T)) : Type 0 where
+  pub record HavePlaces (placed : ℕ) (old now : Content (IndexLink T)) : Type 0 where
     pub laid : ℕ → Option Ends
     pub are : AreLaid placed old laid now
 
-  pub record IsGathering (placed : ℕ) (now : Content (IndexLink I T)) : Type 0 where
-    pub old : Content (IndexLink I T)
+  pub record IsGathering (placed : ℕ) (now : Content (IndexLink T)) : Type 0 where
+    pub old : Content (IndexLink T)
     pub have : HavePlaces placed old now
 
   -- a chain begins at this index, where the one behind `placed` stands in it. Of a ring, `round` is
   -- the old name of that one
-  pub record IsStart (placed h : ℕ) (round : Option ℕ) (to : ℕ → ℕ) (old : Content (IndexLink I T))
+  pub record IsStart (placed h : ℕ) (round : Option ℕ) (to : ℕ → ℕ) (old : Content (IndexLink T))
       (laid : ℕ → Option Ends) : Type 0 where
     pub live : IsSome (laid h)
     pub head : IsHead laid h
@@ -89,17 +89,17 @@ module _ {I T : Type 0} (number : I → ℕ) where
     pub own : IsHead laid (placed + 1) → h ≡ placed + 1
     pub line : round ≡ None → prev_at laid h ≡ None
     pub ring : (x : ℕ) → round ≡ Some x → (h ≡ placed + 1)
-        × (IsSome (ends_in number old x) × (to x ≡ placed + 1))
+        × (IsSome (ends_in old x) × (to x ≡ placed + 1))
 
   -- the same, whatever the links were
-  abbrev pub StartsAt : ℕ → ℕ → Option ℕ → Content (IndexLink I T) → Type 0
+  abbrev pub StartsAt : ℕ → ℕ → Option ℕ → Content (IndexLink T) → Type 0
   StartsAt placed h round now =
-      (old : Content (IndexLink I T)) (laid : ℕ → Option Ends) (a : AreLaid placed old laid now)
+      (old : Content (IndexLink T)) (laid : ℕ → Option Ends) (a : AreLaid placed old laid now)
       → IsStart placed h round a.to old laid
 
   -- the chains up to another index are whole, whatever the links were
-  abbrev pub GathersUpTo : ℕ → ℕ → Content (IndexLink I T) → Content (IndexLink I T) → Type 0
-  GathersUpTo first placed before after = (old : Content (IndexLink I T))
+  abbrev pub GathersUpTo : ℕ → ℕ → Content (IndexLink T) → Content (IndexLink T) → Type 0
+  GathersUpTo first placed before after = (old : Content (IndexLink T))
       → HavePlaces first old before → HavePlaces placed old after
 
 -- an index, if it is one of those up to `n`

@@ -49,22 +49,22 @@ prev_of ends (Some i) = prev_at ends i
 abbrev pub forwarded : (ℕ → Option Ends) → ℕ → Option Ends
 forwarded ends i = option_map (λ v. (v.0, prev_of ends v.1)) (ends i)
 
-module _ {I T : Type 0} where
+module _ {T : Type 0} where
   -- a listed link that has the next of another one, and no previous one
-  abbrev pub IsLeftWithNext : ℕ × (ℕ × IndexLink I T) → ℕ × (ℕ × IndexLink I T) → Type 0
+  abbrev pub IsLeftWithNext : ℕ × (ℕ × IndexLink T) → ℕ × (ℕ × IndexLink T) → Type 0
   IsLeftWithNext old new = (new.1.1.prev ≡ None) × (new.1.1.next ≡ old.1.1.next)
 
   -- a listed link that has the neighbors of another one
-  abbrev pub IsLeftInPlace : ℕ × (ℕ × IndexLink I T) → ℕ × (ℕ × IndexLink I T) → Type 0
+  abbrev pub IsLeftInPlace : ℕ × (ℕ × IndexLink T) → ℕ × (ℕ × IndexLink T) → Type 0
   IsLeftInPlace old new = (new.1.1.prev ≡ old.1.1.prev) × (new.1.1.next ≡ old.1.1.next)
 
-module _ {I T : Type 0} (number : I → ℕ) where
+module _ {T : Type 0} where
   -- the links stand at the indexes from 1 on, in the order that they had, with these values and
   -- with the generation renewed; the interlinks follow them, and no index is free
   pub record IsCompacted (last : Option ℕ) (reset : Bool) (given : List T)
-      (old new : Content (IndexLink I T)) : Type 0 where
-    pub renamed : FollowsRenaming (new_index (ends_in number old)) (ends_in number old)
-        (ends_in number new)
+      (old new : Content (IndexLink T)) : Type 0 where
+    pub renamed : FollowsRenaming (new_index (ends_in old)) (ends_in old)
+        (ends_in new)
     pub values : (k : ℕ) → values_in new (k + 1)
         ≡ option_map (λ t. (renewed last reset old.counter, t)) (slice_get given k)
     pub slots : length new.slots ≡ live_count old

@@ -7,15 +7,15 @@ use Rattle.triple_arena_chain.specs.LinkShape.{IndexLink}
 use Rattle.triple_arena_chain.specs.Chains.{IsLinear}
 use Rattle.triple_arena_chain.specs.Links.{ends_in, values_in}
 
-module _ {I T : Type 0} where
+module _ {T : Type 0} where
   -- the value at an index, without its generation
-  abbrev pub value_in : Content (IndexLink I T) → ℕ → Option T
+  abbrev pub value_in : Content (IndexLink T) → ℕ → Option T
   value_in c i = option_map (λ e. e.1) (values_in c i)
 
-module _ {I T : Type 0} (number : I → ℕ) where
+module _ {T : Type 0} where
   -- what was this list stands at the successive indexes from this one on, in its order, with its
   -- values
-  pub record IsRunFrom (first : ℕ) (list : List ℕ) (old new : Content (IndexLink I T))
+  pub record IsRunFrom (first : ℕ) (list : List ℕ) (old new : Content (IndexLink T))
       : Type 0 where
-    pub linear : IsLinear (ends_in number new) (range_with_len first (length list))
+    pub linear : IsLinear (ends_in new) (range_with_len first (length list))
     pub values : map (value_in new) (range_with_len first (length list)) ≡ map (value_in old) list

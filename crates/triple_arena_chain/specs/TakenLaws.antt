@@ -4,14 +4,14 @@ use Rattle.std.proofs.Common.{None, refl, sym, ap, subst, ◌∙◌, inl, inr}
 use Rattle.std.proofs.lemmas.Bool.{eq-eqb, ne_eqb}
 use Rattle.std.proofs.lemmas.Bool.Decides.{eqb_tells}
 use Rattle.triple_arena_chain.specs.Chains.{Ends, next_in, prev_in, next_at, prev_at, IsAgreed}
-use Rattle.triple_arena_chain.specs.Chains.{first_or, last_or, Stands, Off, IsLinear, IsRing}
+use Rattle.triple_arena_chain.specs.Chains.{first_or, last_or, IsSegment, Off, IsLinear, IsRing}
 use Rattle.triple_arena_chain.specs.Chains.{with_next_if, with_prev_if, bridged, taken_from}
 use Rattle.triple_arena_chain.specs.Chains.{taken_out, dropped}
-use Rattle.triple_arena_chain.specs.ChainLaws.{Stands-append, Stands-front, Stands-back}
+use Rattle.triple_arena_chain.specs.ChainLaws.{segment-append, segment-front, segment-back}
 use Rattle.triple_arena_chain.specs.UniquenessLaws.{linear_apart}
 use Rattle.triple_arena_chain.specs.Lists.{members, IsTaken}
 use Rattle.triple_arena_chain.specs.ListLaws.{Apart-split, on_differs, holds_next, holds_prev}
-use Rattle.triple_arena_chain.specs.ListLaws.{chain_where, Stands-where}
+use Rattle.triple_arena_chain.specs.ListLaws.{chain_where, segment-where}
 
 -- this, or another in its place where it is this index
 abbrev over : ℕ → Option ℕ → Option ℕ → Option ℕ
@@ -99,14 +99,14 @@ module _ (e : ℕ → Option Ends) (agreed : IsAgreed e) (i : ℕ) (b n : Option
       (after_prev x v (over i n v.1) found (after_next x v found))
 
   -- a list without the index that goes
-  pub Stands-over : (o a : Option ℕ) (xs : List ℕ) → Off xs i → Stands e o xs a
-      → Stands (taken_out e i) (over i b o) xs (over i n a)
-  Stands-over o a [] off s = tt
-  Stands-over o a (x ∷ xs) off s =
-      let rest = Stands-over (Some x) a xs off.1 s.1 in (
+  pub segment-over : (o a : Option ℕ) (xs : List ℕ) → Off xs i → IsSegment e o xs a
+      → IsSegment (taken_out e i) (over i b o) xs (over i n a)
+  segment-over o a [] off s = tt
+  segment-over o a (x ∷ xs) off s =
+      let rest = segment-over (Some x) a xs off.1 s.1 in (
         taken_at x (o, first_or xs a) s.0 off.0 ∙ ap (λ w. Some (over i b o, w))
             (over_first i n a xs off.1),
-        subst (λ w. Stands (taken_out e i) w xs (over i n a)) (over_other i x b off.0) rest,
+        subst (λ w. IsSegment (taken_out e i) w xs (over i n a)) (over_other i x b off.0) rest,
       )
 
   -- a linear chain without it
@@ -114,18 +114,18 @@ module _ (e : ℕ → Option Ends) (agreed : IsAgreed e) (i : ℕ) (b n : Option
       → IsLinear (taken_out e i) (xs ++ ys)
   linear_taken xs ys s =
       let off = Apart-split xs ys i (linear_apart e None (xs ++ i ∷ ys) s) in
-      let front = Stands-front e None None xs (i ∷ ys) s in
-      let back = Stands-back e None None xs (i ∷ ys) s in
+      let front = segment-front e None None xs (i ∷ ys) s in
+      let back = segment-back e None None xs (i ∷ ys) s in
       let n_is : n ≡ first_or ys None = sym (ap next_in at) ∙ ap next_in back.0 in
       let b_is : b ≡ last_or None xs = sym (ap prev_in at) ∙ ap prev_in back.0 in
       let e' = taken_out e i in
-      let first : Stands e' None xs (first_or ys None) =
-      subst (λ w. Stands e' None xs w) (over_self i n ∙ n_is)
-      (Stands-over None (Some i) xs off.0 front) in
-      let second : Stands e' (last_or None xs) ys None =
-      subst (λ w. Stands e' w ys None) (over_self i b ∙ b_is)
-      (Stands-over (Some i) None ys off.1 back.1) in
-      Stands-append e' None None xs ys first second
+      let first : IsSegment e' None xs (first_or ys None) =
+      subst (λ w. IsSegment e' None xs w) (over_self i n ∙ n_is)
+      (segment-over None (Some i) xs off.0 front) in
+      let second : IsSegment e' (last_or None xs) ys None =
+      subst (λ w. IsSegment e' w ys None) (over_self i b ∙ b_is)
+      (segment-over (Some i) None ys off.1 back.1) in
+      segment-append e' None None xs ys first second
 
   -- a ring without it
   pub ring_taken : (y : ℕ) (ys : List ℕ) → IsRing e (i ∷ y ∷ ys) → IsRing (taken_out e i) (y ∷ ys)
@@ -136,9 +136,9 @@ module _ (e : ℕ → Option Ends) (agreed : IsAgreed e) (i : ℕ) (b n : Option
       let b_is : b ≡ last_or (Some y) ys = sym (ap prev_in at) ∙ ap prev_in r.stands.0 in
       record {
         stands =
-            subst (λ w. Stands e' (last_or (Some y) ys) (y ∷ ys) w) (over_self i n ∙ n_is)
-            (subst (λ w. Stands e' w (y ∷ ys) (over i n (Some i))) (over_self i b ∙ b_is)
-            (Stands-over (Some i) (Some i) (y ∷ ys) off r.stands.1));
+            subst (λ w. IsSegment e' (last_or (Some y) ys) (y ∷ ys) w) (over_self i n ∙ n_is)
+            (subst (λ w. IsSegment e' w (y ∷ ys) (over i n (Some i))) (over_self i b ∙ b_is)
+            (segment-over (Some i) (Some i) (y ∷ ys) off r.stands.1));
         apart = r.apart.1;
       }
 
@@ -161,7 +161,7 @@ module _ (e : ℕ → Option Ends) (agreed : IsAgreed e) (i : ℕ) (b n : Option
     pub is_taken : IsTaken i e new
     is_taken =
         record {
-          from_linear = λ before after s. Stands-where (taken_out e i) new None None
+          from_linear = λ before after s. segment-where (taken_out e i) new None None
               (before ++ after) (λ k on. same k) (linear_taken before after s);
           from_ring = λ rest r. from_ring rest r;
           gone = same i ∙ taken_is i ∙ rw (eq-eqb i i refl) refl;
@@ -184,7 +184,7 @@ module _ (e : ℕ → Option Ends) (agreed : IsAgreed e) (i : ℕ) (b n : Option
         from_ring (y ∷ ys) r =
             let taken = ring_taken y ys r in
             record {
-              stands = Stands-where (taken_out e i) new (last_or (Some y) ys) (Some y) (y ∷ ys)
+              stands = segment-where (taken_out e i) new (last_or (Some y) ys) (Some y) (y ∷ ys)
                   (λ k on. same k) taken.stands;
               apart = taken.apart;
             }

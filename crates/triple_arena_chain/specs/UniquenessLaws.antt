@@ -3,8 +3,8 @@ use Rattle.std.proofs.Common.{◌≡◌, ℕ, zero, suc, ◌<◌, List, [], ◌�
 use Rattle.std.proofs.Common.{None, refl, sym, ap, subst, ◌∙◌, arith, inl, inr, append_assoc}
 use Rattle.std.proofs.Common.{length-append}
 use Rattle.triple_arena_chain.specs.Chains.{Ends, next_in, prev_in, next_at, prev_at, last_or}
-use Rattle.triple_arena_chain.specs.Chains.{Stands, Off, Apart, On, Standing, linear, ring}
-use Rattle.triple_arena_chain.specs.ChainLaws.{last_or-append, Stands-back, Stands-front, off_or_on}
+use Rattle.triple_arena_chain.specs.Chains.{IsSegment, Off, Apart, On, Standing, linear, ring}
+use Rattle.triple_arena_chain.specs.ChainLaws.{last_or-append, segment-back, segment-front, off_or_on}
 
 -- a list is empty, or another one and its last index
 pub data Ended (xs : List ℕ) : Type 0 where
@@ -21,8 +21,8 @@ ended (x ∷ xs) = by (ended xs)
 
 module _ (e : ℕ → Option Ends) where
   -- from an index on there is one list to an end
-  pub same_to_end : (b b' : Option ℕ) (i : ℕ) (xs ys : List ℕ) → Stands e b (i ∷ xs) None
-      → Stands e b' (i ∷ ys) None → xs ≡ ys
+  pub same_to_end : (b b' : Option ℕ) (i : ℕ) (xs ys : List ℕ) → IsSegment e b (i ∷ xs) None
+      → IsSegment e b' (i ∷ ys) None → xs ≡ ys
   same_to_end b b' i [] [] s t = refl
   same_to_end b b' i [] (y ∷ ys) s t
       = absurd (let no : None ≡ Some y = sym (ap next_in s.0) ∙ ap next_in t.0 in cc)
@@ -31,15 +31,15 @@ module _ (e : ℕ → Option Ends) where
   same_to_end b b' i (x ∷ xs) (y ∷ ys) s t =
       let both : Some x ≡ Some y = sym (ap next_in s.0) ∙ ap next_in t.0 in
       let same : y ≡ x = cc in
-      let t' : Stands e (Some i) (x ∷ ys) None =
-      subst (λ z. Stands e (Some i) (z ∷ ys) None) same t.1 in
+      let t' : IsSegment e (Some i) (x ∷ ys) None =
+      subst (λ z. IsSegment e (Some i) (z ∷ ys) None) same t.1 in
       let rest = same_to_end (Some i) (Some i) x xs ys s.1 t' in
       ap (λ l. x ∷ l) rest ∙ ap (λ z. z ∷ ys) (sym same)
 
   -- and one list back to it
   pub same_around : (i : ℕ) (b b' : Option ℕ) (x : ℕ) (xs ys : List ℕ) → Off xs i → Off ys i
-      → Stands e b (x ∷ xs) (Some i)
-      → Stands e b' (x ∷ ys) (Some i) → xs ≡ ys
+      → IsSegment e b (x ∷ xs) (Some i)
+      → IsSegment e b' (x ∷ ys) (Some i) → xs ≡ ys
   same_around i b b' x [] [] off off' s t = refl
   same_around i b b' x [] (y ∷ ys) off off' s t
       = absurd (let both : Some i ≡ Some y = sym (ap next_in s.0) ∙ ap next_in t.0 in let same : y
@@ -50,8 +50,8 @@ module _ (e : ℕ → Option Ends) where
   same_around i b b' x (z ∷ zs) (y ∷ ys) off off' s t =
       let both : Some z ≡ Some y = sym (ap next_in s.0) ∙ ap next_in t.0 in
       let same : y ≡ z = cc in
-      let t' : Stands e (Some x) (z ∷ ys) (Some i) =
-      subst (λ w. Stands e (Some x) (w ∷ ys) (Some i)) same t.1 in
+      let t' : IsSegment e (Some x) (z ∷ ys) (Some i) =
+      subst (λ w. IsSegment e (Some x) (w ∷ ys) (Some i)) same t.1 in
       let rest = same_around i (Some x) (Some x) z zs ys off.1 off'.1 s.1 t' in
       ap (λ l. z ∷ l) rest ∙ ap (λ w. w ∷ ys) (sym same)
 
@@ -60,31 +60,31 @@ module _ (e : ℕ → Option Ends) where
 
   -- the lists before the last ones of two, where these are the same
   before_last : (xs ys zs ws : List ℕ) (z w : ℕ) (a a' : Option ℕ) → xs ≡ zs ++ z ∷ []
-      → ys ≡ ws ++ w ∷ [] → Stands e None xs a → Stands e None ys a'
+      → ys ≡ ws ++ w ∷ [] → IsSegment e None xs a → IsSegment e None ys a'
       → last_or None xs ≡ last_or None ys
-      → (w ≡ z) × Stands e None zs (Some z) × Stands e None ws (Some w)
+      → (w ≡ z) × IsSegment e None zs (Some z) × IsSegment e None ws (Some w)
       × (last_or None zs ≡ last_or None ws)
   before_last xs ys zs ws z w a a' is is' s t lasts =
       let both : Some z ≡ Some w = sym (last_of zs z) ∙ sym (ap (last_or None) is) ∙ lasts ∙ ap
       (last_or None) is' ∙ last_of ws w in
       let same : w ≡ z = cc in
-      let s' : Stands e None (zs ++ z ∷ []) a = subst (λ l. Stands e None l a) is s in
-      let t' : Stands e None (ws ++ w ∷ []) a' = subst (λ l. Stands e None l a') is' t in
-      let at_z = (Stands-back e None a zs (z ∷ []) s').0 in
-      let at_w = (Stands-back e None a' ws (w ∷ []) t').0 in
+      let s' : IsSegment e None (zs ++ z ∷ []) a = subst (λ l. IsSegment e None l a) is s in
+      let t' : IsSegment e None (ws ++ w ∷ []) a' = subst (λ l. IsSegment e None l a') is' t in
+      let at_z = (segment-back e None a zs (z ∷ []) s').0 in
+      let at_w = (segment-back e None a' ws (w ∷ []) t').0 in
       let before : last_or None zs ≡ last_or None ws =
       sym (ap prev_in at_z) ∙ ap (prev_at e) (sym same) ∙ ap prev_in at_w in
-      (same, Stands-front e None a zs (z ∷ []) s', Stands-front e None a' ws (w ∷ []) t', before)
+      (same, segment-front e None a zs (z ∷ []) s', segment-front e None a' ws (w ∷ []) t', before)
 
   -- before an index there is one list from a start
   pub same_from_start : (n : ℕ) (xs ys : List ℕ) (a a' : Option ℕ) → length xs < n
-      → Stands e None xs a → Stands e None ys a'
+      → IsSegment e None xs a → IsSegment e None ys a'
       → last_or None xs ≡ last_or None ys → xs ≡ ys
   same_from_start zero xs ys a a' fits s t lasts = absurd (omega (arith, fits))
   same_from_start (suc n) xs ys a a' fits s t lasts = by (same_from_start n) (ended xs) (ended ys)
     where
-      by : ((us vs : List ℕ) (b b' : Option ℕ) → length us < n → Stands e None us b
-          → Stands e None vs b' → last_or None us ≡ last_or None vs → us ≡ vs)
+      by : ((us vs : List ℕ) (b b' : Option ℕ) → length us < n → IsSegment e None us b
+          → IsSegment e None vs b' → last_or None us ≡ last_or None vs → us ≡ vs)
           → Ended xs → Ended ys → xs ≡ ys
       by shorter (none is) (none is') = is ∙ sym is'
       by shorter (none is) (some_last zs z is') =
@@ -102,15 +102,15 @@ module _ (e : ℕ → Option Ends) where
           is ∙ ap (λ l. l ++ z ∷ []) rest ∙ ap (λ u. ws ++ u ∷ []) (sym b.0) ∙ sym is'
 
   -- a linear chain has each index once
-  pub linear_apart : (b : Option ℕ) (xs : List ℕ) → Stands e b xs None → Apart xs
+  pub linear_apart : (b : Option ℕ) (xs : List ℕ) → IsSegment e b xs None → Apart xs
   linear_apart b [] s = tt
   linear_apart b (x ∷ xs) s =
       elim (off_or_on xs x) [
         | inl off ↦ (off, linear_apart (Some x) xs s.1)
         | inr on ↦
-            let t : Stands e (Some x) (on.front ++ x ∷ on.back) None =
-            subst (λ l. Stands e (Some x) l None) on.is s.1 in
-            let again = Stands-back e (Some x) None on.front (x ∷ on.back) t in
+            let t : IsSegment e (Some x) (on.front ++ x ∷ on.back) None =
+            subst (λ l. IsSegment e (Some x) l None) on.is s.1 in
+            let again = segment-back e (Some x) None on.front (x ∷ on.back) t in
             let same = same_to_end b (last_or (Some x) on.front) x xs on.back s again in
             let whole = ap length on.is in
             let short = ap length same in
@@ -119,16 +119,16 @@ module _ (e : ℕ → Option Ends) where
       ]
 
   -- what follows an index of a ring is on it
-  ring_goes_on : (b : Option ℕ) (i x : ℕ) (xs : List ℕ) → Stands e b (i ∷ xs) (Some i)
+  ring_goes_on : (b : Option ℕ) (i x : ℕ) (xs : List ℕ) → IsSegment e b (i ∷ xs) (Some i)
       → On (i ∷ xs) x → (z : ℕ) × (next_at e x ≡ Some z) × On (i ∷ xs) z
   ring_goes_on b i x xs s on = by on.back on.is
     where
       by : (back : List ℕ) → i ∷ xs ≡ on.front ++ x ∷ back → (z : ℕ) × (next_at e x ≡ Some z)
           × On (i ∷ xs) z
       by [] is =
-          let t = subst (λ l. Stands e b l (Some i)) is s in (
+          let t = subst (λ l. IsSegment e b l (Some i)) is s in (
             i,
-            ap next_in (Stands-back e b (Some i) on.front (x ∷ []) t).0,
+            ap next_in (segment-back e b (Some i) on.front (x ∷ []) t).0,
             record {
               front = [];
               back = xs;
@@ -136,9 +136,9 @@ module _ (e : ℕ → Option Ends) where
             },
           )
       by (y ∷ ys) is =
-          let t = subst (λ l. Stands e b l (Some i)) is s in (
+          let t = subst (λ l. IsSegment e b l (Some i)) is s in (
             y,
-            ap next_in (Stands-back e b (Some i) on.front (x ∷ y ∷ ys) t).0,
+            ap next_in (segment-back e b (Some i) on.front (x ∷ y ∷ ys) t).0,
             record {
               front = on.front ++ x ∷ [];
               back = ys;
@@ -147,8 +147,9 @@ module _ (e : ℕ → Option Ends) where
           )
 
   -- no linear chain has an index of a ring
-  pub ring_not_linear : (b c : Option ℕ) (i x : ℕ) (xs ys : List ℕ) → Stands e b (i ∷ xs) (Some i)
-      → On (i ∷ xs) x → Stands e c (x ∷ ys) None → ⊥
+  pub ring_not_linear : (b c : Option ℕ) (i x : ℕ) (xs ys : List ℕ)
+      → IsSegment e b (i ∷ xs) (Some i)
+      → On (i ∷ xs) x → IsSegment e c (x ∷ ys) None → ⊥
   ring_not_linear b c i x xs [] s on t =
       let next = ring_goes_on b i x xs s on in
       let no : Some next.0 ≡ None = sym next.1 ∙ ap next_in t.0 in
@@ -169,11 +170,11 @@ module _ (e : ℕ → Option Ends) where
 
   pub stands_once : (i : ℕ) (a b : Standing e i) → IsSameChain i a b
   stands_once i (linear before after s) (linear before' after' s') =
-      let at_i = Stands-back e None None before (i ∷ after) s in
-      let at_i' = Stands-back e None None before' (i ∷ after') s' in (
+      let at_i = segment-back e None None before (i ∷ after) s in
+      let at_i' = segment-back e None None before' (i ∷ after') s' in (
         same_from_start (suc (length before)) before before' (Some i) (Some i) (omega arith)
-            (Stands-front e None None before (i ∷ after) s)
-            (Stands-front e None None before' (i ∷ after') s')
+            (segment-front e None None before (i ∷ after) s)
+            (segment-front e None None before' (i ∷ after') s')
             (sym (ap prev_in at_i.0) ∙ ap prev_in at_i'.0),
         same_to_end (last_or None before) (last_or None before') i after after' at_i at_i',
         linear_apart None (before ++ i ∷ after) s,
@@ -181,11 +182,11 @@ module _ (e : ℕ → Option Ends) where
   stands_once i (linear before after s) (ring after' r) =
       ring_not_linear (last_or None (i ∷ after')) (last_or None before) i i after' after r.stands
       (record { front = []; back = after'; is = refl })
-      (Stands-back e None None before (i ∷ after) s)
+      (segment-back e None None before (i ∷ after) s)
   stands_once i (ring after r) (linear before' after' s') =
       ring_not_linear (last_or None (i ∷ after)) (last_or None before') i i after after' r.stands
       (record { front = []; back = after; is = refl })
-      (Stands-back e None None before' (i ∷ after') s')
+      (segment-back e None None before' (i ∷ after') s')
   stands_once i (ring after r) (ring after' r') = (
     same_around i (last_or None (i ∷ after)) (last_or None (i ∷ after')) i after after' r.apart.0
         r'.apart.0 r.stands r'.stands,

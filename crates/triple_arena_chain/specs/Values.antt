@@ -7,17 +7,17 @@ use Rattle.triple_arena_chain.specs.LinkShape.{IndexLink}
 use Rattle.triple_arena_chain.specs.Links.{values_in}
 
 -- the reserved slots and the greatest capacity
-abbrev pub room_in : {I T : Type 0} → Content (IndexLink I T) → Room
+abbrev pub room_in : {T : Type 0} → Content (IndexLink T) → Room
 room_in c = c.room
 
-module _ {I T : Type 0} where
+module _ {T : Type 0} where
   -- the index and the generation of the link at an index, if it is live
-  abbrev pub ptr_to : (I → ℕ) → Content (IndexLink I T) → Option I → Option (ℕ × ℕ)
-  ptr_to number c None = None
-  ptr_to number c (Some i) = pointer_at (entry_at c) (number i)
+  abbrev pub ptr_to : Content (IndexLink T) → Option ℕ → Option (ℕ × ℕ)
+  ptr_to c None = None
+  ptr_to c (Some i) = pointer_at (entry_at c) i
 
   -- a pointer, if there is one, points to a live link
-  abbrev pub IsLivePtr : {P : Type 0} → (P → ℕ) → (P → ℕ) → Content (IndexLink I T)
+  abbrev pub IsLivePtr : {P : Type 0} → (P → ℕ) → (P → ℕ) → Content (IndexLink T)
       → Option P → Type 0
   IsLivePtr index generation c p
       = IfSome p (λ q. generation_at (values_in c) (index q) ≡ Some (generation q))

@@ -69,32 +69,32 @@ module _ (e : ℕ → Option Ends) where
             subst (Leaves e (past_index e w x)) (sym others) rest,
           )
 
-module _ {I T : Type 0} (number : I → ℕ) where
+module _ {T : Type 0} where
   -- a walk over links that stay has one index less to give after a step
-  pub left-after : (c : Content (IndexLink I T)) (w : ChainWalk) (p : ℕ × ℕ) (on : ChainWalk)
-      → IsEnding number c w
-      → ChainSteps (ends_in number c) (values_in c) w (Some p) on
-      → (left_over number c w ≡ p.0 ∷ left_over number c on) × IsEnding number c on
+  pub left-after : (c : Content (IndexLink T)) (w : ChainWalk) (p : ℕ × ℕ) (on : ChainWalk)
+      → IsEnding c w
+      → ChainSteps (ends_in c) (values_in c) w (Some p) on
+      → (left_over c w ≡ p.0 ∷ left_over c on) × IsEnding c on
   left-after c w p on ends step =
-      let next = after_step (ends_in number c) (length c.slots + 1) w p.0 ends step.0 in
-      subst (λ v. (left_over number c w ≡ p.0 ∷ left_over number c v) × IsEnding number c v)
+      let next = after_step (ends_in c) (length c.slots + 1) w p.0 ends step.0 in
+      subst (λ v. (left_over c w ≡ p.0 ∷ left_over c v) × IsEnding c v)
       (sym step.1.1) next
 
   -- and has none where a step gives none
-  pub left-none : (c : Content (IndexLink I T)) (w on : ChainWalk) → IsEnding number c w
-      → ChainSteps (ends_in number c) (values_in c) w None on → left_over number c w ≡ []
-  left-none c w on ends step = by (left_over number c w) refl ends
+  pub left-none : (c : Content (IndexLink T)) (w on : ChainWalk) → IsEnding c w
+      → ChainSteps (ends_in c) (values_in c) w None on → left_over c w ≡ []
+  left-none c w on ends step = by (left_over c w) refl ends
     where
-      by : (xs : List ℕ) → left_over number c w ≡ xs → Leaves (ends_in number c) w xs
-          → left_over number c w ≡ []
+      by : (xs : List ℕ) → left_over c w ≡ xs → Leaves (ends_in c) w xs
+          → left_over c w ≡ []
       by [] is over = is
       by (x ∷ xs) is more =
           let vacant : values_in c x ≡ None =
           subst (λ o. IfSome o (λ i. values_in c i ≡ None)) more.0 step.0 in
           absurd (not_both (entry_at c x) vacant more.1.0)
         where
-          not_both : (o : Option (ℕ × IndexLink I T)) → option_map valued o ≡ None
-              → IsSome (option_map (entry_ends number) o) → ⊥
+          not_both : (o : Option (ℕ × IndexLink T)) → option_map valued o ≡ None
+              → IsSome (option_map entry_ends o) → ⊥
           not_both None is some = true≢false (sym some)
           not_both (Some v) is some = let no : Some (valued v) ≡ None = is in absurd (cc)
 

@@ -80,12 +80,12 @@ module _ (ends : ℕ → Option Ends) where
   ChainSteps entries before (Some p) after = (before.at ≡ Some p.0)
       × ((generation_at entries p.0 ≡ Some p.1) × (after ≡ past_index before p.0))
 
-module _ {I T : Type 0} (number : I → ℕ) where
+module _ {T : Type 0} where
   -- the indexes that are left to a walk over links that stay: a loop over them is measured by their
   -- number
-  abbrev pub left_over : Content (IndexLink I T) → ChainWalk → List ℕ
-  left_over c w = steps_of (ends_in number c) (length c.slots + 1) w
+  abbrev pub left_over : Content (IndexLink T) → ChainWalk → List ℕ
+  left_over c w = steps_of (ends_in c) (length c.slots + 1) w
 
   -- a walk over links that stay gives these, and ends
-  abbrev pub IsEnding : Content (IndexLink I T) → ChainWalk → Type 0
-  IsEnding c w = Leaves (ends_in number c) w (left_over c w)
+  abbrev pub IsEnding : Content (IndexLink T) → ChainWalk → Type 0
+  IsEnding c w = Leaves (ends_in c) w (left_over c w)

@@ -78,18 +78,18 @@ impl<P: PtrCore, T: Drop, S: ChainSlots<P, T>> Model for ChainArena<P, T, S> {
     ghost use Rattle.triple_arena_chain.specs.LinkShape.{IndexLink};
     ghost use Rattle.triple_arena_chain.specs.Links.{IsChained};
 
-    ghost Value = { Content (IndexLink P.Inx T) };
+    ghost Value = { Content (IndexLink T) };
 
     ghost view = { λ a. a.arena };
 
-    ghost invariant = { λ a. IsChained P.Inx.number a.arena };
+    ghost invariant = { λ a. IsChained a.arena };
 }
 
 impl<P: PtrCore, T: Drop, S: ChainSlots<P, T>> ChainArena<P, T, S> {
     // Whether there is room for one link more. The interlinks agree.
     pub(crate) fn has_room(&self) -> bool
         ensures value { IsTrue result ↔ (live_count self.now < arena_capacity self.now) }
-        ensures chained { IsChained P.Inx.number self.now }
+        ensures chained { IsChained self.now }
     {
         self.arena.len() < self.arena.capacity()
     }
@@ -97,7 +97,7 @@ impl<P: PtrCore, T: Drop, S: ChainSlots<P, T>> ChainArena<P, T, S> {
     // Tells the proof that the interlinks agree, as always. It does nothing.
     #[inline(always)]
     pub(crate) fn recall_chained(&self)
-        ensures { IsChained P.Inx.number self.now }
+        ensures { IsChained self.now }
     {
         let _has_room = self.has_room();
     }

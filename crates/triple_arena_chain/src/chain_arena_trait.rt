@@ -13,12 +13,12 @@ ghost use Rattle.triple_arena.specs.Content.{invalidated, cleared};
 ghost use Rattle.triple_arena.specs.Entries.{value_if};
 ghost use Rattle.triple_arena_chain.specs.declared.kind.InsertKind.TheVariants.{Bridge};
 ghost use Rattle.triple_arena_chain.specs.LinkShape.{IndexLink};
-ghost use Rattle.triple_arena_chain.specs.Chains.{next_in, prev_in, next_at, prev_at, linked};
-ghost use Rattle.triple_arena_chain.specs.Chains.{unlinked, exchanged};
+ghost use Rattle.triple_arena_chain.specs.Chains.{next_in, next_at, prev_at};
 ghost use Rattle.triple_arena_chain.specs.Insertion.{InsertsWithinCapacity, InsertsReallocating};
 ghost use Rattle.triple_arena_chain.specs.Links.{ends_in, ends_found, values_in, with_value_in};
 ghost use Rattle.triple_arena_chain.specs.Links.{link_removed, gap_among, bridged_over};
-ghost use Rattle.triple_arena_chain.specs.Links.{IsChained, IsRelinked, IsTakenOut};
+ghost use Rattle.triple_arena_chain.specs.Links.{IsChained, IsTakenOut, Connects, BreaksNext};
+ghost use Rattle.triple_arena_chain.specs.Links.{BreaksPrev, ExchangesNexts, HasNext, HasPrev};
 ghost use Rattle.triple_arena_chain.specs.Lists.{IsAppended, IsSplit, IsExchanged};
 ghost use Rattle.triple_arena_chain.specs.Renaming.{IsCompacted};
 ghost use Rattle.triple_arena_chain.specs.Values.{IsLivePtr};
@@ -37,7 +37,7 @@ pub trait ChainArenaTrait<P: PtrCore, T: Drop>: ArenaTrait<P, T> {
     type ChainAdvancer: Advancer<Self, Item = P> + Drop;
 
     // The links as the words on chains ask for them.
-    ghost links: { Self → Content (IndexLink P.Inx T) };
+    ghost links: { Self → Content (IndexLink T) };
 
     // Where an advancer is, and how it goes on.
     ghost chain_walk: { Self.ChainAdvancer → ChainWalk };
@@ -57,22 +57,21 @@ pub trait ChainArenaTrait<P: PtrCore, T: Drop>: ArenaTrait<P, T> {
             ≡ value_if (P.generation p) (values_in (links self.now) (P.index p)) }
         ensures interlinks { option_map
             (λ l. (option_map P.index l.prev, option_map P.index l.next)) result
-            ≡ ends_found P.Inx.number (links self.now) (P.index p) (P.generation p) }
+            ≡ ends_found (links self.now) (P.index p) (P.generation p) }
         ensures live { IfSome result (λ l. IsLivePtr P.index P.generation (links self.now) l.prev
             × IsLivePtr P.index P.generation (links self.now) l.next) };
 
     /// Whether `q` is the next of `p`, if both are valid.
     fn are_neighbors(&self, p: P, q: P) -> bool
         ensures { IsTrue result
-            ↔ ((next_in (ends_found P.Inx.number (links self.now) (P.index p) (P.generation p))
+            ↔ ((next_in (ends_found (links self.now) (P.index p) (P.generation p))
             ≡ Some (P.index q))
             × IsSome (get (links self.now) (P.index q) (P.generation q))) };
 
     /// Whether the link at `j` is the next of the one at `i`.
     fn are_neighbors_inx(&self, i: P::Inx, j: P::Inx) -> bool
         ensures { IsTrue result
-            ↔ (next_at (ends_in P.Inx.number (links self.now)) (P.Inx.number i)
-            ≡ Some (P.Inx.number j)) };
+            ↔ (next_at (ends_in (links self.now)) (P.Inx.number i) ≡ Some (P.Inx.number j)) };
 
     /// Whether the links are as the kind requires.
     fn meets(&self, kind: &LinkInsertKind<P>) -> bool
@@ -88,11 +87,12 @@ pub trait ChainArenaTrait<P: PtrCore, T: Drop>: ArenaTrait<P, T> {
         ensures variant { IsSome result
             ↔ IsSome (get (links self.now) (P.index p) (P.generation p)) }
         ensures from { IfSome result (λ a. chain_walk a ≡ walk_from (P.index p)) }
-        ensures along { IfSome result (λ a. IsWalkAlong (ends_in P.Inx.number (links self.now))
+        ensures along { IfSome result (λ a. IsWalkAlong (ends_in (links self.now))
             (length (links self.now).slots + 1) (chain_walk a) (P.index p)) };
 
-    /// What `insert_within_capacity` does, with the kind lent: an implementation cannot take it by
-    /// value today.
+    /// Stores `t` in a link where the kind says, if there is room. `insert_within_capacity` calls
+    /// it, and says what each error means. The kind is borrowed, since an implementation cannot
+    /// take it by value today.
     fn insert_lent_within_capacity(
         &mut self,
         kind: &LinkInsertKind<P>,
@@ -102,7 +102,9 @@ pub trait ChainArenaTrait<P: PtrCore, T: Drop>: ArenaTrait<P, T> {
             (links self.old) (links self.new) }
         ensures err { OnErr result (self.new ≡ self.old) };
 
-    /// What `insert_reallocating` does, with the kind lent.
+    /// Stores `t` in a link where the kind says, and grows if there is no room.
+    /// `insert_reallocating` calls it, and says what each error means. The kind is borrowed, since
+    /// an implementation cannot take it by value today.
     fn insert_lent_reallocating(
         &mut self,
         kind: &LinkInsertKind<P>,
@@ -118,48 +120,35 @@ pub trait ChainArenaTrait<P: PtrCore, T: Drop>: ArenaTrait<P, T> {
     fn connect(&mut self, p: P, q: P) -> Option<()>
         ensures variant { IsSome result
             ↔ IsSome (gap_among P.index P.generation P.Inx.number (links self.old) (Bridge p q)) }
-        ensures relinked { OnSome result (IsRelinked P.Inx.number
-            (linked (ends_in P.Inx.number (links self.old)) (P.index p) (P.index q))
-            (links self.old) (links self.new)) }
+        ensures relinked { OnSome result
+            (Connects (P.index p) (P.index q) (links self.old) (links self.new)) }
         ensures lists { OnSome result (IsAppended (P.index p) (P.index q)
-            (ends_in P.Inx.number (links self.old)) (ends_in P.Inx.number (links self.new))) }
-        ensures formed { IsChained P.Inx.number (links self.new) }
+            (ends_in (links self.old)) (ends_in (links self.new))) }
+        ensures formed { IsChained (links self.new) }
         ensures none { IfNone result (self.new ≡ self.old) };
 
     /// Parts `p` from its next. It returns `None`, and changes nothing, if `p` is invalid or has no
     /// next.
     fn break_next(&mut self, p: P) -> Option<()>
-        ensures variant { IsSome result
-            ↔ IsSome (next_in (ends_found P.Inx.number (links self.old) (P.index p)
-            (P.generation p))) }
-        ensures relinked { OnSome result ((q : ℕ)
-            → next_at (ends_in P.Inx.number (links self.old)) (P.index p) ≡ Some q
-            → IsRelinked P.Inx.number
-            (unlinked (ends_in P.Inx.number (links self.old)) (P.index p) q)
-            (links self.old) (links self.new)) }
+        ensures variant { IsSome result ↔ HasNext P.index P.generation (links self.old) p }
+        ensures relinked { OnSome result
+            (BreaksNext (P.index p) (links self.old) (links self.new)) }
         ensures lists { OnSome result ((q : ℕ)
-            → next_at (ends_in P.Inx.number (links self.old)) (P.index p) ≡ Some q
-            → IsSplit (P.index p) q (ends_in P.Inx.number (links self.old))
-            (ends_in P.Inx.number (links self.new))) }
-        ensures formed { IsChained P.Inx.number (links self.new) }
+            → next_at (ends_in (links self.old)) (P.index p) ≡ Some q
+            → IsSplit (P.index p) q (ends_in (links self.old)) (ends_in (links self.new))) }
+        ensures formed { IsChained (links self.new) }
         ensures none { IfNone result (self.new ≡ self.old) };
 
     /// Parts `p` from its previous link. It returns `None`, and changes nothing, if `p` is invalid
     /// or has none.
     fn break_prev(&mut self, p: P) -> Option<()>
-        ensures variant { IsSome result
-            ↔ IsSome (prev_in (ends_found P.Inx.number (links self.old) (P.index p)
-            (P.generation p))) }
-        ensures relinked { OnSome result ((q : ℕ)
-            → prev_at (ends_in P.Inx.number (links self.old)) (P.index p) ≡ Some q
-            → IsRelinked P.Inx.number
-            (unlinked (ends_in P.Inx.number (links self.old)) q (P.index p))
-            (links self.old) (links self.new)) }
+        ensures variant { IsSome result ↔ HasPrev P.index P.generation (links self.old) p }
+        ensures relinked { OnSome result
+            (BreaksPrev (P.index p) (links self.old) (links self.new)) }
         ensures lists { OnSome result ((q : ℕ)
-            → prev_at (ends_in P.Inx.number (links self.old)) (P.index p) ≡ Some q
-            → IsSplit q (P.index p) (ends_in P.Inx.number (links self.old))
-            (ends_in P.Inx.number (links self.new))) }
-        ensures formed { IsChained P.Inx.number (links self.new) }
+            → prev_at (ends_in (links self.old)) (P.index p) ≡ Some q
+            → IsSplit q (P.index p) (ends_in (links self.old)) (ends_in (links self.new))) }
+        ensures formed { IsChained (links self.new) }
         ensures none { IfNone result (self.new ≡ self.old) };
 
     /// Gives `p` the next of `q`, and `q` that of `p`. It returns `None`, and changes nothing, if
@@ -168,20 +157,13 @@ pub trait ChainArenaTrait<P: PtrCore, T: Drop>: ArenaTrait<P, T> {
     /// Two links of one ring make two rings of it, and two links of two rings one. If `q` is the
     /// next of `p`, it becomes a ring of one. If `p` is `q`, nothing changes.
     fn exchange_next(&mut self, p: P, q: P) -> Option<()>
-        ensures variant { IsSome result
-            ↔ (IsSome (next_in (ends_found P.Inx.number (links self.old) (P.index p)
-            (P.generation p)))
-            × IsSome (next_in (ends_found P.Inx.number (links self.old) (P.index q)
-            (P.generation q)))) }
-        ensures relinked { OnSome result ((s t : ℕ)
-            → next_at (ends_in P.Inx.number (links self.old)) (P.index p) ≡ Some s
-            → next_at (ends_in P.Inx.number (links self.old)) (P.index q) ≡ Some t
-            → IsRelinked P.Inx.number
-            (exchanged (ends_in P.Inx.number (links self.old)) (P.index p) (P.index q) s t)
-            (links self.old) (links self.new)) }
+        ensures variant { IsSome result ↔ (HasNext P.index P.generation (links self.old) p
+            × HasNext P.index P.generation (links self.old) q) }
+        ensures relinked { OnSome result
+            (ExchangesNexts (P.index p) (P.index q) (links self.old) (links self.new)) }
         ensures lists { OnSome result (IsExchanged (P.index p) (P.index q)
-            (ends_in P.Inx.number (links self.old)) (ends_in P.Inx.number (links self.new))) }
-        ensures formed { IsChained P.Inx.number (links self.new) }
+            (ends_in (links self.old)) (ends_in (links self.new))) }
+        ensures formed { IsChained (links self.new) }
         ensures none { IfNone result (self.new ≡ self.old) };
 
     /// Removes the link that `p` points to, joins its neighbors, and steps the counter. The link is
@@ -192,11 +174,11 @@ pub trait ChainArenaTrait<P: PtrCore, T: Drop>: ArenaTrait<P, T> {
             ≡ get (links self.old) (P.index p) (P.generation p) }
         ensures overflow { IfSome (answer_of result)
             (λ a. overflowed a ≡ next_wraps P.Gen.last (links self.old).counter) }
-        ensures taken { OnSome (answer_of result) (IsTakenOut P.Inx.number P.Gen.last
+        ensures taken { OnSome (answer_of result) (IsTakenOut P.Gen.last
             (P.index p) (links self.old) (links self.new)) }
         ensures exact { IfSome (answer_of result) (λ a. links self.new ≡ removed P.Gen.last
-            (bridged_over P.Inx.number (links self.old) (value_of a)) (P.index p)) }
-        ensures formed { IsChained P.Inx.number (links self.new) }
+            (bridged_over (links self.old) (value_of a)) (P.index p)) }
+        ensures formed { IsChained (links self.new) }
         ensures invalid { IfNone (answer_of result) (self.new ≡ self.old) };
 
     /// Removes the link at an index, joins its neighbors, and steps the counter. The link is given
@@ -207,11 +189,11 @@ pub trait ChainArenaTrait<P: PtrCore, T: Drop>: ArenaTrait<P, T> {
             (answer_of result) ≡ entry_at (links self.old) (P.Inx.number i) }
         ensures overflow { IfSome (answer_of result)
             (λ a. overflowed a ≡ next_wraps P.Gen.last (links self.old).counter) }
-        ensures taken { OnSome (answer_of result) (IsTakenOut P.Inx.number P.Gen.last
+        ensures taken { OnSome (answer_of result) (IsTakenOut P.Gen.last
             (P.Inx.number i) (links self.old) (links self.new)) }
         ensures exact { IfSome (answer_of result) (λ a. links self.new ≡ removed P.Gen.last
-            (bridged_over P.Inx.number (links self.old) (value_of a).1) (P.Inx.number i)) }
-        ensures formed { IsChained P.Inx.number (links self.new) }
+            (bridged_over (links self.old) (value_of a).1) (P.Inx.number i)) }
+        ensures formed { IsChained (links self.new) }
         ensures invalid { IfNone (answer_of result) (self.new ≡ self.old) };
 
     // The values of the links are the arena's, and so are the counter and the room.
@@ -223,13 +205,13 @@ pub trait ChainArenaTrait<P: PtrCore, T: Drop>: ArenaTrait<P, T> {
 
     ghost links_room: { (s : Self) → (links s).room ≡ Self.room s };
 
-    ghost links_chained: { (s : Self) → Self.is_formed s → IsChained P.Inx.number (links s) };
+    ghost links_chained: { (s : Self) → Self.is_formed s → IsChained (links s) };
 
     // What a step of an advancer gives and leaves.
     ghost advances_along: { (before : Self.ChainAdvancer) (s : Self) (given : Option P)
         (after : Self.ChainAdvancer)
         → Self.ChainAdvancer.advance_gives before s given after
-        → ChainSteps (ends_in P.Inx.number (links s)) (values_in (links s)) (chain_walk before)
+        → ChainSteps (ends_in (links s)) (values_in (links s)) (chain_walk before)
         (option_map (λ p. (P.index p, P.generation p)) given) (chain_walk after) };
 
     // The links that the calls of `ArenaTrait` leave.
@@ -243,7 +225,7 @@ pub trait ChainArenaTrait<P: PtrCore, T: Drop>: ArenaTrait<P, T> {
         → links (Self.with_value s i t) ≡ with_value_in (links s) i t };
 
     ghost links_removed: { (s : Self) (i : ℕ) (new : Self) → Self.is_removed s i new
-        → links new ≡ link_removed P.Inx.number P.Gen.last (links s) i };
+        → links new ≡ link_removed P.Gen.last (links s) i };
 
     ghost links_invalidated: { (s : Self) (i : ℕ)
         → links (Self.invalidated s i) ≡ invalidated P.Gen.last (links s) i };
@@ -252,7 +234,7 @@ pub trait ChainArenaTrait<P: PtrCore, T: Drop>: ArenaTrait<P, T> {
 
     ghost links_compressed: { (s : Self) (reset : Bool) (values : List T) (new : Self)
         → Self.is_compressed s reset values new
-        → IsCompacted P.Inx.number P.Gen.last reset values (links s) (links new) };
+        → IsCompacted P.Gen.last reset values (links s) (links new) };
 
     /// Stores `t` in a link where the kind says, if there is room. It returns
     /// `FailedLinkRequirement` if the links are not as the kind requires, and else
@@ -291,7 +273,9 @@ pub trait ChainArenaTrait<P: PtrCore, T: Drop>: ArenaTrait<P, T> {
     }
 
     /// Stores `t` in a link where the kind says. The links must be as the kind requires. If there
-    /// is no room, the arena grows; the growth and the errors are those of `insert_reallocating`.
+    /// is no room, the arena grows. It returns `BeyondMaxCapacity` if as many links are live as the
+    /// greatest capacity, and `AllocError` if the memory was refused. The links and the room stay
+    /// as they are then, and `t` is dropped.
     #[inline(always)]
     final fn insert(&mut self, kind: LinkInsertKind<P>, t: T) -> Result<P, ChainInsertionError>
         requires { IsSome (gap_among P.index P.generation P.Inx.number (links self.old) kind) }

@@ -9,29 +9,28 @@ ghost use Rattle.triple_arena_chain.specs.declared.kind.InsertKind.TheVariants.{
 ghost use Rattle.triple_arena_chain.specs.declared.kind.InsertKind.TheVariants.{PrevTo};
 ghost use Rattle.triple_arena_chain.specs.LinkRecasting.{link_items, link_recasted};
 ghost use Rattle.triple_arena_chain.specs.LinkShape.{IndexLink};
-ghost use Rattle.triple_arena_chain.specs.Chains.{Ends, next_in, next_at, linked, unlinked};
-ghost use Rattle.triple_arena_chain.specs.Chains.{exchanged, IsLinear, IsRing, On, Apart};
+ghost use Rattle.triple_arena_chain.specs.Chains.{Ends, next_at, IsLinear, IsRing, On, Apart};
 ghost use Rattle.triple_arena_chain.specs.Lists.{Chain, members, IsChainOf, AreChains};
 ghost use Rattle.triple_arena_chain.specs.Runs.{IsRunFrom};
 ghost use Rattle.triple_arena_chain.specs.Walks.{IsWalkFrom};
-ghost use Rattle.triple_arena_chain.specs.Links.{ends_in, ends_found, values_in, gap_among};
-ghost use Rattle.triple_arena_chain.specs.Links.{with_value_in};
+ghost use Rattle.triple_arena_chain.specs.Links.{ends_in, values_in, gap_among, with_value_in};
 ghost use Rattle.triple_arena_chain.specs.Links.{IsChained, IsLinkInserted, IsTakenOut, IsRelinked};
+ghost use Rattle.triple_arena_chain.specs.Links.{Connects, BreaksNext, ExchangesNexts, HasNext};
 ghost use Rattle.triple_arena_chain.specs.UniquenessLaws.{IsInOneChain};
 
 use triple_arena::{PtrCore, Recast};
 
 /// Each live index stands in exactly one chain, once.
 pub fn links_stand_in_one_chain<P: PtrCore, T>()
-    ensures { (c : Content (IndexLink P.Inx T)) (i : ℕ) → IsChained P.Inx.number c
-        → IsSome (ends_in P.Inx.number c i) → IsInOneChain (ends_in P.Inx.number c) i }
+    ensures { (c : Content (IndexLink T)) (i : ℕ) → IsChained c
+        → IsSome (ends_in c i) → IsInOneChain (ends_in c) i }
 {}
 
 /// The links stand in chains, of which each live index is in one, once. A ring is written from its
 /// least index.
 pub fn links_make_chains<P: PtrCore, T>()
-    ensures { (c : Content (IndexLink P.Inx T)) → IsChained P.Inx.number c
-        → (chains : List Chain) × AreChains (ends_in P.Inx.number c) chains }
+    ensures { (c : Content (IndexLink T)) → IsChained c
+        → (chains : List Chain) × AreChains (ends_in c) chains }
 {}
 
 /// Two chains that share an index have the same indexes, and two that are linear are one.
@@ -59,10 +58,10 @@ pub fn rings_turn()
 
 /// A live link begins one walk.
 pub fn links_begin_one_walk<P: PtrCore, T>()
-    ensures { (c : Content (IndexLink P.Inx T)) (i : ℕ) → IsChained P.Inx.number c
-        → IsSome (ends_in P.Inx.number c i) → (walk : List ℕ)
-        × IsWalkFrom (ends_in P.Inx.number c) i walk
-        × ((other : List ℕ) → IsWalkFrom (ends_in P.Inx.number c) i other → other ≡ walk) }
+    ensures { (c : Content (IndexLink T)) (i : ℕ) → IsChained c
+        → IsSome (ends_in c i) → (walk : List ℕ)
+        × IsWalkFrom (ends_in c) i walk
+        × ((other : List ℕ) → IsWalkFrom (ends_in c) i other → other ≡ walk) }
 {}
 
 /// A walk gives each link of its chain, and no other, once.
@@ -83,100 +82,86 @@ pub fn walks_of_a_ring_are_rotations()
 /// A `connect` that returns `Some`, and then `break_next` of its first, which returns `Some` too,
 /// restores all interlinks, and leaves all else as it was.
 pub fn break_next_takes_connect_back<P: PtrCore, T>()
-    ensures answers { (before between : Content (IndexLink P.Inx T)) (p q : P)
+    ensures answers { (before between : Content (IndexLink T)) (p q : P)
         → IsSome (gap_among P.index P.generation P.Inx.number before (Bridge p q))
-        → IsRelinked P.Inx.number (linked (ends_in P.Inx.number before) (P.index p) (P.index q))
-        before between
-        → IsSome (next_in (ends_found P.Inx.number between (P.index p) (P.generation p))) }
-    ensures restored { (before between after : Content (IndexLink P.Inx T)) (p q : P)
+        → Connects (P.index p) (P.index q) before between
+        → HasNext P.index P.generation between p }
+    ensures restored { (before between after : Content (IndexLink T)) (p q : P)
         → IsSome (gap_among P.index P.generation P.Inx.number before (Bridge p q))
-        → IsRelinked P.Inx.number (linked (ends_in P.Inx.number before) (P.index p) (P.index q))
-        before between
-        → ((n : ℕ) → next_at (ends_in P.Inx.number between) (P.index p) ≡ Some n
-        → IsRelinked P.Inx.number
-        (unlinked (ends_in P.Inx.number between) (P.index p) n) between after)
-        → IsRelinked P.Inx.number (ends_in P.Inx.number before) before after }
+        → Connects (P.index p) (P.index q) before between
+        → BreaksNext (P.index p) between after
+        → IsRelinked (ends_in before) before after }
 {}
 
 /// A `break_next` that returns `Some`, and then `connect` of the two links, restores all
 /// interlinks, and leaves all else as it was.
 pub fn connect_takes_break_next_back<P: PtrCore, T>()
-    ensures { (before between after : Content (IndexLink P.Inx T)) (p q : ℕ)
-        → IsChained P.Inx.number before → next_at (ends_in P.Inx.number before) p ≡ Some q
-        → IsRelinked P.Inx.number (unlinked (ends_in P.Inx.number before) p q) before between
-        → IsRelinked P.Inx.number (linked (ends_in P.Inx.number between) p q) between after
-        → IsRelinked P.Inx.number (ends_in P.Inx.number before) before after }
+    ensures { (before between after : Content (IndexLink T)) (p q : ℕ)
+        → IsChained before → next_at (ends_in before) p ≡ Some q
+        → BreaksNext p before between → Connects p q between after
+        → IsRelinked (ends_in before) before after }
 {}
 
 /// `exchange_next` twice with the same pointers, of which the first returns `Some`, returns `Some`
 /// again, restores all interlinks, and leaves all else as it was.
 pub fn exchange_next_takes_itself_back<P: PtrCore, T>()
-    ensures answers { (before between : Content (IndexLink P.Inx T)) (p q : P) (s t : ℕ)
-        → IsSome (next_in (ends_found P.Inx.number before (P.index p) (P.generation p)))
-        → IsSome (next_in (ends_found P.Inx.number before (P.index q) (P.generation q)))
-        → next_at (ends_in P.Inx.number before) (P.index p) ≡ Some s
-        → next_at (ends_in P.Inx.number before) (P.index q) ≡ Some t
-        → IsRelinked P.Inx.number
-        (exchanged (ends_in P.Inx.number before) (P.index p) (P.index q) s t) before between
-        → IsSome (next_in (ends_found P.Inx.number between (P.index p) (P.generation p)))
-        × IsSome (next_in (ends_found P.Inx.number between (P.index q) (P.generation q))) }
-    ensures restored { (before between after : Content (IndexLink P.Inx T)) (p q s t : ℕ)
-        → IsChained P.Inx.number before → next_at (ends_in P.Inx.number before) p ≡ Some s
-        → next_at (ends_in P.Inx.number before) q ≡ Some t
-        → IsRelinked P.Inx.number (exchanged (ends_in P.Inx.number before) p q s t) before between
-        → ((m n : ℕ) → next_at (ends_in P.Inx.number between) p ≡ Some m
-        → next_at (ends_in P.Inx.number between) q ≡ Some n
-        → IsRelinked P.Inx.number (exchanged (ends_in P.Inx.number between) p q m n) between after)
-        → IsRelinked P.Inx.number (ends_in P.Inx.number before) before after }
+    ensures answers { (before between : Content (IndexLink T)) (p q : P)
+        → HasNext P.index P.generation before p × HasNext P.index P.generation before q
+        → ExchangesNexts (P.index p) (P.index q) before between
+        → HasNext P.index P.generation between p × HasNext P.index P.generation between q }
+    ensures restored { (before between after : Content (IndexLink T)) (p q s t : ℕ)
+        → IsChained before → next_at (ends_in before) p ≡ Some s
+        → next_at (ends_in before) q ≡ Some t
+        → ExchangesNexts p q before between → ExchangesNexts p q between after
+        → IsRelinked (ends_in before) before after }
 {}
 
 /// An insertion directly after or before a link, and then the removal of what it put in, restores
 /// all interlinks and values.
 pub fn removals_take_insertions_back<P: PtrCore, T>()
-    ensures after { (before between after : Content (IndexLink P.Inx T)) (p : P) (i g : ℕ) (t : T)
-        → IsChained P.Inx.number before → IsChained P.Inx.number between
+    ensures after { (before between after : Content (IndexLink T)) (p : P) (i g : ℕ) (t : T)
+        → IsChained before → IsChained between
         → IsSome (gap_among P.index P.generation P.Inx.number before (NextTo p))
         → IfSome (gap_among P.index P.generation P.Inx.number before (NextTo p))
-        (λ gap. IsLinkInserted P.Inx.number gap i g t before between)
-        → IsTakenOut P.Inx.number P.Gen.last i between after
-        → (k : ℕ) → (ends_in P.Inx.number after k ≡ ends_in P.Inx.number before k)
+        (λ gap. IsLinkInserted gap i g t before between)
+        → IsTakenOut P.Gen.last i between after
+        → (k : ℕ) → (ends_in after k ≡ ends_in before k)
         × (values_in after k ≡ values_in before k) }
-    ensures before { (before between after : Content (IndexLink P.Inx T)) (p : P) (i g : ℕ) (t : T)
-        → IsChained P.Inx.number before → IsChained P.Inx.number between
+    ensures before { (before between after : Content (IndexLink T)) (p : P) (i g : ℕ) (t : T)
+        → IsChained before → IsChained between
         → IsSome (gap_among P.index P.generation P.Inx.number before (PrevTo p))
         → IfSome (gap_among P.index P.generation P.Inx.number before (PrevTo p))
-        (λ gap. IsLinkInserted P.Inx.number gap i g t before between)
-        → IsTakenOut P.Inx.number P.Gen.last i between after
-        → (k : ℕ) → (ends_in P.Inx.number after k ≡ ends_in P.Inx.number before k)
+        (λ gap. IsLinkInserted gap i g t before between)
+        → IsTakenOut P.Gen.last i between after
+        → (k : ℕ) → (ends_in after k ≡ ends_in before k)
         × (values_in after k ≡ values_in before k) }
 {}
 
 /// If a value is written or recast, a pointer is ended or a limit is set, all interlinks stay.
 pub fn values_keep_the_interlinks<N, P: PtrCore, T: Recast<N>>()
-    ensures written { (c : Content (IndexLink P.Inx T)) (i : ℕ) (t : T) (k : ℕ)
-        → ends_in P.Inx.number (with_value_in c i t) k ≡ ends_in P.Inx.number c k }
-    ensures recast { (f : N → Option N) (c : Content (IndexLink P.Inx T)) (k : ℕ)
-        → ends_in P.Inx.number
-        (content_recasted (link_items T.items) f (link_recasted (T.recasted f)) c) k
-        ≡ ends_in P.Inx.number c k }
-    ensures invalidated { (c : Content (IndexLink P.Inx T)) (i k : ℕ)
-        → ends_in P.Inx.number (invalidated P.Gen.last c i) k ≡ ends_in P.Inx.number c k }
-    ensures limited { (c : Content (IndexLink P.Inx T)) (max k : ℕ)
-        → ends_in P.Inx.number (with_limit P.Inx.greatest c max) k ≡ ends_in P.Inx.number c k }
+    ensures written { (c : Content (IndexLink T)) (i : ℕ) (t : T) (k : ℕ)
+        → ends_in (with_value_in c i t) k ≡ ends_in c k }
+    ensures recast { (f : N → Option N) (c : Content (IndexLink T)) (k : ℕ)
+        → ends_in (content_recasted (link_items T.items) f (link_recasted (T.recasted f)) c) k
+        ≡ ends_in c k }
+    ensures invalidated { (c : Content (IndexLink T)) (i k : ℕ)
+        → ends_in (invalidated P.Gen.last c i) k ≡ ends_in c k }
+    ensures limited { (c : Content (IndexLink T)) (max k : ℕ)
+        → ends_in (with_limit P.Inx.greatest c max) k ≡ ends_in c k }
 {}
 
 /// A second `compress_canonical` changes no index.
 pub fn compress_canonical_stays<P: PtrCore, T>()
-    ensures { (before between after : Content (IndexLink P.Inx T)) (reset again : Bool)
-        → IsCanonical P.Inx.number P.Gen.last reset before between
-        → (second : IsCanonical P.Inx.number P.Gen.last again between after)
-        → (i : ℕ) → IsSome (ends_in P.Inx.number between i) → second.to i ≡ i }
+    ensures { (before between after : Content (IndexLink T)) (reset again : Bool)
+        → IsCanonical P.Gen.last reset before between
+        → (second : IsCanonical P.Gen.last again between after)
+        → (i : ℕ) → IsSome (ends_in between i) → second.to i ≡ i }
 {}
 
 /// `compress_canonical` leaves each list at successive indexes, in its order and with its values.
 pub fn compress_canonical_makes_runs<P: PtrCore, T>()
-    ensures { (before after : Content (IndexLink P.Inx T)) (reset : Bool) (list : List ℕ)
-        → IsCanonical P.Inx.number P.Gen.last reset before after
-        → IsLinear (ends_in P.Inx.number before) list
-        → (first : ℕ) × IsRunFrom P.Inx.number first list before after }
+    ensures { (before after : Content (IndexLink T)) (reset : Bool) (list : List ℕ)
+        → IsCanonical P.Gen.last reset before after
+        → IsLinear (ends_in before) list
+        → (first : ℕ) × IsRunFrom first list before after }
 {}

@@ -1,5 +1,7 @@
 //! A link of a chain.
 ghost use Rattle.std.specs.Prelude.{◌≡◌};
+ghost use Rattle.std.specs.Option.{option_map};
+ghost use Rattle.triple_arena_chain.specs.Kinds.{ends_by};
 
 use triple_arena::Part;
 use triple_arena_ptr::{OptionalInx, PtrCore, PtrInxCore};
@@ -23,8 +25,8 @@ pub type LinkNoGen<P, T> = IndexLink<
 impl<I: PtrInxCore<Word = W>, W: Copy, T> IndexLink<OptionalInx<I, W>, T> {
     /// A link between the links at these two indexes, if there are any.
     pub fn new(prev_next: (Option<I>, Option<I>), t: T) -> Self
-        ensures prev { result.prev ≡ prev_next.0 }
-        ensures next { result.next ≡ prev_next.1 }
+        ensures prev { result.prev ≡ option_map I.number prev_next.0 }
+        ensures next { result.next ≡ option_map I.number prev_next.1 }
         ensures value { result.t ≡ t }
     {
         IndexLink {
@@ -36,21 +38,21 @@ impl<I: PtrInxCore<Word = W>, W: Copy, T> IndexLink<OptionalInx<I, W>, T> {
 
     /// The index of the previous link.
     pub fn prev(&self) -> Option<I>
-        ensures { result ≡ self.now.prev }
+        ensures { option_map I.number result ≡ self.now.prev }
     {
         self.prev.get()
     }
 
     /// The index of the next link.
     pub fn next(&self) -> Option<I>
-        ensures { result ≡ self.now.next }
+        ensures { option_map I.number result ≡ self.now.next }
     {
         self.next.get()
     }
 
     /// The indexes of the previous and of the next link.
     pub fn prev_next(&self) -> (Option<I>, Option<I>)
-        ensures { result ≡ (self.now.prev, self.now.next) }
+        ensures { ends_by I.number result ≡ (self.now.prev, self.now.next) }
     {
         (self.prev.get(), self.next.get())
     }

@@ -1,6 +1,7 @@
 //! The text of links: the neighbors in parentheses, `-` if there is none, and the value, as
 //! `(-, 2) hello`.
 ghost use Rattle.std.specs.Prelude.{Some};
+ghost use Rattle.std.specs.Option.{option_map};
 ghost use Rattle.triple_arena_ptr.specs.Hexadecimal.{hexadecimal};
 ghost use Rattle.triple_arena_chain.specs.LinkText.{neighbor_text, index_link_text, link_text};
 
@@ -13,7 +14,7 @@ use triple_arena_ptr::{OptionalInx, Ptr, PtrInxCore};
 struct InxText<I>(Option<I>);
 
 impl<I: PtrInxCore> fmt::Display for InxText<I> {
-    ghost output = { λ x. neighbor_text (λ i. Some (hexadecimal (I.number i))) x.0 };
+    ghost output = { λ x. neighbor_text (λ i. Some (hexadecimal i)) (option_map I.number x.0) };
 
     fn fmt<W: fmt::Write>(&self, f: &mut fmt::Formatter<W>) -> fmt::Result {
         match self.0 {
@@ -41,7 +42,7 @@ impl<P: Ptr> fmt::Display for PtrText<P> {
 /// The indexes of the neighbors in lower-case hexadecimal digits, and the value: `(-, 2) hello`.
 impl<I: PtrInxCore<Word = W>, W: Copy, T: fmt::Display> fmt::Display
     for IndexLink<OptionalInx<I, W>, T> {
-    ghost output = { index_link_text (λ i. Some (hexadecimal (I.number i))) T.output };
+    ghost output = { index_link_text (λ i. Some (hexadecimal i)) T.output };
 
     fn fmt<V: fmt::Write>(&self, f: &mut fmt::Formatter<V>) -> fmt::Result {
         let prev = InxText(self.prev());

@@ -61,17 +61,17 @@ impl<P: PtrCore, T> Link<P, T> {
 
     /// The link with the indexes of its neighbors alone.
     pub fn no_gen(self) -> LinkNoGen<P, T>
-        ensures prev { option_map P.Inx.number result.prev ≡ option_map P.index self.prev }
-        ensures next { option_map P.Inx.number result.next ≡ option_map P.index self.next }
+        ensures prev { result.prev ≡ option_map P.index self.prev }
+        ensures next { result.next ≡ option_map P.index self.next }
         ensures value { result.t ≡ self.t }
     {
         IndexLink::new((inx_of(self.prev), inx_of(self.next)), self.t)
     }
 
-    /// The link with the indexes of its neighbors alone, and with its value lent.
+    /// The link with the indexes of its neighbors alone, and with its value borrowed.
     pub fn no_gen_ref(&self) -> LinkNoGen<P, &T>
-        ensures prev { option_map P.Inx.number result.prev ≡ option_map P.index self.now.prev }
-        ensures next { option_map P.Inx.number result.next ≡ option_map P.index self.now.next }
+        ensures prev { result.prev ≡ option_map P.index self.now.prev }
+        ensures next { result.next ≡ option_map P.index self.now.next }
         ensures value { result.t.now ≡ self.now.t }
     {
         IndexLink::new((inx_of(self.prev), inx_of(self.next)), &self.t)

@@ -18,8 +18,8 @@ use Rattle.triple_arena_ord.specs.Ascending.{AscendsAlong}
 use Rattle.triple_arena_ord.proofs.AscendingLemmas.{first, tail, single, cons}
 use Rattle.triple_arena_ord.proofs.GapLemmas.{linear_ends}
 
-module _ {I K T : Type 0} (number : I → ℕ) (cmp : K → K → Ordering) (key : T → K)
-    (total : IsTotalOrder cmp) (c : Content (IndexLink I (IndexNode I T))) where
+module _ {K T : Type 0} (cmp : K → K → Ordering) (key : T → K)
+    (total : IsTotalOrder cmp) (c : Content (IndexLink (IndexNode T))) where
   abbrev Ascends : List ℕ → Type 0
   Ascends w = AscendsAlong cmp key (items_in c) w
 
@@ -30,27 +30,27 @@ module _ {I K T : Type 0} (number : I → ℕ) (cmp : K → K → Ordering) (key
   rows w = filter_map (λ i. option_map (λ e. (i, e)) (items_in c i)) w
 
   -- the entry at an index that has a link
-  pub record Seen (i : ℕ) (link : IndexLink I (IndexNode I T)) : Type 0 where
+  pub record Seen (i : ℕ) (link : IndexLink (IndexNode T)) : Type 0 where
     pub stamp : ℕ
     pub at : entry_at c i ≡ Some (stamp, link)
 
-  pub seen : (i : ℕ) (link : IndexLink I (IndexNode I T))
+  pub seen : (i : ℕ) (link : IndexLink (IndexNode T))
       → option_map (λ e. e.1) (entry_at c i) ≡ Some link → Seen i link
   seen i link h = by (entry_at c i) refl h
     where
-      by : (o : Option (ℕ × IndexLink I (IndexNode I T))) → entry_at c i ≡ o
+      by : (o : Option (ℕ × IndexLink (IndexNode T))) → entry_at c i ≡ o
           → option_map (λ e. e.1) o ≡ Some link → Seen i link
       by None u h = absurd (cc)
       by (Some e) u h = let z : e.1 ≡ link = cc in
           record { stamp = e.0; at = u ∙ ap (λ l. Some (e.0, l)) z }
 
-  row : (i : ℕ) (link : IndexLink I (IndexNode I T)) (s : Seen i link) (w : List ℕ)
+  row : (i : ℕ) (link : IndexLink (IndexNode T)) (s : Seen i link) (w : List ℕ)
       → rows (i ∷ w) ≡ (i, (s.stamp, link.t.t)) ∷ rows w
   row i link s w = let item : items_in c i ≡ Some (s.stamp, link.t.t) =
       ap (λ e. option_map itemed (option_map valued e)) s.at in rw item refl
 
   -- how far the keys are compared
-  pub record Checking (w : List ℕ) (link : IndexLink I (IndexNode I T)) (done : ℕ) : Type 0 where
+  pub record Checking (w : List ℕ) (link : IndexLink (IndexNode T)) (done : ℕ) : Type 0 where
     pub before : List ℕ
     pub cur : ℕ
     pub after : List ℕ
@@ -60,7 +60,7 @@ module _ {I K T : Type 0} (number : I → ℕ) (cmp : K → K → Ordering) (key
     pub up : Ascends (cur ∷ after) → Ascends w
     pub down : Ascends w → Ascends (cur ∷ after)
 
-  pub checking_begins : (w : List ℕ) (i : ℕ) (link : IndexLink I (IndexNode I T))
+  pub checking_begins : (w : List ℕ) (i : ℕ) (link : IndexLink (IndexNode T))
       → first_or w None ≡ Some i → Seen i link → Checking w link 1
   checking_begins [] i link e s = absurd (cc)
   checking_begins (x ∷ w) i link e s =
@@ -77,58 +77,58 @@ module _ {I K T : Type 0} (number : I → ℕ) (cmp : K → K → Ordering) (key
       }
 
   -- the first index has a link
-  pub first_lives : (w : List ℕ) (i : ℕ) → IsLinear (ends_in number c) w → first_or w None ≡ Some i
+  pub first_lives : (w : List ℕ) (i : ℕ) → IsLinear (ends_in c) w → first_or w None ≡ Some i
       → IsSome (entry_at c i)
   first_lives [] i linear e = absurd (cc)
   first_lives (x ∷ w) i linear e = let z : x ≡ i = cc in
       subst (λ j. IsSome (entry_at c j)) z (lives (entry_at c x) linear.0)
     where
-      lives : {v : Ends} (o : Option (ℕ × IndexLink I (IndexNode I T)))
-          → option_map (entry_ends number) o ≡ Some v → IsSome o
+      lives : {v : Ends} (o : Option (ℕ × IndexLink (IndexNode T)))
+          → option_map entry_ends o ≡ Some v → IsSome o
       lives None h = absurd (cc)
       lives (Some e) h = refl
 
-  module _ (w : List ℕ) (link : IndexLink I (IndexNode I T)) (done : ℕ) (k : Checking w link done)
-      (linear : IsLinear (ends_in number c) w) where
-    after_is : option_map number link.next ≡ first_or k.after None
+  module _ (w : List ℕ) (link : IndexLink (IndexNode T)) (done : ℕ) (k : Checking w link done)
+      (linear : IsLinear (ends_in c) w) where
+    after_is : link.next ≡ first_or k.after None
     after_is =
-        let z = linear_ends (ends_in number c) k.before k.cur k.after
-        (subst (IsLinear (ends_in number c)) k.is linear) in
-        let y : ends_in number c k.cur ≡ Some (link_ends number link) =
-        ap (option_map (entry_ends number)) k.here.at in
-        let x : Some (link_ends number link) ≡ Some (last_or None k.before, first_or k.after None) =
+        let z = linear_ends (ends_in c) k.before k.cur k.after
+        (subst (IsLinear (ends_in c)) k.is linear) in
+        let y : ends_in c k.cur ≡ Some (link_ends link) =
+        ap (option_map entry_ends) k.here.at in
+        let x : Some (link_ends link) ≡ Some (last_or None k.before, first_or k.after None) =
         sym y ∙ z in
-        let v : link_ends number link ≡ (last_or None k.before, first_or k.after None) = cc in
+        let v : link_ends link ≡ (last_or None k.before, first_or k.after None) = cc in
         ap (λ (e : Ends). e.1) v
 
     record Goes (i : ℕ) : Type 0 where
       pub rest : List ℕ
       pub is : k.after ≡ i ∷ rest
 
-    goes : (i : ℕ) → option_map number link.next ≡ Some i → Goes i
+    goes : (i : ℕ) → link.next ≡ Some i → Goes i
     goes i e = by k.after refl (sym (after_is) ∙ e)
       where
         by : (l : List ℕ) → k.after ≡ l → first_or l None ≡ Some i → Goes i
         by [] u h = absurd (cc)
         by (x ∷ l) u h = let z : x ≡ i = cc in record { rest = l; is = u ∙ ap (λ y. y ∷ l) z }
 
-    pub next_lives : (i : ℕ) → option_map number link.next ≡ Some i → IsSome (entry_at c i)
+    pub next_lives : (i : ℕ) → link.next ≡ Some i → IsSome (entry_at c i)
     next_lives i e =
         let g = goes i e in
         let is : w ≡ (k.before ++ k.cur ∷ []) ++ i ∷ g.rest = k.is
         ∙ ap (λ l. k.before ++ k.cur ∷ l) g.is
         ∙ sym (append_assoc k.before (k.cur ∷ []) (i ∷ g.rest)) in
-        let z = linear_ends (ends_in number c) (k.before ++ k.cur ∷ []) i g.rest
-        (subst (IsLinear (ends_in number c)) is linear) in
+        let z = linear_ends (ends_in c) (k.before ++ k.cur ∷ []) i g.rest
+        (subst (IsLinear (ends_in c)) is linear) in
         lives (entry_at c i) z
       where
-        lives : {v : Ends} (o : Option (ℕ × IndexLink I (IndexNode I T)))
-            → option_map (entry_ends number) o ≡ Some v → IsSome o
+        lives : {v : Ends} (o : Option (ℕ × IndexLink (IndexNode T)))
+            → option_map entry_ends o ≡ Some v → IsSome o
         lives None h = absurd (cc)
         lives (Some e) h = refl
 
-    module _ (i : ℕ) (next : IndexLink I (IndexNode I T))
-        (on : option_map number link.next ≡ Some i) (s : Seen i next) where
+    module _ (i : ℕ) (next : IndexLink (IndexNode T))
+        (on : link.next ≡ Some i) (s : Seen i next) where
       both : (rest : List ℕ)
           → rows (k.cur ∷ i ∷ rest)
           ≡ (k.cur, (k.here.stamp, link.t.t)) ∷ (i, (s.stamp, next.t.t)) ∷ rows rest
@@ -189,7 +189,7 @@ module _ {I K T : Type 0} (number : I → ℕ) (cmp : K → K → Ordering) (key
         (subst (λ l. IsSorted below l) (sym (row k.cur link k.here []))
         (single below (k.cur, (k.here.stamp, link.t.t)))))
 
-    pub checking_ends : option_map number link.next ≡ None → Ascends w
+    pub checking_ends : link.next ≡ None → Ascends w
     checking_ends e = alone (nil k.after (sym after_is ∙ e))
       where
         nil : (l : List ℕ) → first_or l None ≡ None → l ≡ []

@@ -9,7 +9,7 @@ use Rattle.std.proofs.lemmas.Bool.{eq-eqb, ne_eqb}
 use Rattle.std.proofs.lemmas.Bool.Decides.{eqb_tells}
 use Rattle.std.specs.Cmp.{IsTotalOrder}
 use Rattle.std.specs.Ordering.{is_lt, ordering_reverse}
-use Rattle.std.specs.List.{cons_option}
+use Rattle.std.specs.List.{cons_option, AllByRecursion}
 use Rattle.std.specs.List.Sorted.{IsSorted}
 use Rattle.std.specs.declared.cmp.Ordering.{Ordering}
 use Rattle.std.specs.declared.cmp.Ordering.TheVariants.{Less, Equal, Greater}
@@ -21,7 +21,6 @@ use Rattle.triple_arena_chain.specs.Chains.{Off, Apart}
 use Rattle.triple_arena_chain.specs.ChainLaws.{Apart-taken, Off-front, Off-back}
 use Rattle.triple_arena_chain.specs.Links.{ends_in}
 use Rattle.triple_arena_chain.specs.UniquenessLaws.{linear_apart}
-use Rattle.rank_tree.specs.Search.{AllIn}
 use Rattle.triple_arena_ord.specs.Ordered.{Ordered, IsOrdered, IsAscending, order_in, entry_in}
 use Rattle.triple_arena_ord.specs.Ordered.{asked_of}
 use Rattle.triple_arena_ord.specs.Inserted.{StandsAt, IsReplaced, IsAdded, IsInsertedAt}
@@ -133,8 +132,8 @@ pub record IsBetween {K T : Type 0} (R : K → K → Ordering) (key : T → K) (
   pub after : List ℕ
   pub was : old ≡ before ++ after
   pub is : new ≡ before ++ i ∷ after
-  pub low : AllIn (λ j. asked_of R key k (entry j) ≢ Less) before
-  pub high : AllIn (λ j. asked_of R key k (entry j) ≢ Greater) after
+  pub low : AllByRecursion (λ j. asked_of R key k (entry j) ≢ Less) before
+  pub high : AllByRecursion (λ j. asked_of R key k (entry j) ≢ Greater) after
 
 module _ {K T : Type 0} (R : K → K → Ordering) (key : T → K) (total : IsTotalOrder R) where
   abbrev below : ℕ × (ℕ × T) → ℕ × (ℕ × T) → Ordering
@@ -165,7 +164,7 @@ module _ {K T : Type 0} (R : K → K → Ordering) (key : T → K) (total : IsTo
   -- what is asked of each index holds of each that is listed
   listed-all : (entry : ℕ → Option (ℕ × T)) (k : K) (A : Ordering → Type 0)
       (Q : ℕ × (ℕ × T) → Type 0) → ((z : ℕ × (ℕ × T)) → A (R k (key z.1.1)) → Q z)
-      → (xs : List ℕ) → AllIn (λ j. A (asked_of R key k (entry j))) xs
+      → (xs : List ℕ) → AllByRecursion (λ j. A (asked_of R key k (entry j))) xs
       → AllOf below Q (listed_of entry xs)
   listed-all entry k A Q f [] all = tt
   listed-all entry k A Q f (x ∷ xs) all = by (entry x) refl (listed-all entry k A Q f xs all.1)
@@ -197,8 +196,8 @@ module _ {K T : Type 0} (R : K → K → Ordering) (key : T → K) (total : IsTo
   added : (entry new : ℕ → Option (ℕ × T)) (n g : ℕ) (t : T) (xs ys : List ℕ)
       → ((k : ℕ) → new k ≡ with_entry entry n (g, t) k) → Apart (xs ++ n ∷ ys)
       → IsSorted below (listed_of entry (xs ++ ys))
-      → AllIn (λ j. asked_of R key (key t) (entry j) ≢ Less) xs
-      → AllIn (λ j. asked_of R key (key t) (entry j) ≢ Greater) ys
+      → AllByRecursion (λ j. asked_of R key (key t) (entry j) ≢ Less) xs
+      → AllByRecursion (λ j. asked_of R key (key t) (entry j) ≢ Greater) ys
       → IsSorted below (listed_of new (xs ++ n ∷ ys))
   added entry new n g t xs ys is apart s low high =
       let off = (Apart-taken xs ys n apart).1 in
@@ -330,88 +329,87 @@ module _ {K T : Type 0} (R : K → K → Ordering) (key : T → K) (total : IsTo
       by Equal e = ap is_lt e
       by Greater e = ap is_lt e
 
-  module _ {I : Type 0} (number : I → ℕ) where
-    pub removed_ascending : (last : Option ℕ) (h : ℕ) (o p : Ordered I T)
-        → IsEntryRemoved number last h o p → IsAscending number R key o → IsAscending number R key p
-    removed_ascending last h o p s ascending =
-        let w = order_in number o in
-        let f : ℕ → Option (ℕ × (ℕ × T)) = λ i. option_map (λ e. (i, e)) (entry_in p i) in
-        let kept : IsSorted below (listed_of (without (entry_in o) h) w) =
-        rising-sorted below (listed_of (without (entry_in o) h) w)
-        (kept-rising (entry_in o) h w
-        (sorted-rising below not_less (listed_of (entry_in o) w) ascending)) in
-        let left : IsSorted below (listed_of (entry_in p) w) =
-        subst (IsSorted below)
-        (sym (listed-same (entry_in p) (without (entry_in o) h) s.entries w)) kept in
-        let none : entry_in p h ≡ None = s.entries h ∙ rw (eq-eqb h h refl) refl in
-        let here : listed_of (entry_in p) (h ∷ s.order.after)
-        ≡ listed_of (entry_in p) s.order.after = rw none refl in
-        let same : listed_of (entry_in p) (s.order.before ++ h ∷ s.order.after)
-        ≡ listed_of (entry_in p) (s.order.before ++ s.order.after) =
-        filter_map-append f s.order.before (h ∷ s.order.after)
-        ∙ ap (λ l. listed_of (entry_in p) s.order.before ++ l) here
-        ∙ sym (filter_map-append f s.order.before s.order.after) in
-        subst (λ v. IsSorted below (listed_of (entry_in p) v)) (sym s.order.is)
-        (subst (IsSorted below) (ap (listed_of (entry_in p)) s.order.was ∙ same) left)
+  pub removed_ascending : (last : Option ℕ) (h : ℕ) (o p : Ordered T)
+      → IsEntryRemoved last h o p → IsAscending R key o → IsAscending R key p
+  removed_ascending last h o p s ascending =
+      let w = order_in o in
+      let f : ℕ → Option (ℕ × (ℕ × T)) = λ i. option_map (λ e. (i, e)) (entry_in p i) in
+      let kept : IsSorted below (listed_of (without (entry_in o) h) w) =
+      rising-sorted below (listed_of (without (entry_in o) h) w)
+      (kept-rising (entry_in o) h w
+      (sorted-rising below not_less (listed_of (entry_in o) w) ascending)) in
+      let left : IsSorted below (listed_of (entry_in p) w) =
+      subst (IsSorted below)
+      (sym (listed-same (entry_in p) (without (entry_in o) h) s.entries w)) kept in
+      let none : entry_in p h ≡ None = s.entries h ∙ rw (eq-eqb h h refl) refl in
+      let here : listed_of (entry_in p) (h ∷ s.order.after)
+      ≡ listed_of (entry_in p) s.order.after = rw none refl in
+      let same : listed_of (entry_in p) (s.order.before ++ h ∷ s.order.after)
+      ≡ listed_of (entry_in p) (s.order.before ++ s.order.after) =
+      filter_map-append f s.order.before (h ∷ s.order.after)
+      ∙ ap (λ l. listed_of (entry_in p) s.order.before ++ l) here
+      ∙ sym (filter_map-append f s.order.before s.order.after) in
+      subst (λ v. IsSorted below (listed_of (entry_in p) v)) (sym s.order.is)
+      (subst (IsSorted below) (ap (listed_of (entry_in p)) s.order.was ∙ same) left)
 
-  pub keyed_ascending : {I : Type 0} (number : I → ℕ) (o p : Ordered I T)
-      → order_in number p ≡ order_in number o
+  pub keyed_ascending : (o p : Ordered T)
+      → order_in p ≡ order_in o
       → ((k : ℕ) → option_map (λ e. key e.1) (entry_in p k)
       ≡ option_map (λ e. key e.1) (entry_in o k))
-      → IsAscending number R key o → IsAscending number R key p
-  keyed_ascending number o p order keys ascending =
+      → IsAscending R key o → IsAscending R key p
+  keyed_ascending o p order keys ascending =
       subst (λ w. IsSorted below (listed_of (entry_in p) w)) (sym order)
-      (carried below (listed_of (entry_in o) (order_in number o))
-      (listed_of (entry_in p) (order_in number o))
-      (keyed (entry_in o) (entry_in p) keys (order_in number o)) ascending)
+      (carried below (listed_of (entry_in o) (order_in o))
+      (listed_of (entry_in p) (order_in o))
+      (keyed (entry_in o) (entry_in p) keys (order_in o)) ascending)
 
-  module _ {I : Type 0} (number : I → ℕ) (o p : Ordered I T) (i g : ℕ) (t : T) where
-    pub replaced_ascending : (u : T) → R (key t) (key u) ≡ Equal → IsReplaced number i g t u o p
-        → IsAscending number R key o → IsAscending number R key p
+  module _ (o p : Ordered T) (i g : ℕ) (t : T) where
+    pub replaced_ascending : (u : T) → R (key t) (key u) ≡ Equal → IsReplaced i g t u o p
+        → IsAscending R key o → IsAscending R key p
     replaced_ascending u equal r ascending =
         let entries = listed-same (entry_in p) (with_entry (entry_in o) i (g, t)) r.entries
-        (order_in number o) in
-        let sorted = carried below (listed_of (entry_in o) (order_in number o))
-        (listed_of (with_entry (entry_in o) i (g, t)) (order_in number o))
-        (paired (entry_in o) i g t u r.was equal (order_in number o)) ascending in
+        (order_in o) in
+        let sorted = carried below (listed_of (entry_in o) (order_in o))
+        (listed_of (with_entry (entry_in o) i (g, t)) (order_in o))
+        (paired (entry_in o) i g t u r.was equal (order_in o)) ascending in
         subst (λ w. IsSorted below (listed_of (entry_in p) w)) (sym r.order)
         (subst (IsSorted below) (sym entries) sorted)
 
-    pub added_ascending : IsOrdered number p
-        → IsBetween R key (key t) (entry_in o) i (order_in number o) (order_in number p)
-        → IsAdded number i g t o p
-        → IsAscending number R key o → IsAscending number R key p
+    pub added_ascending : IsOrdered p
+        → IsBetween R key (key t) (entry_in o) i (order_in o) (order_in p)
+        → IsAdded i g t o p
+        → IsAscending R key o → IsAscending R key p
     added_ascending new_is s r ascending =
-        let apart : Apart (order_in number p) =
-        linear_apart (ends_in number p.chains) None (order_in number p) new_is.linear in
+        let apart : Apart (order_in p) =
+        linear_apart (ends_in p.chains) None (order_in p) new_is.linear in
         let sorted = added (entry_in o) (entry_in p) i g t s.before s.after r.entries
         (subst Apart s.is apart)
         (subst (λ w. IsSorted below (listed_of (entry_in o) w)) s.was ascending) s.low s.high in
         subst (λ w. IsSorted below (listed_of (entry_in p) w)) (sym s.is) sorted
 
-  module _ {I P : Type 0} (number : I → ℕ) (index generation : P → ℕ)
+  module _ {P : Type 0} (index generation : P → ℕ)
       (allows : Option OrdInsertionError → Type 0) where
     -- an insertion in an entry with an equal key, or between the lesser and the greater ones
-    pub inserted_ascending : (o p : Ordered I T) (t : T) (place : Option (ℕ × Ordering))
-        (result : Result (P × Option T) OrdInsertionError) → IsOrdered number p
+    pub inserted_ascending : (o p : Ordered T) (t : T) (place : Option (ℕ × Ordering))
+        (result : Result (P × Option T) OrdInsertionError) → IsOrdered p
         → ((i g : ℕ) (u : T) → place ≡ Some (i, Equal) → entry_in o i ≡ Some (g, u)
         → R (key t) (key u) ≡ Equal)
-        → ((n : ℕ) → StandsAt place (order_in number o) (order_in number p) n
-        → IsBetween R key (key t) (entry_in o) n (order_in number o) (order_in number p))
-        → IsInsertedAt number index generation allows place t result o p
-        → IsAscending number R key o → IsAscending number R key p
+        → ((n : ℕ) → StandsAt place (order_in o) (order_in p) n
+        → IsBetween R key (key t) (entry_in o) n (order_in o) (order_in p))
+        → IsInsertedAt index generation allows place t result o p
+        → IsAscending R key o → IsAscending R key p
     inserted_ascending o p t place result new_is equal between put ascending = by result refl
       where
-        by : (r : Result (P × Option T) OrdInsertionError) → result ≡ r → IsAscending number R key p
-        by (Err e) at = subst (IsAscending number R key) (sym (put.same e at)) ascending
+        by : (r : Result (P × Option T) OrdInsertionError) → result ≡ r → IsAscending R key p
+        by (Err e) at = subst (IsAscending R key) (sym (put.same e at)) ascending
         by (Ok a) at = answered a.1 refl
           where
-            answered : (u : Option T) → a.1 ≡ u → IsAscending number R key p
+            answered : (u : Option T) → a.1 ≡ u → IsAscending R key p
             answered (Some u) e =
                 let r = put.replaced a.0 u (at ∙ ap (λ z. Ok (a.0, z)) e) in
-                replaced_ascending number o p (index a.0) (generation a.0) t u
+                replaced_ascending o p (index a.0) (generation a.0) t u
                 (equal (index a.0) (generation a.0) u r.0 r.1.was) r.1 ascending
             answered None e =
                 let r = put.added a.0 (at ∙ ap (λ z. Ok (a.0, z)) e) in
-                added_ascending number o p (index a.0) (generation a.0) t new_is
+                added_ascending o p (index a.0) (generation a.0) t new_is
                 (between (index a.0) r.0) r.1 ascending

@@ -9,26 +9,26 @@ use Rattle.std.proofs.lemmas.Fn.{FoldsTo-push}
 use Rattle.std.proofs.lemmas.List.{map-append}
 use Rattle.std.specs.declared.cmp.Ordering.{Ordering}
 use Rattle.std.specs.declared.cmp.Ordering.TheVariants.{Less, Equal, Greater}
-use Rattle.rank_tree.specs.Knot.{Knot}
+use Rattle.rank_tree.specs.NodeView.{NodeView}
 use Rattle.rank_tree.specs.declared.side.Side.TheVariants.{Left}
 use Rattle.triple_arena_ord.specs.NodeShape.{IndexNode}
-use Rattle.triple_arena_ord.specs.Node.{knot_of, itemed}
+use Rattle.triple_arena_ord.specs.Node.{view_of, itemed}
 use Rattle.rank_tree.specs.Store.{Store, rank_or_link, rank_or_zero}
 use Rattle.rank_tree.specs.Tree.{Tree, leaf, node, walk, rank_of, IsRanked}
-use Rattle.rank_tree.specs.Shape.{knot, root_of, Represents}
+use Rattle.rank_tree.specs.Shape.{node_view, root_of, Represents}
 use Rattle.rank_tree.specs.Whole.{IsWhole, tree_of}
 use Rattle.rank_tree.specs.SpotLaws.{rank_link}
 use Rattle.triple_arena_ord.specs.Asked.{IsWay, Question, IsAsked}
-use Rattle.triple_arena_ord.specs.Node.{knots_among, items_among}
+use Rattle.triple_arena_ord.specs.Node.{nodes_among, items_among}
 
 -- where an answer leads
-abbrev pub goes : Ordering → Knot → Option ℕ
+abbrev pub goes : Ordering → NodeView → Option ℕ
 goes Less v = v.left
 goes Equal v = None
 goes Greater v = v.right
 
 -- at a node without children no answer leads on
-pub goes_nowhere : (d : Ordering) (v : Knot) → v.left ≡ None → v.right ≡ None → goes d v ≡ None
+pub goes_nowhere : (d : Ordering) (v : NodeView) → v.left ≡ None → v.right ≡ None → goes d v ≡ None
 goes_nowhere Less v left right = left
 goes_nowhere Equal v left right = refl
 goes_nowhere Greater v left right = right
@@ -42,8 +42,8 @@ last-push : {X : Type 0} (o : Option X) (xs : List X) (x : X) → last_or o (xs 
 last-push o [] x = refl
 last-push o (y ∷ ys) x = last-push (Some y) ys x
 
-module _ {I T P F : Type 0} (number : I → ℕ) (index generation : P → ℕ)
-    (step : F → P → Bor T → Ordering → F → Type 0) (entry : ℕ → Option (ℕ × IndexNode I T)) where
+module _ {T P F : Type 0} (index generation : P → ℕ)
+    (step : F → P → Bor T → Ordering → F → Type 0) (entry : ℕ → Option (ℕ × IndexNode T)) where
   abbrev way_of : List (Question P T) → List (ℕ × Ordering)
   way_of questions = map (λ (q : Question P T). (index q.pointer, q.answer)) questions
 
@@ -72,16 +72,16 @@ module _ {I T P F : Type 0} (number : I → ℕ) (index generation : P → ℕ)
     pub ends : place ≡ last_or None (answers_of questions)
     pub ticks : new ≡ old + length questions
     pub link_is : link ≡ root_of rest
-    pub stands : Represents (knots_among number entry) above rest
+    pub stands : Represents (nodes_among entry) above rest
     pub ranked : IsRanked rest
     pub left_over : length questions + rank_of rest ≤ rank_of whole
 
-  pub asking_begins : (root : Option ℕ) (f : F) (old : ℕ) → IsWhole (knots_among number entry) root
-      → Asking (tree_of (knots_among number entry) root) f root None f old old
+  pub asking_begins : (root : Option ℕ) (f : F) (old : ℕ) → IsWhole (nodes_among entry) root
+      → Asking (tree_of (nodes_among entry) root) f root None f old old
   asking_begins root f old is = record {
     questions = [];
     above = None;
-    rest = tree_of (knots_among number entry) root;
+    rest = tree_of (nodes_among entry) root;
     made = refl;
     entries = tt;
     going = λ more w. w;
@@ -96,21 +96,21 @@ module _ {I T P F : Type 0} (number : I → ℕ) (index generation : P → ℕ)
   pub record Asked (whole : Tree) (f : F) (link next : Option ℕ) (place : Option (P × Ordering))
       (last : F) (old new : ℕ) : Type 0 where
     pub goes_on : Asking whole f next place last old new
-    pub falls : rank_or_link (knots_among number entry) next < rank_or_link
-        (knots_among number entry) link
+    pub falls : rank_or_link (nodes_among entry) next < rank_or_link
+        (nodes_among entry) link
 
   pub asking_step : (whole : Tree) (f : F) (link : Option ℕ) (place : Option (P × Ordering)) (g : F)
       (old new : ℕ) → Asking whole f link place g old new
-      → (i : ℕ) → link ≡ Some i → (stamp : ℕ) (v : IndexNode I T) → entry i ≡ Some (stamp, v)
+      → (i : ℕ) → link ≡ Some i → (stamp : ℕ) (v : IndexNode T) → entry i ≡ Some (stamp, v)
       → (p : P) → index p ≡ i → generation p ≡ stamp
       → (lent : Bor T) → lent.now ≡ v.t → (d : Ordering) (h : F) → step g p lent d h
-      → (next : Option ℕ) → next ≡ goes d (knot_of number v)
+      → (next : Option ℕ) → next ≡ goes d (view_of v)
       → (ticked : ℕ) → ticked ≡ new + 1 → Asked whole f link next (Some (p, d)) h old ticked
   asking_step whole f link place g old new a i link_is stamp v at p index_is stamp_is lent lent_is d
       h call next next_is ticked ticked_is = by a.rest refl
     where
       n : Store
-      n = knots_among number entry
+      n = nodes_among entry
 
       q : Question P T
       q = record { pointer = p; lent = lent; answer = d }
@@ -152,10 +152,10 @@ module _ {I T P F : Type 0} (number : I → ℕ) (index generation : P → ℕ)
           ranked : IsRanked (node l x k r)
           ranked = subst IsRanked e a.ranked
 
-          is : knot_of number v ≡ knot Left a.above (root_of l) k (root_of r)
-          is = let z : Some (knot_of number v)
-              ≡ Some (knot Left a.above (root_of l) k (root_of r)) =
-              sym (ap (option_map (λ e. knot_of number e.1)) at) ∙ stands.0 in cc
+          is : view_of v ≡ node_view Left a.above (root_of l) k (root_of r)
+          is = let z : Some (view_of v)
+              ≡ Some (node_view Left a.above (root_of l) k (root_of r)) =
+              sym (ap (option_map (λ e. view_of e.1)) at) ∙ stands.0 in cc
 
           at_rank : rank_or_link n link ≡ k
           at_rank = ap (rank_or_link n) link_is ∙ ap rank_or_zero stands.0
@@ -201,21 +201,21 @@ module _ {I T P F : Type 0} (number : I → ℕ) (index generation : P → ℕ)
 
           turn : (b : Ordering) → d ≡ b → Asked whole f link next (Some (p, d)) h old ticked
           turn Less u =
-              to (Some i) l (next_is ∙ ap (λ b. goes b (knot_of number v)) u ∙ ap (λ z. z.left) is)
+              to (Some i) l (next_is ∙ ap (λ b. goes b (view_of v)) u ∙ ap (λ z. z.left) is)
               stands.1 ranked.1 ranked.0.above_left
               (λ more w. rw u (
                 record { front = walk l; back = walk r; is = ap (λ y. walk l ++ y ∷ walk r) xi },
                 w,
               ))
           turn Equal u =
-              to None leaf (next_is ∙ ap (λ b. goes b (knot_of number v)) u) tt tt
+              to None leaf (next_is ∙ ap (λ b. goes b (view_of v)) u) tt tt
               (let b = ranked.0.above_left in omega (arith, b))
               (λ more w. rw u (
                 record { front = walk l; back = walk r; is = ap (λ y. walk l ++ y ∷ walk r) xi },
                 w,
               ))
           turn Greater u =
-              to (Some i) r (next_is ∙ ap (λ b. goes b (knot_of number v)) u ∙ ap (λ z. z.right) is)
+              to (Some i) r (next_is ∙ ap (λ b. goes b (view_of v)) u ∙ ap (λ z. z.right) is)
               stands.2 ranked.2 ranked.0.above_right
               (λ more w. rw u (
                 record { front = walk l; back = walk r; is = ap (λ y. walk l ++ y ∷ walk r) xi },

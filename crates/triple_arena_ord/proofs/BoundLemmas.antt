@@ -12,8 +12,8 @@ use Rattle.triple_arena_chain.specs.ListLaws.{On-back, On-first}
 use Rattle.triple_arena_chain.specs.Links.{ends_in}
 use Rattle.rank_tree.specs.Tree.{Tree, leaf, node, walk}
 use Rattle.rank_tree.specs.Shape.{root_of}
-use Rattle.rank_tree.specs.Search.{AllIn, Before, IsParted, IsAnswer}
-use Rattle.rank_tree.specs.DescentLaws.{AllIn-append, AllIn-map, parted-after, parted-before}
+use Rattle.rank_tree.specs.Search.{Before, IsParted, IsAnswer}
+use Rattle.rank_tree.specs.DescentLaws.{all-append, all-map, parted-after, parted-before}
 use Rattle.triple_arena_ord.specs.Bounds.{IsBound, compares_past, first_entry, way_past}
 use Rattle.triple_arena_ord.specs.Ordered.{Ordered, IsOrdered, IsAscending, asked_at, entries_at}
 use Rattle.triple_arena_ord.specs.Ordered.{entry_in, order_in, tree_in}
@@ -21,7 +21,7 @@ use Rattle.triple_arena_ord.proofs.GapLemmas.{linear_ends}
 use Rattle.triple_arena_ord.proofs.LawLemmas.{stands}
 use Rattle.triple_arena_ord.proofs.LinearLemmas.{on_lives}
 use Rattle.triple_arena_ord.proofs.LiveLemmas.{counted_entry, item-some}
-use Rattle.triple_arena_ord.specs.Node.{knots_in}
+use Rattle.triple_arena_ord.specs.Node.{nodes_in}
 use Rattle.triple_arena_chain.specs.Links.{values_in}
 use Rattle.triple_arena_ord.proofs.OrderedDrainLemmas.{listed-append}
 use Rattle.triple_arena_ord.proofs.SeekLemmas.{counted-all, parts_at}
@@ -44,14 +44,14 @@ never_equal true Equal u = cc
 never_equal false Equal u = cc
 never_equal past Greater u = cc
 
-both_in : (L B C : ℕ → Type 0) → ((y : ℕ) → L y → B y → C y) → (w : List ℕ) → AllIn L w
-    → AllIn B w → AllIn C w
+both_in : (L B C : ℕ → Type 0) → ((y : ℕ) → L y → B y → C y) → (w : List ℕ) → AllByRecursion L w
+    → AllByRecursion B w → AllByRecursion C w
 both_in L B C f [] l b = tt
 both_in L B C f (y ∷ w) l b = (f y l.0 b.0, both_in L B C f w l.1 b.1)
 
 parted_map : (f g : ℕ → Ordering) (L : ℕ → Type 0)
     → ((x y : ℕ) → L x → L y → Before (f x) (f y) → Before (g x) (g y))
-    → (w : List ℕ) → AllIn L w → IsParted f w → IsParted g w
+    → (w : List ℕ) → AllByRecursion L w → IsParted f w → IsParted g w
 parted_map f g L turn [] l p = tt
 parted_map f g L turn (x ∷ w) l p = (
   both_in L (λ y. Before (f x) (f y)) (λ y. Before (g x) (g y)) (λ y ly b. turn x y l.0 ly b) w l.1
@@ -63,20 +63,20 @@ no_walk : (t : Tree) → root_of t ≡ None → walk t ≡ []
 no_walk leaf e = refl
 no_walk (node l i k r) e = absurd (cc)
 
-pub knot_lives : {I T : Type 0} (number : I → ℕ) (o : Ordered I T) (i : ℕ)
-    → IsSome (entry_in o i) → IsSome (knots_in number o.chains i)
-knot_lives number o i some = item-some number (values_in o.chains i) some
+pub node_lives : {T : Type 0} (o : Ordered T) (i : ℕ)
+    → IsSome (entry_in o i) → IsSome (nodes_in o.chains i)
+node_lives o i some = item-some (values_in o.chains i) some
 
-module _ {I T : Type 0} (number : I → ℕ) (o : Ordered I T) (is : IsOrdered number o) where
+module _ {T : Type 0} (o : Ordered T) (is : IsOrdered o) where
   -- the next index of one that lives does too
   pub next_lives : (i : ℕ) → IsSome (entry_in o i) → (j : ℕ)
-      → next_at (ends_in number o.chains) i ≡ Some j → IsSome (entry_in o j)
+      → next_at (ends_in o.chains) i ≡ Some j → IsSome (entry_in o j)
   next_lives i some j next =
-      let on = stands number o is i some in
-      let ends = linear_ends (ends_in number o.chains) on.front i on.back
-      (subst (IsLinear (ends_in number o.chains)) on.is is.linear) in
+      let on = stands o is i some in
+      let ends = linear_ends (ends_in o.chains) on.front i on.back
+      (subst (IsLinear (ends_in o.chains)) on.is is.linear) in
       let first : first_or on.back None ≡ Some j = sym (ap next_in ends) ∙ next in
-      on_lives number o is j (subst (λ w. On w j) (sym on.is)
+      on_lives o is j (subst (λ w. On w j) (sym on.is)
       (On-back on.front (i ∷ on.back) j (behind on.back first)))
     where
       behind : (back : List ℕ) → first_or back None ≡ Some j → On (i ∷ back) j
@@ -85,8 +85,8 @@ module _ {I T : Type 0} (number : I → ℕ) (o : Ordered I T) (is : IsOrdered n
           let same : x ≡ j = cc in
           subst (On (i ∷ x ∷ back)) same (On-back (i ∷ []) (x ∷ back) x (On-first x back))
 
-module _ {I K T : Type 0} (number : I → ℕ) (cmp : K → K → Ordering) (key : T → K) (k : K)
-    (past : Bool) (o : Ordered I T) (is : IsOrdered number o) where
+module _ {K T : Type 0} (cmp : K → K → Ordering) (key : T → K) (k : K)
+    (past : Bool) (o : Ordered T) (is : IsOrdered o) where
   abbrev way : ℕ → Ordering
   way = asked_at (compares_past past cmp) key k o
 
@@ -101,18 +101,18 @@ module _ {I K T : Type 0} (number : I → ℕ) (cmp : K → K → Ordering) (key
       by None at some = absurd (cc)
       by (Some e) at some = rw at refl
 
-  parted : IsTotalOrder cmp → IsAscending number cmp key o → IsParted way (order_in number o)
+  parted : IsTotalOrder cmp → IsAscending cmp key o → IsParted way (order_in o)
   parted total ascending =
       parted_map (asked_at cmp key k o) way (λ i. IsSome (entry_in o i))
       (λ x y lx ly b. subst (λ d. Before d (way y)) (sym (live_way x lx))
       (subst (λ d. Before (way_past past (asked_at cmp key k o x)) d) (sym (live_way y ly))
       (before_past past _ _ b)))
-      (order_in number o)
-      (counted-all (λ i. IsSome (entry_in o i)) (tree_in number o)
-      (λ j h. counted_entry number o is j h))
-      (parts_at number cmp key k total o is ascending)
+      (order_in o)
+      (counted-all (λ i. IsSome (entry_in o i)) (tree_in o)
+      (λ j h. counted_entry o is j h))
+      (parts_at cmp key k total o is ascending)
 
-  to_low : (w : List ℕ) → AllIn (λ y. way y ≡ Greater) w
+  to_low : (w : List ℕ) → AllByRecursion (λ y. way y ≡ Greater) w
       → AllByRecursion (λ e. ComesBefore e.1.1) (entries_at o w)
   to_low [] all = tt
   to_low (x ∷ w) all = by (entry_in o x) refl (to_low w all.1)
@@ -125,7 +125,7 @@ module _ {I K T : Type 0} (number : I → ℕ) (cmp : K → K → Ordering) (key
           let here : ComesBefore e.1 = sym (rw at refl) ∙ all.0 in
           rw at (here, rest)
 
-  to_high : (w : List ℕ) → AllIn (λ y. way y ≡ Less) w
+  to_high : (w : List ℕ) → AllByRecursion (λ y. way y ≡ Less) w
       → AllByRecursion (λ e. ComesBefore e.1.1 → ⊥) (entries_at o w)
   to_high [] all = tt
   to_high (x ∷ w) all = by (entry_in o x) refl (to_high w all.1)
@@ -140,7 +140,7 @@ module _ {I K T : Type 0} (number : I → ℕ) (cmp : K → K → Ordering) (key
 
   module _ {P : Type 0} (index generation : P → ℕ) where
     abbrev Bound : Option P → Type 0
-    Bound result = IsBound number index generation ComesBefore result o
+    Bound result = IsBound index generation ComesBefore result o
 
     abbrev pointed : Option P → Option (ℕ × ℕ)
     pointed result = option_map {U = ℕ × ℕ} (λ p. (index p, generation p)) result
@@ -166,8 +166,8 @@ module _ {I K T : Type 0} (number : I → ℕ) (cmp : K → K → Ordering) (key
             ∙ ap (λ n. (let z : Option (ℕ × ℕ) = Some (x, n) in z)) (sym own)
             ∙ sym (rw at refl)
 
-    bound_cut : (result : Option P) (low high : List ℕ) → order_in number o ≡ low ++ high
-        → AllIn (λ y. way y ≡ Greater) low → AllIn (λ y. way y ≡ Less) high
+    bound_cut : (result : Option P) (low high : List ℕ) → order_in o ≡ low ++ high
+        → AllByRecursion (λ y. way y ≡ Greater) low → AllByRecursion (λ y. way y ≡ Less) high
         → pointed result ≡ first_entry (entries_at o high) → Bound result
     bound_cut result low high cut below above first = record {
       low = entries_at o low;
@@ -179,13 +179,13 @@ module _ {I K T : Type 0} (number : I → ℕ) (cmp : K → K → Ordering) (key
     }
 
     -- a search that ended at none
-    pub bound_none : IsAnswer way (tree_in number o) None → Bound None
+    pub bound_none : IsAnswer way (tree_in o) None → Bound None
     bound_none answer =
-        bound_cut None [] [] (no_walk (tree_in number o) (answer.empty refl)) tt tt refl
+        bound_cut None [] [] (no_walk (tree_in o) (answer.empty refl)) tt tt refl
 
     -- one that ended before an entry
-    pub bound_here : IsTotalOrder cmp → IsAscending number cmp key o → (i : ℕ)
-        → IsAnswer way (tree_in number o) (Some (i, Less)) → (p : P) → index p ≡ i
+    pub bound_here : IsTotalOrder cmp → IsAscending cmp key o → (i : ℕ)
+        → IsAnswer way (tree_in o) (Some (i, Less)) → (p : P) → index p ≡ i
         → generation_at (entry_in o) (index p) ≡ Some (generation p) → Bound (Some p)
     bound_here total ascending i answer p same live =
         let parts = parted total ascending in
@@ -193,28 +193,28 @@ module _ {I K T : Type 0} (number : I → ℕ) (cmp : K → K → Ordering) (key
         let here : way i ≡ Less = answer.asked i Less refl in
         bound_cut (Some p) places.before (i ∷ places.after) places.is (places.less refl) (
           here,
-          AllIn-map (λ y. Before (way i) (way y)) (λ y. way y ≡ Less) (λ y b. b.less here)
+          all-map (λ y. Before (way i) (way y)) (λ y. way y ≡ Less) (λ y b. b.less here)
               places.after (parted-after way places.before i places.after
               (subst (IsParted way) places.is parts)),
         )
         (first_at i places.after p same live)
 
     -- one that ended behind an entry
-    pub bound_behind : IsTotalOrder cmp → IsAscending number cmp key o → (i : ℕ)
-        → IsAnswer way (tree_in number o) (Some (i, Greater)) → (result : Option P)
-        → option_map index result ≡ next_at (ends_in number o.chains) i
+    pub bound_behind : IsTotalOrder cmp → IsAscending cmp key o → (i : ℕ)
+        → IsAnswer way (tree_in o) (Some (i, Greater)) → (result : Option P)
+        → option_map index result ≡ next_at (ends_in o.chains) i
         → IfSome result (λ p. generation_at (entry_in o) (index p) ≡ Some (generation p))
         → Bound result
     bound_behind total ascending i answer result next live =
         let parts = parted total ascending in
         let places = answer.parted i Greater refl parts in
         let here : way i ≡ Greater = answer.asked i Greater refl in
-        let ends = linear_ends (ends_in number o.chains) places.before i places.after
-        (subst (IsLinear (ends_in number o.chains)) places.is is.linear) in
+        let ends = linear_ends (ends_in o.chains) places.before i places.after
+        (subst (IsLinear (ends_in o.chains)) places.is is.linear) in
         bound_cut result (places.before ++ i ∷ []) places.after
         (places.is ∙ sym (append_assoc places.before (i ∷ []) places.after))
-        (AllIn-append (λ y. way y ≡ Greater) places.before (i ∷ [])
-        (AllIn-map (λ y. Before (way y) (way i)) (λ y. way y ≡ Greater) (λ y b. b.greater here)
+        (all-append (λ y. way y ≡ Greater) places.before (i ∷ [])
+        (all-map (λ y. Before (way y) (way i)) (λ y. way y ≡ Greater) (λ y b. b.greater here)
         places.before (parted-before way places.before i places.after
         (subst (IsParted way) places.is parts)))
         (here, tt))
@@ -233,51 +233,7 @@ module _ {I K T : Type 0} (number : I → ℕ) (cmp : K → K → Ordering) (key
 
     -- it never ends at an entry that it found
     pub bound_never : (i : ℕ) → IsSome (entry_in o i)
-        → IsAnswer way (tree_in number o) (Some (i, Equal)) → ⊥
+        → IsAnswer way (tree_in o) (Some (i, Equal)) → ⊥
     bound_never i some answer =
         never_equal past (asked_at cmp key k o i)
         (sym (live_way i some) ∙ answer.asked i Equal refl)
-
--- a bound by another name
-pub bound_told : {I T P : Type 0} (number : I → ℕ) (index generation : P → ℕ)
-    (A B : T → Type 0) (result : Option P) (o : Ordered I T) → ((t : T) → A t → B t)
-    → ((t : T) → B t → A t) → IsBound number index generation A result o
-    → IsBound number index generation B result o
-bound_told {T = T} number index generation A B result o to from bound = record {
-  low = bound.low;
-  high = bound.high;
-  is = bound.is;
-  all_before = each bound.low bound.all_before;
-  none_before = none bound.high bound.none_before;
-  first = bound.first;
-}
-  where
-    each : (l : List (ℕ × (ℕ × T))) → AllByRecursion (λ e. A e.1.1) l
-        → AllByRecursion (λ e. B e.1.1) l
-    each [] all = tt
-    each (e ∷ l) all = (to e.1.1 all.0, each l all.1)
-
-    none : (l : List (ℕ × (ℕ × T))) → AllByRecursion (λ e. A e.1.1 → ⊥) l
-        → AllByRecursion (λ e. B e.1.1 → ⊥) l
-    none [] all = tt
-    none (e ∷ l) all = (λ b. all.0 (from e.1.1 b), none l all.1)
-
--- an entry comes before the place of a key among equal ones if its key is less, and before the
--- place behind them if it is not greater
-pub before_lower : (a : Ordering) → way_past false a ≡ Greater → a ≡ Greater
-before_lower Less u = absurd (cc)
-before_lower Equal u = absurd (cc)
-before_lower Greater u = refl
-
-pub lower_before : (a : Ordering) → a ≡ Greater → way_past false a ≡ Greater
-lower_before a u = ap (way_past false) u
-
-pub before_upper : (a : Ordering) → way_past true a ≡ Greater → a ≢ Less
-before_upper Less u v = cc
-before_upper Equal u v = cc
-before_upper Greater u v = cc
-
-pub upper_before : (a : Ordering) → a ≢ Less → way_past true a ≡ Greater
-upper_before Less u = absurd (u refl)
-upper_before Equal u = refl
-upper_before Greater u = refl

@@ -15,7 +15,7 @@ use Rattle.triple_arena_chain.specs.Links.{ends_in, values_in}
 use Rattle.triple_arena_chain.specs.CanonicalLayout.{IsLaidOut, IsCanonical}
 use Rattle.rank_tree.specs.Halving.{IsHalvingOf}
 use Rattle.triple_arena_ord.specs.NodeShape.{IndexNode}
-use Rattle.triple_arena_ord.specs.Node.{knots_in, itemed, rest}
+use Rattle.triple_arena_ord.specs.Node.{nodes_in, itemed, rest}
 use Rattle.triple_arena_ord.specs.Ordered.{Ordered, IsOrdered, size_in, tree_in, order_in}
 use Rattle.triple_arena_ord.specs.Rebuilt.{IsRebuilt}
 use Rattle.triple_arena_ord.specs.CanonicalLayout.{IsLaidInOrder}
@@ -69,41 +69,41 @@ one_run e n ys laid linear all long = by laid.chains laid.are.chains laid.runs
     by (Linear xs ∷ cs) are runs = by_list xs (all_members cs) are.0.0 are.0.1 runs
     by (Cyclic xs ∷ cs) are runs = absurd (by_ring xs are.0.0 are.0.1.0 are.0.1.1)
 
-module _ {I T : Type 0} (number : I → ℕ) (last : Option ℕ) (reset : Bool) (o : Ordered I T)
-    (mid : Content (IndexLink I (IndexNode I T))) (is : IsOrdered number o)
-    (c : IsCanonical number last reset o.chains mid) where
+module _ {T : Type 0} (last : Option ℕ) (reset : Bool) (o : Ordered T)
+    (mid : Content (IndexLink (IndexNode T))) (is : IsOrdered o)
+    (c : IsCanonical last reset o.chains mid) where
   -- the list is the run of all indexes
-  list_run : map c.to (order_in number o) ≡ range_with_len 1 (size_in o)
+  list_run : map c.to (order_in o) ≡ range_with_len 1 (size_in o)
   list_run =
-      one_run (ends_in number mid) (size_in o) (map c.to (order_in number o)) c.laid_out
-      (list_linear number o mid c.to is c.renamed c.live)
-      (on_list number o mid c.to is c.renamed c.live)
-      (list_long number o mid c.to is c.renamed c.live ∙ c.live)
+      one_run (ends_in mid) (size_in o) (map c.to (order_in o)) c.laid_out
+      (list_linear o mid c.to is c.renamed c.live)
+      (on_list o mid c.to is c.renamed c.live)
+      (list_long o mid c.to is c.renamed c.live ∙ c.live)
 
   -- so it is the run of the live indexes
-  pub run_linear : IsLinear (ends_in number mid) (range_with_len 1 (live_count mid))
-  run_linear = subst (IsLinear (ends_in number mid)) (list_run ∙ ap (range_with_len 1) (sym c.live))
-      (list_linear number o mid c.to is c.renamed c.live)
+  pub run_linear : IsLinear (ends_in mid) (range_with_len 1 (live_count mid))
+  run_linear = subst (IsLinear (ends_in mid)) (list_run ∙ ap (range_with_len 1) (sym c.live))
+      (list_linear o mid c.to is c.renamed c.live)
 
-  pub record Laid (new : Ordered I T) : Type 0 where
-    pub ordered : IsOrdered number new
-    pub laid : IsLaidInOrder number last reset o new
+  pub record Laid (new : Ordered T) : Type 0 where
+    pub ordered : IsOrdered new
+    pub laid : IsLaidInOrder last reset o new
 
-  renewed_item : (g : ℕ) (x : Option (ℕ × IndexNode I T))
+  renewed_item : (g : ℕ) (x : Option (ℕ × IndexNode T))
       → option_map itemed (option_map
-      (λ (e : ℕ × IndexNode I T). (let y : ℕ × IndexNode I T = (g, e.1) in y)) x)
+      (λ (e : ℕ × IndexNode T). (let y : ℕ × IndexNode T = (g, e.1) in y)) x)
       ≡ option_map (λ (e : ℕ × T). (let y : ℕ × T = (g, e.1) in y)) (option_map itemed x)
   renewed_item g None = refl
   renewed_item g (Some e) = refl
 
   -- what the rebuild leaves
-  pub laid_by : (new : Ordered I T) → rest new.chains ≡ rest mid
-      → IsRebuilt (range_with_len 1 (live_count mid)) new.root (knots_in number new.chains)
+  pub laid_by : (new : Ordered T) → rest new.chains ≡ rest mid
+      → IsRebuilt (range_with_len 1 (live_count mid)) new.root (nodes_in new.chains)
       → Laid new
   laid_by new keeps b =
-      let named = subst (λ l. IsRebuilt l new.root (knots_in number new.chains))
+      let named = subst (λ l. IsRebuilt l new.root (nodes_in new.chains))
       (ap (range_with_len 1) c.live ∙ sym list_run) b in
-      let w = rewritten number o mid c.to is c.renamed c.live new keeps named in
+      let w = rewritten o mid c.to is c.renamed c.live new keeps named in
       let r = w.stays in
       record {
         ordered = w.ordered;
@@ -114,10 +114,10 @@ module _ {I T : Type 0} (number : I → ℕ) (last : Option ℕ) (reset : Bool) 
           entries = λ i on.
               r.items (c.to i)
               ∙ ap (option_map itemed)
-              (c.values i (live_on (ends_in number o.chains) None None (order_in number o) i
+              (c.values i (live_on (ends_in o.chains) None None (order_in o) i
               is.linear on))
               ∙ renewed_item (renewed last reset o.chains.counter) (values_in o.chains i);
-          tree = subst (λ l. IsHalvingOf l (tree_in number new)) (w.order ∙ list_run) w.tree;
+          tree = subst (λ l. IsHalvingOf l (tree_in new)) (w.order ∙ list_run) w.tree;
           size = r.kept.live ∙ c.live;
           slots = r.kept.slots ∙ c.slots;
           free = r.kept.free ∙ c.free;
@@ -145,11 +145,11 @@ left_alone to (x ∷ front) back i same =
     left_alone to front back i behind
 
 -- a second layout leaves each index
-pub laid_twice : {I T : Type 0} (number : I → ℕ) (last : Option ℕ) (reset again : Bool)
-    (before between after : Ordered I T) → IsLaidInOrder number last reset before between
-    → (second : IsLaidInOrder number last again between after) → (i : ℕ)
-    → On (order_in number between) i → second.to i ≡ i
-laid_twice number last reset again before between after first second i on =
-    let same : map second.to (order_in number between) ≡ order_in number between =
+pub laid_twice : {T : Type 0} (last : Option ℕ) (reset again : Bool)
+    (before between after : Ordered T) → IsLaidInOrder last reset before between
+    → (second : IsLaidInOrder last again between after) → (i : ℕ)
+    → On (order_in between) i → second.to i ≡ i
+laid_twice last reset again before between after first second i on =
+    let same : map second.to (order_in between) ≡ order_in between =
     sym second.order ∙ second.runs ∙ ap (range_with_len 1) first.size ∙ sym first.runs in
     left_alone second.to on.front on.back i (subst (λ l. map second.to l ≡ l) on.is same)

@@ -20,7 +20,7 @@ use Rattle.triple_arena_chain.specs.Values.{room_in as chain_room}
 use Rattle.rank_tree.specs.Halving.{IsHalvingOf}
 use Rattle.triple_arena_ord.specs.NodeShape.{IndexNode}
 use Rattle.triple_arena_ord.specs.Indexed.{listed_item, indexed}
-use Rattle.triple_arena_ord.specs.Node.{knots_in, itemed, rest}
+use Rattle.triple_arena_ord.specs.Node.{nodes_in, itemed, rest}
 use Rattle.triple_arena_ord.specs.Ordered.{Ordered, IsOrdered, entry_in, size_in, counter_in}
 use Rattle.triple_arena_ord.specs.Ordered.{room_in, tree_in, order_in, ordered_entries}
 use Rattle.triple_arena_ord.specs.Rebuilt.{IsRebuilt}
@@ -31,60 +31,60 @@ use Rattle.triple_arena_ord.proofs.RenamedListLemmas.{on_renamed}
 use Rattle.triple_arena_ord.proofs.WrittenListLemmas.{on_order, written}
 use Rattle.std.proofs.lemmas.Option.{slice_get-map}
 
-module _ {J I U T : Type 0} (old_number : J → ℕ) (number : I → ℕ) (o : Ordered J U)
-    (is : IsOrdered old_number o)
-    (mid : Content (IndexLink I (IndexNode I T))) (nodes : List (ℕ × (ℕ × IndexNode J U)))
-    (m : IsMovedAlong old_number number nodes o.chains mid)
+module _ {U T : Type 0} (o : Ordered U)
+    (is : IsOrdered o)
+    (mid : Content (IndexLink (IndexNode T))) (nodes : List (ℕ × (ℕ × IndexNode U)))
+    (m : IsMovedAlong nodes o.chains mid)
     (live : live_count mid ≡ size_in o) where
   -- the new list is the run of all indexes
-  order_linear : IsLinear (ends_in number mid) (range_with_len 1 (size_in o))
-  order_linear = linear_moved old_number number nodes o.chains mid (order_in old_number o) is.linear
-      (on_order old_number o is) m
+  order_linear : IsLinear (ends_in mid) (range_with_len 1 (size_in o))
+  order_linear = linear_moved nodes o.chains mid (order_in o) is.linear
+      (on_order o is) m
 
   -- so it is the run of the live indexes
-  pub run_linear : IsLinear (ends_in number mid) (range_with_len 1 (live_count mid))
-  run_linear = subst (λ n. IsLinear (ends_in number mid) (range_with_len 1 n)) (sym live)
+  pub run_linear : IsLinear (ends_in mid) (range_with_len 1 (live_count mid))
+  run_linear = subst (λ n. IsLinear (ends_in mid) (range_with_len 1 n)) (sym live)
       order_linear
 
   run_long : length (range_with_len 1 (size_in o)) ≡ live_count mid
   run_long = length-range_with_len 1 (size_in o) ∙ sym live
 
-  run_whole : (k : ℕ) → IsSome (ends_in number mid k) → On (range_with_len 1 (size_in o)) k
+  run_whole : (k : ℕ) → IsSome (ends_in mid k) → On (range_with_len 1 (size_in o)) k
   run_whole k some =
-      subst (λ w. On w k) (linear_run old_number number nodes o.chains mid (order_in old_number o)
-      is.linear (on_order old_number o is) m)
-      (on_renamed (ends_in old_number o.chains) (ends_in number mid) m.to (order_in old_number o)
-      m.renamed (on_order old_number o is) k some)
+      subst (λ w. On w k) (linear_run nodes o.chains mid (order_in o)
+      is.linear (on_order o is) m)
+      (on_renamed (ends_in o.chains) (ends_in mid) m.to (order_in o)
+      m.renamed (on_order o is) k some)
 
   -- the nodes were taken along the list
-  pub nodes_are : map listed_item nodes ≡ ordered_entries old_number o
+  pub nodes_are : map listed_item nodes ≡ ordered_entries o
   nodes_are =
-      let along = linear_order old_number number nodes o.chains mid (order_in old_number o)
-      is.linear (on_order old_number o is) m in
+      let along = linear_order nodes o.chains mid (order_in o)
+      is.linear (on_order o is) m in
       ap (map listed_item) (m.along ∙ ap (links_along (values_in o.chains)) along)
-      ∙ along_items (values_in o.chains) (order_in old_number o)
+      ∙ along_items (values_in o.chains) (order_in o)
 
-  module _ (g : ℕ) (room : Room) (before : Content (IndexLink I (IndexNode I T)))
-      (old : Ordered I T)
+  module _ (g : ℕ) (room : Room) (before : Content (IndexLink (IndexNode T)))
+      (old : Ordered T)
       (f : IsFilled values_in live_count some_counter chain_room listed_values (size_in o) g room
       before mid) where
-    pub record Transferred (new : Ordered I T) : Type 0 where
-      pub ordered : IsOrdered number new
-      pub order : order_in number new ≡ range_with_len 1 (size_in o)
-      pub tree : IsHalvingOf (range_with_len 1 (size_in o)) (tree_in number new)
+    pub record Transferred (new : Ordered T) : Type 0 where
+      pub ordered : IsOrdered new
+      pub order : order_in new ≡ range_with_len 1 (size_in o)
+      pub tree : IsHalvingOf (range_with_len 1 (size_in o)) (tree_in new)
       pub listed : indexed new ≡ map listed_item (listed_values mid)
       pub filled : IsFilled entry_in size_in counter_in room_in indexed (size_in o) g room old new
       pub slots : length new.chains.slots ≡ size_in o
       pub free : new.chains.free ≡ mid.free
 
     -- what the rebuild leaves
-    pub transferred_by : (new : Ordered I T) → rest new.chains ≡ rest mid
-        → IsRebuilt (range_with_len 1 (live_count mid)) new.root (knots_in number new.chains)
+    pub transferred_by : (new : Ordered T) → rest new.chains ≡ rest mid
+        → IsRebuilt (range_with_len 1 (live_count mid)) new.root (nodes_in new.chains)
         → Transferred new
     transferred_by new keeps b =
         let counted = subst (λ n. IsRebuilt (range_with_len 1 n) new.root
-        (knots_in number new.chains)) live b in
-        let w = written number mid (range_with_len 1 (size_in o)) order_linear run_whole run_long
+        (nodes_in new.chains)) live b in
+        let w = written mid (range_with_len 1 (size_in o)) order_linear run_whole run_long
         new keeps counted in
         let r = w.stays in
         let listed : indexed new ≡ map listed_item (listed_values mid) =
@@ -95,7 +95,7 @@ module _ {J I U T : Type 0} (old_number : J → ℕ) (number : I → ℕ) (o : O
         record {
           ordered = w.ordered;
           order = w.order;
-          tree = subst (λ l. IsHalvingOf l (tree_in number new)) w.order w.tree;
+          tree = subst (λ l. IsHalvingOf l (tree_in new)) w.order w.tree;
           listed = listed;
           filled = record {
             compact = λ k entry at. place_same (slice_get (listed_values mid) k) (k + 1) entry

@@ -18,7 +18,7 @@ use Rattle.rank_tree.specs.Shape.{root_of}
 use Rattle.triple_arena_ord.specs.NodeShape.{IndexNode}
 use Rattle.triple_arena_ord.specs.Copies.{copied_into, emptied_to, IsClone}
 use Rattle.triple_arena_ord.specs.Indexed.{listed_item}
-use Rattle.triple_arena_ord.specs.Node.{knots_in, knot_of, itemed}
+use Rattle.triple_arena_ord.specs.Node.{nodes_in, view_of, itemed}
 use Rattle.triple_arena_ord.specs.Ordered.{Ordered, IsOrdered, entry_in, size_in, counter_in}
 use Rattle.triple_arena_ord.specs.Ordered.{room_in, tree_in}
 use Rattle.triple_arena_ord.proofs.SameListLemmas.{same_list}
@@ -27,76 +27,60 @@ use Rattle.triple_arena_ord.proofs.SameListLemmas.{same_list}
 pub error_kept : {A B E : Type 0} (e x : E) → IsErrOf {T = A} (Err e) x → IsErrOf {T = B} (Err e) x
 error_kept e x failed = let same : e ≡ x = cc failed in ap Err same
 
-module _ {I T : Type 0} where
+module _ {T : Type 0} where
   -- the item of a node is listed where the node is
-  pub listed_as_item : (nodes : List (ℕ × (ℕ × IndexNode I T))) (k : ℕ)
-      (e : ℕ × (ℕ × IndexNode I T)) → slice_get nodes k ≡ Some e
+  pub listed_as_item : (nodes : List (ℕ × (ℕ × IndexNode T))) (k : ℕ)
+      (e : ℕ × (ℕ × IndexNode T)) → slice_get nodes k ≡ Some e
       → slice_get (map listed_item nodes) k ≡ Some (listed_item e)
   listed_as_item nodes k e at = slice_get-map listed_item nodes k ∙ ap (option_map listed_item) at
 
-module _ {I T : Type 0} (number : I → ℕ) where
+module _ {T : Type 0} where
   -- a clone that was made
-  pub record Cloned (c : Content (IndexLink I (IndexNode I T))) (source new : Ordered I T) : Type 0
+  pub record Cloned (c : Content (IndexLink (IndexNode T))) (source new : Ordered T) : Type 0
     where
-      pub ordered : IsOrdered number new
-      pub clone : IsClone number c source new
+      pub ordered : IsOrdered new
+      pub clone : IsClone c source new
 
-  pub cloned : (c d : Content (IndexLink I (IndexNode I T))) (source : Ordered I T)
+  pub cloned : (c d : Content (IndexLink (IndexNode T))) (source : Ordered T)
       → d ≡ copied c (counter_in source) (live_entries source.chains)
-      → IsOrdered number source → Cloned c source (record { chains = d; root = source.root })
+      → IsOrdered source → Cloned c source (record { chains = d; root = source.root })
   cloned c d source exact is =
-      let same = same_list number source (copied_into c source) refl knots
-      (λ k. ap (option_map (entry_ends number)) (at k)) live is in
+      let same = same_list source (copied_into c source) refl nodes
+      (λ k. ap (option_map entry_ends) (at k)) live is in
       subst (λ z. Cloned c source (record { chains = z; root = source.root })) (sym exact) (record {
         ordered = same.ordered;
         clone = record {
           exact = refl;
           entries = λ k. ap (λ e. option_map itemed (option_map valued e)) (at k);
-          knots = knots;
+          nodes = nodes;
           order = same.order;
         };
       })
     where
-      made : Content (IndexLink I (IndexNode I T))
+      made : Content (IndexLink (IndexNode T))
       made = copied c (counter_in source) (live_entries source.chains)
 
       at : (k : ℕ) → entry_at made k ≡ entry_at source.chains k
       at k = entry-copied c (counter_in source) (live_entries source.chains)
           (live_entries-rise source.chains) k ∙ sym (entry-listed source.chains k)
 
-      knots : (k : ℕ) → knots_in number made k ≡ knots_in number source.chains k
-      knots k = ap (λ e. option_map (λ v. knot_of number v.1) (option_map valued e)) (at k)
+      nodes : (k : ℕ) → nodes_in made k ≡ nodes_in source.chains k
+      nodes k = ap (λ e. option_map (λ v. view_of v.1) (option_map valued e)) (at k)
 
       live : live_count made ≡ live_count source.chains
       live = live-copied c (counter_in source) (live_entries source.chains)
           (live_entries-rise source.chains) ∙ live_entries-length source.chains
 
   -- an arena without an entry has no root
-  pub no_root : (o : Ordered I T) → IsOrdered number o → size_in o ≡ 0 → o.root ≡ None
-  no_root o is none = by (tree_in number o) is.whole.stands.0 (is.counted ∙ none)
+  pub no_root : (o : Ordered T) → IsOrdered o → size_in o ≡ 0 → o.root ≡ None
+  no_root o is none = by (tree_in o) is.whole.stands.0 (is.counted ∙ none)
     where
       by : (t : Tree) → o.root ≡ root_of t → length (walk t) ≡ 0 → o.root ≡ None
       by leaf root long = root
       by (node l i k r) root long =
           absurd (let all = length-append (walk l) (i ∷ walk r) in omega (arith, all, long))
 
-  -- and where there is no node either, it is ordered
-  pub none_ordered : (d : Content (IndexLink I (IndexNode I T))) → ((k : ℕ) → values_in d k ≡ None)
-      → live_count d ≡ 0 → IsOrdered number (record { chains = d; root = None })
-  none_ordered d none empty = record {
-    whole = record {
-      stands = (refl, tt);
-      distinct = record { once = λ j. omega arith };
-      ranked = tt;
-    };
-    linear = tt;
-    all = λ i lives. absurd
-        (let no : knots_in number d i ≡ None = ap (option_map (λ e. knot_of number e.1)) (none i) in
-        cc);
-    counted = sym empty;
-  }
-
-  module _ (o : Ordered I T) (d : Content (IndexLink I (IndexNode I T))) (is : IsOrdered number o)
+  module _ (o : Ordered T) (d : Content (IndexLink (IndexNode T))) (is : IsOrdered o)
     where
       -- the links stayed, and so did the root; where none is left there was none
       pub same_links : d ≡ o.chains → live_count d ≡ 0 → record { chains = d; root = None } ≡ o
@@ -113,7 +97,7 @@ module _ {I T : Type 0} (number : I → ℕ) where
             last_generation last
             (λ c. cleared last_generation (reallocated c last)) refused o.chains d
 
-        abbrev Unmade : Ordered I T → Type 0
+        abbrev Unmade : Ordered T → Type 0
         Unmade new = IsUnmadeCopy entry_in size_in counter_in room_in takes_memory last_generation
             last (emptied_to last_generation last) refused' o new
 

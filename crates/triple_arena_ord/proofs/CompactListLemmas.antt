@@ -31,10 +31,10 @@ module _ {T : Type 0} where
       rw at_first (ap (λ i. (i, e.1) ∷ entries_along entry (range_with_len (s + 1) (length l)))
       (sym first) ∙ ap (λ r. e ∷ r) rest)
 
-module _ {I T : Type 0} (number : I → ℕ) where
-  pub compact_list : (n g : ℕ) (own : Room) (old new : Ordered I T)
+module _ {T : Type 0} where
+  pub compact_list : (n g : ℕ) (own : Room) (old new : Ordered T)
       → IsFilled entry_in size_in counter_in room_in indexed n g own old new
-      → order_in number new ≡ range_with_len 1 n → ordered_entries number new ≡ indexed new
+      → order_in new ≡ range_with_len 1 n → ordered_entries new ≡ indexed new
   compact_list n g own old new filled order =
       let many : n ≡ length (indexed new) = sym filled.live ∙ sym (indexed-length new) in
       ap (entries_along (entry_in new)) (order ∙ ap (range_with_len 1) many)

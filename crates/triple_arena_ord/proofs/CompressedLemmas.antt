@@ -17,7 +17,7 @@ use Rattle.triple_arena_chain.specs.RenamingLaws.{live_below-same}
 use Rattle.triple_arena_ord.specs.NodeShape.{IndexNode}
 use Rattle.triple_arena_ord.specs.Compressed.{IsCompressedInOrder}
 use Rattle.triple_arena_ord.specs.Indexed.{listed_item, indexed}
-use Rattle.triple_arena_ord.specs.Node.{knots_in, itemed, rest}
+use Rattle.triple_arena_ord.specs.Node.{nodes_in, itemed, rest}
 use Rattle.triple_arena_ord.specs.Ordered.{Ordered, IsOrdered, entry_in, size_in, counter_in}
 use Rattle.triple_arena_ord.specs.Ordered.{room_in, order_in}
 use Rattle.triple_arena_ord.specs.Rebuilt.{IsRebuilt}
@@ -30,31 +30,31 @@ map_same f h same [] = refl
 map_same f h same (x ∷ xs) = ap (λ y. y ∷ map f xs) (same x)
     ∙ ap (λ l. h x ∷ l) (map_same f h same xs)
 
-module _ {I T : Type 0} where
-  pub generations_of : (l : List (ℕ × (ℕ × IndexNode I T)))
+module _ {T : Type 0} where
+  pub generations_of : (l : List (ℕ × (ℕ × IndexNode T)))
       → map generation_of (map listed_item l) ≡ map generation_of l
   generations_of [] = refl
   generations_of (x ∷ l) = ap (λ r. x.1.0 ∷ r) (generations_of l)
 
   generations_given : (last : Option ℕ) (reset : Bool) (counter : Option ℕ)
-      (l : List (ℕ × (ℕ × IndexNode I T)))
+      (l : List (ℕ × (ℕ × IndexNode T)))
       → map (λ (e : ℕ × (ℕ × T)). generation_given last reset counter (generation_of e))
       (map listed_item l)
-      ≡ map (λ (e : ℕ × (ℕ × IndexNode I T)). generation_given last reset counter (generation_of e))
+      ≡ map (λ (e : ℕ × (ℕ × IndexNode T)). generation_given last reset counter (generation_of e))
       l
   generations_given last reset counter [] = refl
   generations_given last reset counter (x ∷ l) =
       ap (λ r. generation_given last reset counter x.1.0 ∷ r)
       (generations_given last reset counter l)
 
-  pub both : (o : Option (ℕ × (ℕ × IndexNode I T)))
+  pub both : (o : Option (ℕ × (ℕ × IndexNode T)))
       → option_map itemed (option_map entry_of_listed o)
       ≡ option_map entry_of_listed (option_map listed_item o)
   both None = refl
   both (Some f) = refl
 
-  pub place_same : (o : Option (ℕ × (ℕ × IndexNode I T))) (n : ℕ) (entry : ℕ × (ℕ × T))
-      → ((f : ℕ × (ℕ × IndexNode I T)) → o ≡ Some f → index_of f ≡ n)
+  pub place_same : (o : Option (ℕ × (ℕ × IndexNode T))) (n : ℕ) (entry : ℕ × (ℕ × T))
+      → ((f : ℕ × (ℕ × IndexNode T)) → o ≡ Some f → index_of f ≡ n)
       → option_map listed_item o ≡ Some entry → index_of entry ≡ n
   place_same None n entry placed at = absurd (let no : None ≡ Some entry = at in cc)
   place_same (Some f) n entry placed at =
@@ -62,54 +62,54 @@ module _ {I T : Type 0} where
       let same : listed_item f ≡ entry = cc one in
       sym (ap index_of same) ∙ placed f refl
 
-  given_same : (g : ℕ) (o : Option (ℕ × (ℕ × IndexNode I T)))
-      → option_map itemed (option_map (λ n. (let e : ℕ × IndexNode I T = (g, n) in e))
+  given_same : (g : ℕ) (o : Option (ℕ × (ℕ × IndexNode T)))
+      → option_map itemed (option_map (λ n. (let e : ℕ × IndexNode T = (g, n) in e))
       (option_map value_of o))
       ≡ option_map (λ t. (let e : ℕ × T = (g, t) in e))
       (option_map value_of (option_map listed_item o))
   given_same g None = refl
   given_same g (Some f) = refl
 
-module _ {I T : Type 0} (number : I → ℕ) where
-  live_alike : (o : Option (ℕ × IndexLink I (IndexNode I T)))
+module _ {T : Type 0} where
+  live_alike : (o : Option (ℕ × IndexLink (IndexNode T)))
       → is_some (option_map itemed (option_map valued o))
-      ≡ is_some (option_map (entry_ends number) o)
+      ≡ is_some (option_map entry_ends o)
   live_alike None = refl
   live_alike (Some e) = refl
 
   -- the new index of an entry is that of its link
-  new_index_same : (o : Ordered I T) (i : ℕ)
-      → new_index (ends_in number o.chains) i ≡ new_index (entry_in o) i
+  new_index_same : (o : Ordered T) (i : ℕ)
+      → new_index (ends_in o.chains) i ≡ new_index (entry_in o) i
   new_index_same o i =
-      ap (λ n. n + 1) (sym (live_below-same (ends_in number o.chains) (entry_in o)
+      ap (λ n. n + 1) (sym (live_below-same (ends_in o.chains) (entry_in o)
       (λ j. live_alike (entry_at o.chains j)) i))
 
-module _ {I T : Type 0} (number : I → ℕ) (last : Option ℕ) (reset : Bool) (o : Ordered I T)
-    (mid : Content (IndexLink I (IndexNode I T))) (is : IsOrdered number o)
+module _ {T : Type 0} (last : Option ℕ) (reset : Bool) (o : Ordered T)
+    (mid : Content (IndexLink (IndexNode T))) (is : IsOrdered o)
     (c : IsCompressed values_in live_count some_counter chain_room last listed_values reset o.chains
     mid)
-    (x : IsCompacted number last reset (map value_of (listed_values mid)) o.chains mid) where
+    (x : IsCompacted last reset (map value_of (listed_values mid)) o.chains mid) where
   -- the list under the new indexes
   abbrev pub moved : List ℕ
-  moved = map (new_index (ends_in number o.chains)) (order_in number o)
+  moved = map (new_index (ends_in o.chains)) (order_in o)
 
-  pub moved_linear : IsLinear (ends_in number mid) moved
-  moved_linear = list_linear number o mid (new_index (ends_in number o.chains)) is x.renamed c.live
+  pub moved_linear : IsLinear (ends_in mid) moved
+  moved_linear = list_linear o mid (new_index (ends_in o.chains)) is x.renamed c.live
 
   pub moved_long : length moved ≡ live_count mid
-  moved_long = list_long number o mid (new_index (ends_in number o.chains)) is x.renamed c.live
+  moved_long = list_long o mid (new_index (ends_in o.chains)) is x.renamed c.live
 
-  pub moved_all : (k : ℕ) → IsSome (ends_in number mid k) → On moved k
-  moved_all = on_list number o mid (new_index (ends_in number o.chains)) is x.renamed c.live
+  pub moved_all : (k : ℕ) → IsSome (ends_in mid k) → On moved k
+  moved_all = on_list o mid (new_index (ends_in o.chains)) is x.renamed c.live
 
-  pub record Compressed (new : Ordered I T) : Type 0 where
-    pub ordered : IsOrdered number new
-    pub order : order_in number new ≡ moved
+  pub record Compressed (new : Ordered T) : Type 0 where
+    pub ordered : IsOrdered new
+    pub order : order_in new ≡ moved
     pub listed : indexed new ≡ map listed_item (listed_values mid)
     pub compressed : IsCompressed entry_in size_in counter_in room_in last indexed reset o new
-    pub exact : IsCompressedInOrder number last reset (map value_of (indexed new)) o new
+    pub exact : IsCompressedInOrder last reset (map value_of (indexed new)) o new
 
-  module _ (new : Ordered I T) (listed : indexed new ≡ map listed_item (listed_values mid)) where
+  module _ (new : Ordered T) (listed : indexed new ≡ map listed_item (listed_values mid)) where
     read : (k : ℕ) → slice_get (indexed new) k
         ≡ option_map listed_item (slice_get (listed_values mid) k)
     read k = ap (λ l. slice_get l k) listed ∙ slice_get-map listed_item (listed_values mid) k
@@ -120,17 +120,17 @@ module _ {I T : Type 0} (number : I → ℕ) (last : Option ℕ) (reset : Bool) 
     items_given k =
         let g = renewed last reset o.chains.counter in
         ap (option_map itemed)
-        (x.values k ∙ ap (option_map (λ n. (let e : ℕ × IndexNode I T = (g, n) in e)))
+        (x.values k ∙ ap (option_map (λ n. (let e : ℕ × IndexNode T = (g, n) in e)))
         (slice_get-map value_of (listed_values mid) k))
         ∙ given_same g (slice_get (listed_values mid) k)
         ∙ ap (option_map (λ t. (let e : ℕ × T = (g, t) in e)))
         (ap (option_map value_of) (sym (read k)) ∙ sym (slice_get-map value_of (indexed new) k))
 
   -- what the rebuild leaves
-  pub compressed_by : (new : Ordered I T) → rest new.chains ≡ rest mid
-      → IsRebuilt moved new.root (knots_in number new.chains) → Compressed new
+  pub compressed_by : (new : Ordered T) → rest new.chains ≡ rest mid
+      → IsRebuilt moved new.root (nodes_in new.chains) → Compressed new
   compressed_by new keeps b =
-      let w = rewritten number o mid (new_index (ends_in number o.chains)) is x.renamed c.live new
+      let w = rewritten o mid (new_index (ends_in o.chains)) is x.renamed c.live new
       keeps b in
       let r = w.stays in
       let listed : indexed new ≡ map listed_item (listed_values mid) =
@@ -157,8 +157,8 @@ module _ {I T : Type 0} (number : I → ℕ) (last : Option ℕ) (reset : Bool) 
           room = r.kept.room ∙ c.room;
         };
         exact = record {
-          order = w.order ∙ map_same (new_index (ends_in number o.chains)) (new_index (entry_in o))
-              (new_index_same number o) (order_in number o);
+          order = w.order ∙ map_same (new_index (ends_in o.chains)) (new_index (entry_in o))
+              (new_index_same o) (order_in o);
           entries = λ k. r.items (k + 1) ∙ items_given new listed k;
           tree = w.tree;
           size = r.kept.live ∙ c.live;

@@ -56,29 +56,29 @@ last_left : (before : List ℕ) (h n : ℕ) (after : List ℕ)
 last_left before h n after = last_or-append None before (h ∷ after)
     ∙ sym (last_or-append None before (n ∷ h ∷ after))
 
-module _ {I T : Type 0} (number : I → ℕ) (o p : Ordered I T) (is : IsOrdered number o) (side : Side)
-    (h n : ℕ) (s : StandsBeside side (order_in number o) (order_in number p) h n) where
+module _ {T : Type 0} (o p : Ordered T) (is : IsOrdered o) (side : Side)
+    (h n : ℕ) (s : StandsBeside side (order_in o) (order_in p) h n) where
   apart : Apart (s.before ++ h ∷ s.after)
   apart = subst Apart s.was
-      (linear_apart (ends_in number o.chains) None (order_in number o) is.linear)
+      (linear_apart (ends_in o.chains) None (order_in o) is.linear)
 
-  pub first_moved : (f : Option ℕ) → f ≡ first_or (order_in number o) None
-      → moved side Left f h n ≡ first_or (order_in number p) None
+  pub first_moved : (f : Option ℕ) → f ≡ first_or (order_in o) None
+      → moved side Left f h n ≡ first_or (order_in p) None
   first_moved f e = ap (λ z. moved side Left z h n) (e ∙ ap (λ l. first_or l None) s.was)
       ∙ by side s.is
     where
-      by : (side : Side) → order_in number p ≡ beside side s.before h n s.after
+      by : (side : Side) → order_in p ≡ beside side s.before h n s.after
           → moved side Left (first_or (s.before ++ h ∷ s.after) None) h n
-          ≡ first_or (order_in number p) None
+          ≡ first_or (order_in p) None
       by Left w = first_left s.before h n s.after apart ∙ sym (ap (λ l. first_or l None) w)
       by Right w = first_right s.before h n s.after ∙ sym (ap (λ l. first_or l None) w)
 
-  pub last_moved : (f : Option ℕ) → f ≡ last_or None (order_in number o)
-      → moved side Right f h n ≡ last_or None (order_in number p)
+  pub last_moved : (f : Option ℕ) → f ≡ last_or None (order_in o)
+      → moved side Right f h n ≡ last_or None (order_in p)
   last_moved f e = ap (λ z. moved side Right z h n) (e ∙ ap (last_or None) s.was) ∙ by side s.is
     where
-      by : (side : Side) → order_in number p ≡ beside side s.before h n s.after
+      by : (side : Side) → order_in p ≡ beside side s.before h n s.after
           → moved side Right (last_or None (s.before ++ h ∷ s.after)) h n
-          ≡ last_or None (order_in number p)
+          ≡ last_or None (order_in p)
       by Left w = last_left s.before h n s.after ∙ sym (ap (last_or None) w)
       by Right w = last_right s.before h n s.after apart ∙ sym (ap (last_or None) w)

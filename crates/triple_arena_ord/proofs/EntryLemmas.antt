@@ -17,20 +17,20 @@ same_stamp : {T : Type 0} (e : Option (ℕ × T)) (g h : ℕ) (u : T) → e ≡ 
 same_stamp e g h u at is = let z : Some g ≡ Some h = sym (ap (option_map (λ e. e.0)) at)
     ∙ is in cc z
 
-module _ {I T : Type 0} (number : I → ℕ) where
-  module _ {P : Type 0} (index generation : P → ℕ) (t : T) (o new : Ordered I T) (p q : P)
+module _ {T : Type 0} where
+  module _ {P : Type 0} (index generation : P → ℕ) (t : T) (o new : Ordered T) (p q : P)
       (u : Option T) where
     -- the insertion answers the pointer that was told
     inserted_told : (allows : Option OrdInsertionError → Type 0)
         (place there : Option (ℕ × Ordering)) (result : Result (P × Option T) OrdInsertionError)
-        → result ≡ Ok (q, u) → IsSamePlace (order_in number o) there place
+        → result ≡ Ok (q, u) → IsSamePlace (order_in o) there place
         → IsReadyAt place (index p) (generation p) o
-        → IsInsertedAt number index generation allows there t result o new
-        → IsInsertedAt number index generation allows place t (Ok (p, u)) o new
+        → IsInsertedAt index generation allows there t result o new
+        → IsInsertedAt index generation allows place t (Ok (p, u)) o new
     inserted_told allows place there result is same ready raw = by u refl
       where
-        put : IsInsertedAt number index generation allows place t result o new
-        put = inserted_there number index generation allows t o new there place result same raw
+        put : IsInsertedAt index generation allows place t result o new
+        put = inserted_there index generation allows t o new there place result same raw
 
         pair : (a : P) (v : Option T)
             → ◌≡◌ {A = Result (P × Option T) OrdInsertionError} (Ok (p, u)) (Ok (a, v))
@@ -43,7 +43,7 @@ module _ {I T : Type 0} (number : I → ℕ) where
             ap (option_map (λ (x : ℕ × Ordering). x.0)) (sym a ∙ b) in cc z
 
         by : (v : Option T) → u ≡ v
-            → IsInsertedAt number index generation allows place t (Ok (p, u)) o new
+            → IsInsertedAt index generation allows place t (Ok (p, u)) o new
         by (Some v) at = record {
           replaced = λ a w e.
               let z = pair a (Some w) e in
@@ -56,8 +56,8 @@ module _ {I T : Type 0} (number : I → ℕ) where
               let k : index q ≡ index a = i ∙ ap index z.0 in
               let h : generation q ≡ generation a = g ∙ ap generation z.0 in (
                 subst (λ j. place ≡ Some (j, Equal)) k r.0,
-                subst (λ j. IsReplaced number j (generation a) t w o new) k
-                    (subst (λ h. IsReplaced number (index q) h t w o new) h r.1),
+                subst (λ j. IsReplaced j (generation a) t w o new) k
+                    (subst (λ h. IsReplaced (index q) h t w o new) h r.1),
               );
           added = λ a e. let z = pair a None e in let y : Some v ≡ None = sym at
               ∙ z.1 in absurd (cc);
@@ -71,14 +71,14 @@ module _ {I T : Type 0} (number : I → ℕ) where
           added = λ a e.
               let z = pair a None e in
               let r = put.added q (is ∙ ap (λ x. Ok (q, x)) z.1) in
-              let told = ready.new (λ h. never place h (order_in number o) (order_in number new)
+              let told = ready.new (λ h. never place h (order_in o) (order_in new)
               (index q) r.0) in
               let k : index q ≡ index a = r.1.index ∙ sym told.1.0 ∙ ap index z.0 in
               let h : generation q ≡ generation a = r.1.generation ∙ sym told.1.1
               ∙ ap generation z.0 in (
-                subst (λ j. StandsAt place (order_in number o) (order_in number new) j) k r.0,
-                subst (λ j. IsAdded number j (generation a) t o new) k
-                    (subst (λ h. IsAdded number (index q) h t o new) h r.1),
+                subst (λ j. StandsAt place (order_in o) (order_in new) j) k r.0,
+                subst (λ j. IsAdded j (generation a) t o new) k
+                    (subst (λ h. IsAdded (index q) h t o new) h r.1),
               );
           fits = λ a e. put.fits q (is ∙ ap (λ x. Ok (q, x)) (pair a None e).1);
           refused = λ error e. absurd (cc);
@@ -88,10 +88,10 @@ module _ {I T : Type 0} (number : I → ℕ) where
     -- the same of the whole insertion
     pub inserts_told : (place there : Option (ℕ × Ordering))
         (result : Result (P × Option T) OrdInsertionError) → result ≡ Ok (q, u)
-        → IsSamePlace (order_in number o) there place
+        → IsSamePlace (order_in o) there place
         → IsReadyAt place (index p) (generation p) o
-        → InsertsAt number index generation None there t result o new
-        → InsertsAt number index generation None place t (Ok (p, u)) o new
+        → InsertsAt index generation None there t result o new
+        → InsertsAt index generation None place t (Ok (p, u)) o new
     inserts_told place there result is same ready put = record {
       inserted = inserted_told _ place there result is same ready put.inserted;
       counter = put.counter;

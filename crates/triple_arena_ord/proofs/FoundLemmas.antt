@@ -9,7 +9,7 @@ use Rattle.std.specs.declared.cmp.Ordering.TheVariants.{Less, Equal, Greater}
 use Rattle.triple_arena.specs.Entries.{generation_at}
 use Rattle.rank_tree.specs.Tree.{Tree, leaf, node, walk, size}
 use Rattle.rank_tree.specs.Shape.{root_of, count}
-use Rattle.rank_tree.specs.Search.{IsParted, Places, IsAnswer}
+use Rattle.rank_tree.specs.Search.{IsParted, EndsAt, IsAnswer}
 use Rattle.triple_arena_ord.specs.Near.{IsStop}
 use Rattle.triple_arena_ord.specs.Asked.{Question, IsAsked, AnswersBy, answer_of, answer_at}
 use Rattle.triple_arena_ord.specs.Asked.{found_by}
@@ -29,7 +29,7 @@ stop_answers f t i d s = record {
   lives = λ j e u. let z = pair u in subst (λ x. 0 < count x t) z.0 (walk-counted t i s.on);
   asked = λ j e u. let z = pair u in sym (ap f z.0) ∙ s.way ∙ z.1;
   parted = λ j e u p. let z = pair u in
-      subst (λ x. Places f (walk t) x e) z.0 (subst (λ x. Places f (walk t) i x) z.1 (s.places p));
+      subst (λ x. EndsAt f (walk t) x e) z.0 (subst (λ x. EndsAt f (walk t) i x) z.1 (s.places p));
 }
   where
     pair : {j : ℕ} {e : Ordering} → ◌≡◌ {A = Option (ℕ × Ordering)} (Some (i, d)) (Some (j, e))
@@ -49,10 +49,10 @@ pub none_counted : (t : Tree) → size t ≡ 0 → (j : ℕ) → 0 < count j t �
 none_counted leaf e j h = absurd (omega arith)
 none_counted (node l i k r) e j h = absurd (omega arith)
 
-module _ {I T P : Type 0} (number : I → ℕ) (index generation : P → ℕ) (f : ℕ → Ordering)
-    (parted : Type 0) (o : Ordered I T) (is : IsOrdered number o)
-    (parts : parted → IsParted f (order_in number o)) (a : Option (ℕ × Ordering))
-    (answer : IsAnswer f (tree_in number o) a) where
+module _ {T P : Type 0} (index generation : P → ℕ) (f : ℕ → Ordering)
+    (parted : Type 0) (o : Ordered T) (is : IsOrdered o)
+    (parts : parted → IsParted f (order_in o)) (a : Option (ℕ × Ordering))
+    (answer : IsAnswer f (tree_in o) a) where
   pub found_from : (r : Option P) → ((p : P) → r ≡ Some p → a ≡ Some (index p, Equal))
       → (r ≡ None → (i : ℕ) → a ≢ Some (i, Equal))
       → IfSome r (λ p. generation_at (entry_in o) (index p) ≡ Some (generation p))
@@ -63,21 +63,21 @@ module _ {I T P : Type 0} (number : I → ℕ) (index generation : P → ℕ) (f
       way = answer.asked (index p) Equal (some p e);
     };
     none = λ p e i lives.
-        let not = unequal f (tree_in number o) a answer
+        let not = unequal f (tree_in o) a answer
         (λ j d u v. none e j (u ∙ ap (λ x. Some (j, x)) v)) (parts p) in
-        all-counted (λ y. f y ≢ Equal) (tree_in number o) not i (entry_counted number o is i lives);
+        all-counted (λ y. f y ≢ Equal) (tree_in o) not i (entry_counted o is i lives);
   }
 
-  sized : size (tree_in number o) ≡ size_in o
-  sized = size-walk (tree_in number o) ∙ is.counted
+  sized : size (tree_in o) ≡ size_in o
+  sized = size-walk (tree_in o) ∙ is.counted
 
   pub similar_from : (r : Option (P × Ordering))
       → option_map {U = ℕ × Ordering} (λ x. (index x.0, x.1)) r ≡ a
       → IfSome r (λ x. generation_at (entry_in o) (index x.0) ≡ Some (generation x.0))
-      → IsSimilar index generation number f parted r o
+      → IsSimilar index generation f parted r o
   similar_from r same live = record {
     none = (
-      λ e. sym sized ∙ root_size (tree_in number o)
+      λ e. sym sized ∙ root_size (tree_in o)
           (answer.empty (sym same ∙ ap (option_map {U = ℕ × Ordering} (λ x. (index x.0, x.1))) e)),
       λ e. nothing r refl (sized ∙ e),
     );
@@ -92,18 +92,18 @@ module _ {I T P : Type 0} (number : I → ℕ) (index generation : P → ℕ) (f
       at : (p : P) (d : Ordering) → r ≡ Some (p, d) → a ≡ Some (index p, d)
       at p d e = sym same ∙ ap (option_map {U = ℕ × Ordering} (λ x. (index x.0, x.1))) e
 
-      nothing : (s : Option (P × Ordering)) → r ≡ s → size (tree_in number o) ≡ 0 → r ≡ None
+      nothing : (s : Option (P × Ordering)) → r ≡ s → size (tree_in o) ≡ 0 → r ≡ None
       nothing None u z = u
       nothing (Some x) u z =
-          absurd (none_counted (tree_in number o) z (index x.0)
+          absurd (none_counted (tree_in o) z (index x.0)
           (answer.lives (index x.0) x.1
           (sym same ∙ ap (option_map {U = ℕ × Ordering} (λ x. (index x.0, x.1))) u)))
 
 -- what a closure was asked, where its answers are those of a function
-module _ {I T P F : Type 0} (number : I → ℕ) (index generation : P → ℕ)
-    (step : F → P → Bor T → Ordering → F → Type 0) (o : Ordered I T) (is : IsOrdered number o)
+module _ {T P F : Type 0} (index generation : P → ℕ)
+    (step : F → P → Bor T → Ordering → F → Type 0) (o : Ordered T) (is : IsOrdered o)
     (g : F) (last : Option (P × Ordering)) (old new : ℕ)
-    (asked : IsAsked index generation step (entry_in o) (order_in number o) g last old new)
+    (asked : IsAsked index generation step (entry_in o) (order_in o) g last old new)
     (side : ℕ → ℕ × T → Ordering) (by : AnswersBy index generation step g side) where
   abbrev way_of : List (Question P T) → List (ℕ × Ordering)
   way_of questions = map (λ (q : Question P T). (index q.pointer, q.answer)) questions
@@ -153,22 +153,22 @@ module _ {I T P F : Type 0} (number : I → ℕ) (index generation : P → ℕ)
   same = ap (option_map {U = ℕ × Ordering} (λ x. (index x.0, x.1))) asked.ends
       ∙ last_same None asked.questions
 
-  answer : IsAnswer f (tree_in number o) (last_or None (way_of asked.questions))
-  answer = way_answers f (tree_in number o) (way_of asked.questions) asked.way
+  answer : IsAnswer f (tree_in o) (last_or None (way_of asked.questions))
+  answer = way_answers f (tree_in o) (way_of asked.questions) asked.way
       (agree asked.questions g asked.last by asked.made asked.entries)
 
   live : IfSome last Lives
   live = subst (λ r. IfSome r Lives) (sym asked.ends)
       (last_lives None asked.questions tt asked.entries)
 
-  pub similar_asked : IsSimilar index generation number f (IsParted f (order_in number o)) last o
-  similar_asked = similar_from number index generation f (IsParted f (order_in number o)) o is
+  pub similar_asked : IsSimilar index generation f (IsParted f (order_in o)) last o
+  similar_asked = similar_from index generation f (IsParted f (order_in o)) o is
       (λ p. p) (last_or None (way_of asked.questions)) answer last same live
 
   pub found_asked : (r : Option P) → r ≡ found_by last
-      → IsFound index generation f (IsParted f (order_in number o)) r o
+      → IsFound index generation f (IsParted f (order_in o)) r o
   found_asked r r_is = rw r_is
-      (found_from number index generation f (IsParted f (order_in number o)) o is (λ p. p)
+      (found_from index generation f (IsParted f (order_in o)) o is (λ p. p)
       (last_or None (way_of asked.questions)) answer (found_by last)
       (λ p e. sym same ∙ ap (option_map {U = ℕ × Ordering} (λ x. (index x.0, x.1))) (was last p e))
       (λ e i u. missed last e i (same ∙ u))

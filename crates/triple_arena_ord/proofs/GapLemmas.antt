@@ -1,9 +1,9 @@
 -- Where a linear chain is cut, and the neighbors of one of its indexes.
 use Rattle.std.proofs.Common.{◌≡◌, ℕ, List, [], ◌∷◌, ◌++◌, Option, Some, None, IsSome, refl, sym}
 use Rattle.std.proofs.Common.{ap, subst, inr, ◌⊎◌}
-use Rattle.triple_arena_chain.specs.Chains.{Ends, Stands, IsLinear, first_or, last_or, IsBetween}
+use Rattle.triple_arena_chain.specs.Chains.{Ends, IsSegment, IsLinear, first_or, last_or, IsBetween}
 use Rattle.triple_arena_chain.specs.Chains.{next_in, prev_in, prev_at}
-use Rattle.triple_arena_chain.specs.ChainLaws.{Stands-front, Stands-back, last_or-append}
+use Rattle.triple_arena_chain.specs.ChainLaws.{segment-front, segment-back, last_or-append}
 
 -- the last of a list
 pub record Last (xs : List ℕ) (p : ℕ) : Type 0 where
@@ -24,18 +24,18 @@ pub linear_gap : (e : ℕ → Option Ends) (xs ys : List ℕ) → IsLinear e (xs
 linear_gap e xs ys s = record {
   before = λ p is.
       let l = last_in xs p is in
-      let front = subst (λ z. Stands e None z (first_or ys None)) l.is
-      (Stands-front e None None xs ys s) in
+      let front = subst (λ z. IsSegment e None z (first_or ys None)) l.is
+      (segment-front e None None xs ys s) in
       let at : e p ≡ Some (last_or None l.front, first_or ys None) =
-      (Stands-back e None (first_or ys None) l.front (p ∷ []) front).0 in
+      (segment-back e None (first_or ys None) l.front (p ∷ []) front).0 in
       (some_at at, inr (ap next_in at));
-  after = λ q is. at_first ys (Stands-back e None None xs ys s) q is;
+  after = λ q is. at_first ys (segment-back e None None xs ys s) q is;
 }
   where
     some_at : {o : Option Ends} {v : Ends} → o ≡ Some v → IsSome o
     some_at is = subst IsSome (sym is) refl
 
-    at_first : (zs : List ℕ) → Stands e (last_or None xs) zs None → (q : ℕ)
+    at_first : (zs : List ℕ) → IsSegment e (last_or None xs) zs None → (q : ℕ)
         → first_or zs None ≡ Some q
         → IsSome (e q) × ((prev_at e q ≡ None) ⊎ (prev_at e q ≡ last_or None xs))
     at_first [] s q is = absurd (cc)
@@ -48,7 +48,7 @@ linear_gap e xs ys s = record {
 -- the neighbors of an index
 pub linear_ends : (e : ℕ → Option Ends) (xs : List ℕ) (h : ℕ) (ys : List ℕ)
     → IsLinear e (xs ++ h ∷ ys) → e h ≡ Some (last_or None xs, first_or ys None)
-linear_ends e xs h ys s = (Stands-back e None None xs (h ∷ ys) s).0
+linear_ends e xs h ys s = (segment-back e None None xs (h ∷ ys) s).0
 
 pub last_snoc : (xs : List ℕ) (h : ℕ) → last_or None (xs ++ h ∷ []) ≡ Some h
 last_snoc xs h = last_or-append None xs (h ∷ [])

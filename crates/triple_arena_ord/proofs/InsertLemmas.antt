@@ -1,4 +1,5 @@
 -- An item is replaced, and one is put in where its key belongs.
+use Rattle.std.specs.List.{AllByRecursion}
 use Rattle.std.proofs.Common.{◌≡◌, ℕ, List, [], ◌∷◌, ◌++◌, append_assoc, Option}
 use Rattle.std.proofs.Common.{Some, None, Result, refl, sym, ap, ◌∙◌, subst}
 use Rattle.std.proofs.Common.{inl, inr}
@@ -17,15 +18,15 @@ use Rattle.triple_arena_chain.specs.LinkLaws.{values-with_value_in, ends-with_va
 use Rattle.triple_arena_chain.specs.LinkLaws.{kept-with_value_in}
 use Rattle.triple_arena_chain.specs.UniquenessLaws.{linear_apart}
 use Rattle.triple_arena_ord.specs.NodeShape.{IndexNode}
-use Rattle.rank_tree.specs.Knot.{Knot}
-use Rattle.triple_arena_ord.specs.Node.{knots_in, knot_of, itemed}
-use Rattle.rank_tree.specs.Search.{AllIn, Before, IsParted, IsAnswer}
+use Rattle.rank_tree.specs.NodeView.{NodeView}
+use Rattle.triple_arena_ord.specs.Node.{nodes_in, view_of, itemed}
+use Rattle.rank_tree.specs.Search.{Before, IsParted, IsAnswer}
 use Rattle.triple_arena_ord.specs.Ordered.{Ordered, IsOrdered, tree_in, order_in, asked_of}
 use Rattle.triple_arena_ord.specs.Ordered.{asked_at}
 use Rattle.triple_arena_ord.specs.Placing.{IsPlaceByKey}
 use Rattle.triple_arena_ord.specs.Inserted.{Replaces, StandsAt, IsRenewed, IsReplaced, IsInsertedAt}
 use Rattle.triple_arena_ord.specs.Inserted.{IsPlacedByKey, IsKeyInserted}
-use Rattle.rank_tree.specs.DescentLaws.{AllIn-append, AllIn-map, parted-after, parted-before}
+use Rattle.rank_tree.specs.DescentLaws.{all-append, all-map, parted-after, parted-before}
 use Rattle.triple_arena_ord.proofs.PlacingLemmas.{placed_by_key}
 use Rattle.triple_arena_ord.proofs.SeekLemmas.{parts_at, absent}
 use Rattle.triple_arena_ord.proofs.SameListLemmas.{Reordered, same_list}
@@ -46,29 +47,29 @@ split_same (x ∷ xs) h ys (u ∷ us) vs apart e =
     let rest = split_same xs h ys us vs apart.1 tail in
     (ap (λ z. z ∷ xs) head ∙ ap (λ z. u ∷ z) rest.0, rest.1)
 
-module _ {I T : Type 0} (number : I → ℕ) where
-  abbrev knot_at : ℕ × IndexNode I T → Knot
-  knot_at entry = knot_of number entry.1
+module _ {T : Type 0} where
+  abbrev node_at : ℕ × IndexNode T → NodeView
+  node_at entry = view_of entry.1
 
-  pub renewed : (c : Content (IndexLink I (IndexNode I T))) (i g : ℕ) (u v : IndexNode I T)
-      → values_in c i ≡ Some (g, u) → knot_of number v ≡ knot_of number u
-      → IsRenewed number i g v.t u.t c (with_value_in c i v)
+  pub renewed : (c : Content (IndexLink (IndexNode T))) (i g : ℕ) (u v : IndexNode T)
+      → values_in c i ≡ Some (g, u) → view_of v ≡ view_of u
+      → IsRenewed i g v.t u.t c (with_value_in c i v)
   renewed c i g u v at same = record {
     was = ap (option_map itemed) at;
     items = λ k. ap (option_map itemed) (values-with_value_in c i v k) ∙ elim (eqb_tells k i) [
       | inl e ↦ rw (e.0, at) refl
       | inr d ↦ rw d.0 refl
     ];
-    knots = λ k. ap (option_map knot_at) (values-with_value_in c i v k) ∙ elim (eqb_tells k i) [
+    nodes = λ k. ap (option_map node_at) (values-with_value_in c i v k) ∙ elim (eqb_tells k i) [
       | inl e ↦ rw (e.0, at)
-          (ap Some same ∙ sym (ap (knots_in number c) e.1 ∙ ap (option_map knot_at) at))
+          (ap Some same ∙ sym (ap (nodes_in c) e.1 ∙ ap (option_map node_at) at))
       | inr d ↦ rw d.0 refl
     ];
-    ends = ends-with_value_in number c i v;
+    ends = ends-with_value_in c i v;
     kept = kept-with_value_in c i v;
   }
 
-  same_node : (e : Option (ℕ × IndexNode I T)) (g : ℕ) (u w : IndexNode I T) → e ≡ Some (g, u)
+  same_node : (e : Option (ℕ × IndexNode T)) (g : ℕ) (u w : IndexNode T) → e ≡ Some (g, u)
       → option_map (λ e. e.1) e ≡ Some w → e ≡ Some (g, w)
   same_node e g u w at is =
       let q : Some u ≡ Some w = sym (ap (option_map (λ e. e.1)) at) ∙ is in
@@ -76,42 +77,42 @@ module _ {I T : Type 0} (number : I → ℕ) where
       at ∙ ap (λ z. Some (g, z)) z
 
   -- another item in the node that was read
-  pub renewed_at : (c : Content (IndexLink I (IndexNode I T))) (i g : ℕ) (u w : IndexNode I T)
+  pub renewed_at : (c : Content (IndexLink (IndexNode T))) (i g : ℕ) (u w : IndexNode T)
       (t d old : T) (p_index p_gen : ℕ)
       → values_in c i ≡ Some (g, u) → option_map (λ e. e.1) (values_in c i) ≡ Some w → old ≡ w.t
       → d ≡ t → p_index ≡ i → p_gen ≡ g
-      → IsRenewed number p_index p_gen t old c (with_value_in c i (record w { t = d }))
+      → IsRenewed p_index p_gen t old c (with_value_in c i (record w { t = d }))
   renewed_at c i g u w t d old p_index p_gen at is old_is d_is index_is gen_is =
       rw (old_is, d_is, index_is, gen_is)
       (renewed c i g w (record w { t = t }) (same_node (values_in c i) g u w at is) refl)
 
-  pub renewed_ordered : (o p : Ordered I T) (i g : ℕ) (t u : T) → p.root ≡ o.root
-      → IsRenewed number i g t u o.chains p.chains
-      → IsOrdered number o → Reordered number o p
-  renewed_ordered o p i g t u root r is = same_list number o p root r.knots r.ends r.kept.live is
+  pub renewed_ordered : (o p : Ordered T) (i g : ℕ) (t u : T) → p.root ≡ o.root
+      → IsRenewed i g t u o.chains p.chains
+      → IsOrdered o → Reordered o p
+  renewed_ordered o p i g t u root r is = same_list o p root r.nodes r.ends r.kept.live is
 
-  pub replaced : (o inside p : Ordered I T) → inside ≡ o → (i g : ℕ) (t u : T)
+  pub replaced : (o inside p : Ordered T) → inside ≡ o → (i g : ℕ) (t u : T)
       → p.root ≡ inside.root
-      → IsRenewed number i g t u inside.chains p.chains → IsOrdered number inside
-      → IsReplaced number i g t u o p
+      → IsRenewed i g t u inside.chains p.chains → IsOrdered inside
+      → IsReplaced i g t u o p
   replaced o inside p same i g t u root r is =
       let q = renewed_ordered inside p i g t u root r is in
-      subst (λ z. IsReplaced number i g t u z p) same
+      subst (λ z. IsReplaced i g t u z p) same
       (record {
         was = r.was;
         order = q.order;
         entries = r.items;
         root = root;
-        knots = r.knots;
+        nodes = r.nodes;
         kept = r.kept;
       })
 
   module _ {K : Type 0} (cmp : K → K → Ordering) (key : T → K) (total : IsTotalOrder cmp) where
     -- where a search ended is where the key belongs
-    pub by_key : (o p : Ordered I T) (k : K) (n : ℕ) (place : Option (ℕ × Ordering))
-        → IsOrdered number o → IsPlaceByKey number cmp key k o place
-        → StandsAt place (order_in number o) (order_in number p) n
-        → IsPlacedByKey number cmp key k n o p
+    pub by_key : (o p : Ordered T) (k : K) (n : ℕ) (place : Option (ℕ × Ordering))
+        → IsOrdered o → IsPlaceByKey cmp key k o place
+        → StandsAt place (order_in o) (order_in p) n
+        → IsPlacedByKey cmp key k n o p
     by_key o p k n None is found s =
         record { before = []; after = []; was = s.0; is = s.1; greater = λ a. tt; less = λ a. tt }
     by_key o p k n (Some a) is found s = by a.1 refl s
@@ -122,12 +123,12 @@ module _ {I T : Type 0} (number : I → ℕ) where
         h : ℕ
         h = a.0
 
-        apart : Apart (order_in number o)
-        apart = linear_apart (ends_in number o.chains) None (order_in number o) is.linear
+        apart : Apart (order_in o)
+        apart = linear_apart (ends_in o.chains) None (order_in o) is.linear
 
         by : (d : Ordering) → a.1 ≡ d
-            → StandsAt (Some (h, d)) (order_in number o) (order_in number p) n
-            → IsPlacedByKey number cmp key k n o p
+            → StandsAt (Some (h, d)) (order_in o) (order_in p) n
+            → IsPlacedByKey cmp key k n o p
         by Less e s =
             let at : ◌≡◌ {A = Option (ℕ × Ordering)} (Some a) (Some (h, Less)) =
             ap (λ d. Some (h, d)) e in
@@ -141,12 +142,12 @@ module _ {I T : Type 0} (number : I → ℕ) where
                   let places = found.places ascending h Less at in
                   let split = split_same s.before h s.after places.before places.after
                   (subst Apart s.was apart) (sym s.was ∙ places.is) in
-                  subst (AllIn (λ j. f j ≡ Greater)) (sym split.0) (places.less refl);
+                  subst (AllByRecursion (λ j. f j ≡ Greater)) (sym split.0) (places.less refl);
               less = λ ascending.
                   let parted = subst (IsParted f) s.was
-                  (parts_at number cmp key k total o is ascending) in (
+                  (parts_at cmp key k total o is ascending) in (
                     here,
-                    AllIn-map (λ y. Before (f h) (f y)) (λ y. f y ≡ Less) (λ y z. z.less here)
+                    all-map (λ y. Before (f h) (f y)) (λ y. f y ≡ Less) (λ y z. z.less here)
                         s.after (parted-after f s.before h s.after parted),
                   );
             }
@@ -162,31 +163,31 @@ module _ {I T : Type 0} (number : I → ℕ) where
               is = s.is ∙ sym (append_assoc s.before (h ∷ []) (n ∷ s.after));
               greater = λ ascending.
                   let parted = subst (IsParted f) s.was
-                  (parts_at number cmp key k total o is ascending) in
-                  AllIn-append (λ y. f y ≡ Greater) s.before (h ∷ [])
-                  (AllIn-map (λ y. Before (f y) (f h)) (λ y. f y ≡ Greater) (λ y z. z.greater here)
+                  (parts_at cmp key k total o is ascending) in
+                  all-append (λ y. f y ≡ Greater) s.before (h ∷ [])
+                  (all-map (λ y. Before (f y) (f h)) (λ y. f y ≡ Greater) (λ y z. z.greater here)
                   s.before
                   (parted-before f s.before h s.after parted)) (here, tt);
               less = λ ascending.
                   let places = found.places ascending h Greater at in
                   let split = split_same s.before h s.after places.before places.after
                   (subst Apart s.was apart) (sym s.was ∙ places.is) in
-                  subst (AllIn (λ j. f j ≡ Less)) (sym split.1) (places.greater refl);
+                  subst (AllByRecursion (λ j. f j ≡ Less)) (sym split.1) (places.greater refl);
             }
 
     module _ {P : Type 0} (index generation : P → ℕ) (allows : Option OrdInsertionError → Type 0)
       where
         -- an insertion where the search for its key ended
-        pub inserted_by_key : (o p : Ordered I T) (t : T) (k : K) → k ≡ key t
+        pub inserted_by_key : (o p : Ordered T) (t : T) (k : K) → k ≡ key t
             → (place : Option (ℕ × Ordering))
-            → (result : Result (P × Option T) OrdInsertionError) → IsOrdered number o
-            → IsOrdered number p → IsAnswer (asked_at cmp key k o) (tree_in number o) place
-            → IsInsertedAt number index generation allows place t result o p
-            → IsKeyInserted number cmp key index generation allows t result o p
+            → (result : Result (P × Option T) OrdInsertionError) → IsOrdered o
+            → IsOrdered p → IsAnswer (asked_at cmp key k o) (tree_in o) place
+            → IsInsertedAt index generation allows place t result o p
+            → IsKeyInserted cmp key index generation allows t result o p
         inserted_by_key o p t k k_is place result is new_is found put =
-            let answer : IsAnswer (asked_at cmp key (key t) o) (tree_in number o) place =
-            subst (λ z. IsAnswer (asked_at cmp key z o) (tree_in number o) place) k_is found in
-            let at = placed_by_key number cmp key (key t) o total is place answer in
+            let answer : IsAnswer (asked_at cmp key (key t) o) (tree_in o) place =
+            subst (λ z. IsAnswer (asked_at cmp key z o) (tree_in o) place) k_is found in
+            let at = placed_by_key cmp key (key t) o total is place answer in
             record {
               replaced = λ q u e.
                   let r = put.replaced q u e in
@@ -197,7 +198,7 @@ module _ {I T : Type 0} (number : I → ℕ) where
               refused = λ error e. (put.refused error e).1;
               same = put.same;
               absent = λ error e ascending j.
-                  absent number cmp key (key t) total o is place answer
+                  absent cmp key (key t) total o is place answer
                   (λ i d at same. (put.refused error e).0 (subst Replaces (sym at) same))
                   ascending j;
             }

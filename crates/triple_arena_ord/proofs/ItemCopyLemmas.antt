@@ -17,8 +17,8 @@ module _ {L T : Type 0} (item : L → T) where
   items-append (x ∷ xs) ys = ap (λ l. (x.0, (x.1.0, item x.1.1)) ∷ l) (items-append xs ys)
 
 -- the items of listed links are those of the listed nodes
-pub items-listed : {I T : Type 0} (links : List (ℕ × (ℕ × IndexLink I (IndexNode I T))))
-    → listed_items (λ (l : IndexLink I (IndexNode I T)). l.t.t) links
+pub items-listed : {T : Type 0} (links : List (ℕ × (ℕ × IndexLink (IndexNode T))))
+    → listed_items (λ (l : IndexLink (IndexNode T)). l.t.t) links
     ≡ map listed_item (map listed_value links)
 items-listed [] = refl
 items-listed (x ∷ links) = ap (λ l. listed_item (listed_value x) ∷ l) (items-listed links)

@@ -13,22 +13,22 @@ use Rattle.triple_arena_ord.proofs.InsertLemmas.{inserted_by_key}
 use Rattle.triple_arena_ord.proofs.PlacedLemmas.{placed_ascending}
 use Rattle.triple_arena_ord.proofs.PlacingLemmas.{placed_by_key}
 
-module _ {I T K P : Type 0} (number : I → ℕ) (cmp : K → K → Ordering) (key : T → K)
+module _ {T K P : Type 0} (cmp : K → K → Ordering) (key : T → K)
     (total : IsTotalOrder cmp) (index generation : P → ℕ) where
-  pub inserts_by_key : (growth : Option Bool) (old new : Ordered I T) (t : T) (k : K) → k ≡ key t
+  pub inserts_by_key : (growth : Option Bool) (old new : Ordered T) (t : T) (k : K) → k ≡ key t
       → (place : Option (ℕ × Ordering)) (result : Result (P × Option T) OrdInsertionError)
-      → IsOrdered number old → IsAnswer (asked_at cmp key k old) (tree_in number old) place
-      → InsertsAt number index generation growth place t result old new
-      → InsertsByKey number cmp key index generation growth t result old new
+      → IsOrdered old → IsAnswer (asked_at cmp key k old) (tree_in old) place
+      → InsertsAt index generation growth place t result old new
+      → InsertsByKey cmp key index generation growth t result old new
   inserts_by_key growth old new t k k_is place result ordered found put =
       let at =
-      subst (λ z. IsAnswer (asked_at cmp key z old) (tree_in number old) place) k_is found in
+      subst (λ z. IsAnswer (asked_at cmp key z old) (tree_in old) place) k_is found in
       record {
-        inserted = inserted_by_key number cmp key total index generation _ old new t k k_is place
+        inserted = inserted_by_key cmp key total index generation _ old new t k k_is place
             result ordered put.ordered found put.inserted;
         ascending = λ ascending.
-            placed_ascending number cmp key total old new index generation _ t place result ordered
-            put.ordered (placed_by_key number cmp key (key t) old total ordered place at)
+            placed_ascending cmp key total old new index generation _ t place result ordered
+            put.ordered (placed_by_key cmp key (key t) old total ordered place at)
             put.inserted ascending;
         counter = put.counter;
         room = put.room;
@@ -36,12 +36,12 @@ module _ {I T K P : Type 0} (number : I → ℕ) (cmp : K → K → Ordering) (k
       }
 
   -- the search found an entry, which stays
-  pub gets_found : (growth : Option Bool) (o : Ordered I T) (t : T) (k : K) → k ≡ key t
-      → (place : Option (ℕ × Ordering)) → IsOrdered number o
-      → IsAnswer (asked_at cmp key k o) (tree_in number o) place
+  pub gets_found : (growth : Option Bool) (o : Ordered T) (t : T) (k : K) → k ≡ key t
+      → (place : Option (ℕ × Ordering)) → IsOrdered o
+      → IsAnswer (asked_at cmp key k o) (tree_in o) place
       → (p : P) → place ≡ Some (index p, Equal)
       → generation_at (entry_in o) (index p) ≡ Some (generation p)
-      → GetsOrInserts number cmp key index generation growth t (Ok (p, Some t)) o o
+      → GetsOrInserts cmp key index generation growth t (Ok (p, Some t)) o o
   gets_found growth o t k k_is place ordered found p at live = record {
     found = λ q u e. let z = pair q u e in (
       sym z.1,
@@ -64,12 +64,12 @@ module _ {I T K P : Type 0} (number : I → ℕ) (cmp : K → K → Ordering) (k
           (ap (λ x. x.0) z, cc y)
 
   -- the search found none, and there is an insertion
-  pub inserts_unfound : (growth : Option Bool) (old new : Ordered I T) (t : T) (k : K) → k ≡ key t
+  pub inserts_unfound : (growth : Option Bool) (old new : Ordered T) (t : T) (k : K) → k ≡ key t
       → (place : Option (ℕ × Ordering)) (result : Result (P × Option T) OrdInsertionError)
-      → IsOrdered number old → IsAnswer (asked_at cmp key k old) (tree_in number old) place
+      → IsOrdered old → IsAnswer (asked_at cmp key k old) (tree_in old) place
       → ((i : ℕ) → place ≢ Some (i, Equal))
-      → InsertsAt number index generation growth place t result old new
-      → GetsOrInserts number cmp key index generation growth t result old new
+      → InsertsAt index generation growth place t result old new
+      → GetsOrInserts cmp key index generation growth t result old new
   inserts_unfound growth old new t k k_is place result ordered found none put = record {
     found = λ p u e. absurd (none (index p) (put.inserted.replaced p u e).0);
     inserted = λ none.

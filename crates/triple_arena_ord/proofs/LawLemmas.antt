@@ -1,14 +1,15 @@
 -- What laws say of the list.
+use Rattle.std.specs.List.{AllByRecursion}
 use Rattle.std.proofs.Common.{◌≡◌, ◌≢◌, ℕ, List, ◌∷◌, ◌++◌, Some, IsSome, sym, ap, ◌∙◌, subst}
 use Rattle.std.specs.Cmp.{IsTotalOrder}
 use Rattle.std.specs.Ordering.{ordering_reverse}
 use Rattle.std.specs.declared.cmp.Ordering.{Ordering}
 use Rattle.std.specs.declared.cmp.Ordering.TheVariants.{Less, Equal, Greater}
 use Rattle.triple_arena_chain.specs.Chains.{On}
-use Rattle.rank_tree.specs.Search.{AllIn, Before, IsParted}
+use Rattle.rank_tree.specs.Search.{Before, IsParted}
 use Rattle.triple_arena_ord.specs.Ordered.{Ordered, IsOrdered, IsAscending, tree_in, order_in}
 use Rattle.triple_arena_ord.specs.Ordered.{entry_in, asked_of, asked_at}
-use Rattle.rank_tree.specs.DescentLaws.{before, after, AllIn-map, parted-after, parted-before}
+use Rattle.rank_tree.specs.DescentLaws.{before, after, all-map, parted-after, parted-before}
 use Rattle.rank_tree.specs.DescentLaws.{plug-walk_is}
 use Rattle.triple_arena_ord.proofs.LeafLemmas.{Located, located}
 use Rattle.triple_arena_ord.proofs.LiveLemmas.{entry_counted}
@@ -27,12 +28,12 @@ equal_to_itself cmp total k = by (cmp k k) (total.antisymm k k)
     by Equal e = cc
     by Greater e = absurd (cc)
 
-module _ {I T : Type 0} (number : I → ℕ) where
-  pub stands : (o : Ordered I T) → IsOrdered number o → (i : ℕ) → IsSome (entry_in o i)
-      → On (order_in number o) i
+module _ {T : Type 0} where
+  pub stands : (o : Ordered T) → IsOrdered o → (i : ℕ) → IsSome (entry_in o i)
+      → On (order_in o) i
   stands o is i live =
-      let found : Located (tree_in number o) i =
-      located top (tree_in number o) i (entry_counted number o is i live) in
+      let found : Located (tree_in o) i =
+      located top (tree_in o) i (entry_counted o is i live) in
       let c = found.context in
       record {
         front = before c ++ walk found.left;
@@ -44,39 +45,39 @@ module _ {I T : Type 0} (number : I → ℕ) where
       }
 
   module _ {K : Type 0} (cmp : K → K → Ordering) (key : T → K) (total : IsTotalOrder cmp) where
-    asked_here : (o : Ordered I T) (i : ℕ) (entry : ℕ × T) → entry_in o i ≡ Some entry
+    asked_here : (o : Ordered T) (i : ℕ) (entry : ℕ × T) → entry_in o i ≡ Some entry
         → asked_at cmp key (key entry.1) o i ≡ Equal
     asked_here o i entry at = ap (asked_of cmp key (key entry.1)) at
         ∙ equal_to_itself cmp total (key entry.1)
 
-    parted : (o : Ordered I T) → IsOrdered number o → IsAscending number cmp key o
+    parted : (o : Ordered T) → IsOrdered o → IsAscending cmp key o
         → (front back : List ℕ) (i : ℕ) (entry : ℕ × T)
-        → order_in number o ≡ front ++ i ∷ back
+        → order_in o ≡ front ++ i ∷ back
         → IsParted (asked_at cmp key (key entry.1) o) (front ++ i ∷ back)
     parted o ordered ascending front back i entry is =
         subst (IsParted (asked_at cmp key (key entry.1) o)) is
-        (parts_at number cmp key (key entry.1) total o ordered ascending)
+        (parts_at cmp key (key entry.1) total o ordered ascending)
 
-    pub not_greater_before : (o : Ordered I T) → IsOrdered number o → IsAscending number cmp key o
+    pub not_greater_before : (o : Ordered T) → IsOrdered o → IsAscending cmp key o
         → (front back : List ℕ) (i : ℕ) (entry : ℕ × T)
-        → order_in number o ≡ front ++ i ∷ back → entry_in o i ≡ Some entry
-        → AllIn (λ j. asked_at cmp key (key entry.1) o j ≢ Less) front
+        → order_in o ≡ front ++ i ∷ back → entry_in o i ≡ Some entry
+        → AllByRecursion (λ j. asked_at cmp key (key entry.1) o j ≢ Less) front
     not_greater_before o ordered ascending front back i entry is at =
         let f = asked_at cmp key (key entry.1) o in
         let here : f i ≡ Equal = asked_here o i entry at in
-        AllIn-map (λ j. Before (f j) (f i)) (λ j. f j ≢ Less)
+        all-map (λ j. Before (f j) (f i)) (λ j. f j ≢ Less)
         (λ j b less. let e : f i ≡ Less = b.less less in let no : Equal ≡ Less = sym here
         ∙ e in absurd (cc))
         front (parted-before f front i back (parted o ordered ascending front back i entry is))
 
-    pub not_less_after : (o : Ordered I T) → IsOrdered number o → IsAscending number cmp key o
+    pub not_less_after : (o : Ordered T) → IsOrdered o → IsAscending cmp key o
         → (front back : List ℕ) (i : ℕ) (entry : ℕ × T)
-        → order_in number o ≡ front ++ i ∷ back → entry_in o i ≡ Some entry
-        → AllIn (λ j. asked_at cmp key (key entry.1) o j ≢ Greater) back
+        → order_in o ≡ front ++ i ∷ back → entry_in o i ≡ Some entry
+        → AllByRecursion (λ j. asked_at cmp key (key entry.1) o j ≢ Greater) back
     not_less_after o ordered ascending front back i entry is at =
         let f = asked_at cmp key (key entry.1) o in
         let here : f i ≡ Equal = asked_here o i entry at in
-        AllIn-map (λ j. Before (f i) (f j)) (λ j. f j ≢ Greater)
+        all-map (λ j. Before (f i) (f j)) (λ j. f j ≢ Greater)
         (λ j b greater. let e : f i ≡ Greater = b.greater greater in let no : Equal ≡ Greater =
         sym here ∙ e in absurd (cc))
         back (parted-after f front i back (parted o ordered ascending front back i entry is))

@@ -15,12 +15,12 @@ use Rattle.triple_arena_ord.specs.Indexed.{listed_item}
 use Rattle.triple_arena_ord.specs.Node.{itemed, items_among}
 
 -- nodes along a list, with their items alone
-pub along_items : {J U : Type 0} (entry : ℕ → Option (ℕ × IndexNode J U)) (w : List ℕ)
+pub along_items : {U : Type 0} (entry : ℕ → Option (ℕ × IndexNode U)) (w : List ℕ)
     → map listed_item (links_along entry w) ≡ entries_along (items_among entry) w
 along_items entry [] = refl
-along_items {J} {U} entry (i ∷ w) = by (entry i) refl (along_items entry w)
+along_items {U} entry (i ∷ w) = by (entry i) refl (along_items entry w)
   where
-    by : (o : Option (ℕ × IndexNode J U)) → entry i ≡ o
+    by : (o : Option (ℕ × IndexNode U)) → entry i ≡ o
         → map listed_item (links_along entry w) ≡ entries_along (items_among entry) w
         → map listed_item (link_and i (entry i) (links_along entry w))
         ≡ entries_along (items_among entry) (i ∷ w)

@@ -6,7 +6,7 @@ use Rattle.std.proofs.lemmas.Bool.Decides.{eqb_tells, leb_tells}
 use Rattle.triple_arena.specs.Content.{Content, entry_at}
 use Rattle.triple_arena.specs.Walk.{Walk, IsAhead, IsFirstLive}
 use Rattle.triple_arena_chain.specs.LinkShape.{IndexLink}
-use Rattle.triple_arena_chain.specs.Chains.{Ends, first_or, last_or, On, Stands, IsLinear}
+use Rattle.triple_arena_chain.specs.Chains.{Ends, first_or, last_or, On, IsSegment, IsLinear}
 use Rattle.triple_arena_chain.specs.ListLaws.{On-either, on_differs}
 use Rattle.triple_arena_chain.specs.Links.{ends_in, entry_ends, values_in, valued}
 use Rattle.triple_arena_ord.specs.Compressed.{end_noted}
@@ -90,7 +90,8 @@ module _ (e : ℕ → Option Ends) where
   same_ends i u v one other = let is : Some u ≡ Some v = sym one ∙ other in cc is
 
   -- each index behind another one has a previous one
-  behind : (y i : ℕ) (xs : List ℕ) (v : Ends) → Stands e (Some y) xs None → On xs i → e i ≡ Some v
+  behind : (y i : ℕ) (xs : List ℕ) (v : Ends) → IsSegment e (Some y) xs None → On xs i
+      → e i ≡ Some v
       → v.0 ≡ None → ⊥
   behind y i [] v s on at alone = on_differs [] i i on tt refl
   behind y i (x ∷ xs) v s on at alone =
@@ -107,7 +108,7 @@ module _ (e : ℕ → Option Ends) where
       ]
 
   -- the only one without a next is the last one
-  at_last : (b : Option ℕ) (i x : ℕ) (xs : List ℕ) (v : Ends) → Stands e b (x ∷ xs) None
+  at_last : (b : Option ℕ) (i x : ℕ) (xs : List ℕ) (v : Ends) → IsSegment e b (x ∷ xs) None
       → On (x ∷ xs) i → e i ≡ Some v → v.1 ≡ None
       → last_or None (x ∷ xs) ≡ Some i
   at_last b i x [] v s on at alone =
@@ -128,7 +129,7 @@ module _ (e : ℕ → Option Ends) where
             ]
       ]
 
-  no_next : (b : Option ℕ) (x : ℕ) (xs : List ℕ) → Stands e b (x ∷ xs) None
+  no_next : (b : Option ℕ) (x : ℕ) (xs : List ℕ) → IsSegment e b (x ∷ xs) None
       → (l : ℕ) × (v : Ends) × (e l ≡ Some v) × (v.1 ≡ None)
   no_next b x [] s = (x, (b, None), s.0, refl)
   no_next b x (y ∷ ys) s = no_next (Some x) y ys s.1
@@ -175,40 +176,40 @@ module _ (e : ℕ → Option Ends) where
       by [] s on v at alone = absurd (on_differs [] i i on tt refl)
       by (x ∷ xs) s on v at alone = sym (at_last None i x xs v s on at alone)
 
-module _ {I T : Type 0} (number : I → ℕ) (c : Content (IndexLink I T)) (side : Ends → Option ℕ)
+module _ {T : Type 0} (c : Content (IndexLink T)) (side : Ends → Option ℕ)
   where
-    unlinked : (o : Option (ℕ × IndexLink I T)) → option_map valued o ≡ None
-        → option_map (entry_ends number) o ≡ None
+    unlinked : (o : Option (ℕ × IndexLink T)) → option_map valued o ≡ None
+        → option_map entry_ends o ≡ None
     unlinked None h = refl
     unlinked (Some l) h = absurd (cc)
 
-    linked : (o : Option (ℕ × IndexLink I T)) → IsSome (option_map (entry_ends number) o)
+    linked : (o : Option (ℕ × IndexLink T)) → IsSome (option_map entry_ends o)
         → IsSome (option_map valued o)
     linked None h = absurd (cc)
     linked (Some l) h = refl
 
     -- the pass comes to the first live index ahead
     pub noted_step : (w after : Walk) (i g k : ℕ) (end new : Option ℕ) (v : Ends)
-        → IsNoted (ends_in number c) side w.low end → w.falls ≡ false
-        → IsFirstLive (values_in c) w i g → after.low ≡ i + 1 → k ≡ i → ends_in number c k ≡ Some v
+        → IsNoted (ends_in c) side w.low end → w.falls ≡ false
+        → IsFirstLive (values_in c) w i g → after.low ≡ i + 1 → k ≡ i → ends_in c k ≡ Some v
         → new ≡ end_noted end (side v) k
-        → IsNoted (ends_in number c) side after.low new
+        → IsNoted (ends_in c) side after.low new
     noted_step w after i g k end new v n rises first low is at made =
-        subst (λ l. IsNoted (ends_in number c) side l new) (sym low)
-        (subst (IsNoted (ends_in number c) side (i + 1))
+        subst (λ l. IsNoted (ends_in c) side l new) (sym low)
+        (subst (IsNoted (ends_in c) side (i + 1))
         (sym (made ∙ ap (end_noted end (side v)) is))
-        (noted_one (ends_in number c) side w.low i end v n none
-        (ap (ends_in number c) (sym is) ∙ at)))
+        (noted_one (ends_in c) side w.low i end v n none
+        (ap (ends_in c) (sym is) ∙ at)))
       where
-        none : (j : ℕ) → w.low ≤ j → j < i → ends_in number c j ≡ None
+        none : (j : ℕ) → w.low ≤ j → j < i → ends_in c j ≡ None
         none j above below = unlinked (entry_at c j)
             (first.first j (above, omega (arith, below, first.ahead.1)) (rw rises below))
 
     -- the pass finds nothing ahead
-    pub noted_whole : (w : Walk) (end : Option ℕ) → IsNoted (ends_in number c) side w.low end
+    pub noted_whole : (w : Walk) (end : Option ℕ) → IsNoted (ends_in c) side w.low end
         → ((j : ℕ) → IsSome (values_in c j) → j ≤ w.high)
-        → ((j : ℕ) → IsAhead w j → values_in c j ≡ None) → IsAnEnd (ends_in number c) side end
+        → ((j : ℕ) → IsAhead w j → values_in c j ≡ None) → IsAnEnd (ends_in c) side end
     noted_whole w end n reaches over =
-        noted_all (ends_in number c) side w.low w.high end n
+        noted_all (ends_in c) side w.low w.high end n
         (λ j some. reaches j (linked (entry_at c j) some))
         (λ j above below. unlinked (entry_at c j) (over j (above, below)))

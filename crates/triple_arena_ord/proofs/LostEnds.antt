@@ -34,29 +34,29 @@ last_without before h after apart =
         let l = last_some y ys in
         rw (l.1, ne_eqb l.0 h (last_far h y ys off l.0 l.1)) refl
 
-module _ {I T : Type 0} (number : I → ℕ) (o p : Ordered I T) (is : IsOrdered number o) (h : ℕ)
-    (s : Loses (order_in number o) (order_in number p) h)
-    (prev next : Option ℕ) (ends : ends_in number o.chains h ≡ Some (prev, next)) where
+module _ {T : Type 0} (o p : Ordered T) (is : IsOrdered o) (h : ℕ)
+    (s : Loses (order_in o) (order_in p) h)
+    (prev next : Option ℕ) (ends : ends_in o.chains h ≡ Some (prev, next)) where
   apart : Apart (s.before ++ h ∷ s.after)
   apart = subst Apart s.was
-      (linear_apart (ends_in number o.chains) None (order_in number o) is.linear)
+      (linear_apart (ends_in o.chains) None (order_in o) is.linear)
 
   neighbors : ◌≡◌ {A = Ends} (prev, next) (last_or None s.before, first_or s.after None)
   neighbors =
       let e : Some (prev, next) ≡ Some (last_or None s.before, first_or s.after None) =
-      sym ends ∙ linear_ends (ends_in number o.chains) s.before h s.after
-      (subst (IsLinear (ends_in number o.chains)) s.was is.linear) in
+      sym ends ∙ linear_ends (ends_in o.chains) s.before h s.after
+      (subst (IsLinear (ends_in o.chains)) s.was is.linear) in
       cc e
 
-  pub first_lost : (f : Option ℕ) → f ≡ first_or (order_in number o) None
-      → ended f h next ≡ first_or (order_in number p) None
+  pub first_lost : (f : Option ℕ) → f ≡ first_or (order_in o) None
+      → ended f h next ≡ first_or (order_in p) None
   first_lost f e =
       ap (λ z. ended f h z.1) neighbors
       ∙ ap (λ z. ended z h (first_or s.after None)) (e ∙ ap (λ l. first_or l None) s.was)
       ∙ first_without s.before h s.after apart ∙ sym (ap (λ l. first_or l None) s.is)
 
-  pub last_lost : (f : Option ℕ) → f ≡ last_or None (order_in number o)
-      → ended f h prev ≡ last_or None (order_in number p)
+  pub last_lost : (f : Option ℕ) → f ≡ last_or None (order_in o)
+      → ended f h prev ≡ last_or None (order_in p)
   last_lost f e =
       ap (λ z. ended f h z.0) neighbors
       ∙ ap (λ z. ended z h (last_or None s.before)) (e ∙ ap (last_or None) s.was)

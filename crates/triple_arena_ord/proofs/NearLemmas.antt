@@ -1,4 +1,5 @@
 -- A search along a linear chain, from one of its indexes.
+use Rattle.std.specs.List.{AllByRecursion}
 use Rattle.std.proofs.Common.{◌≡◌, ◌≢◌, ℕ, zero, suc, ◌+◌, ◌<◌, ◌≤◌, List, [], ◌∷◌, ◌++◌, length}
 use Rattle.std.proofs.Common.{reverse, take, drop, slice_get, append_assoc, length-append}
 use Rattle.std.proofs.Common.{length-take-le, take_all, take-append-drop, Option, Some, None, refl}
@@ -10,20 +11,21 @@ use Rattle.std.specs.declared.cmp.Ordering.TheVariants.{Less, Equal, Greater}
 use Rattle.triple_arena_chain.specs.Chains.{Ends, IsLinear, first_or, last_or, Off, Apart, On}
 use Rattle.triple_arena_chain.specs.ChainLaws.{Off-not_on}
 use Rattle.triple_arena_chain.specs.UniquenessLaws.{linear_apart}
-use Rattle.rank_tree.specs.Search.{AllIn, Before, IsParted, Places}
+use Rattle.rank_tree.specs.Search.{Before, IsParted, EndsAt}
 use Rattle.triple_arena_ord.specs.Near.{IsNear, IsEndNear, IsGapNear, HasEnd, IsWalked}
 use Rattle.triple_arena_ord.specs.Near.{IsPlaceCounted, IsKeyCounted, onward, if_onward, up_to}
 use Rattle.triple_arena_ord.specs.Near.{beyond, path_from}
-use Rattle.rank_tree.specs.DescentLaws.{AllIn-append, AllIn-back, AllIn-map, parted-after}
+use Rattle.rank_tree.specs.DescentLaws.{all-append, all-back, all-map, parted-after}
 use Rattle.rank_tree.specs.DescentLaws.{parted-before}
 use Rattle.triple_arena_ord.proofs.GapLemmas.{Last, last_in, linear_ends, last_snoc}
 
 -- what holds of each index of a list holds of the one at a place
-pub AllIn-at : (P : ℕ → Type 0) (xs : List ℕ) → AllIn P xs → (a j : ℕ) → slice_get xs a ≡ Some j
+pub all-at : (P : ℕ → Type 0) (xs : List ℕ) → AllByRecursion P xs → (a j : ℕ)
+    → slice_get xs a ≡ Some j
     → P j
-AllIn-at P [] all a j e = absurd (cc)
-AllIn-at P (x ∷ xs) all zero j e = let z : x ≡ j = cc in subst P z all.0
-AllIn-at P (x ∷ xs) all (suc a) j e = AllIn-at P xs all.1 a j e
+all-at P [] all a j e = absurd (cc)
+all-at P (x ∷ xs) all zero j e = let z : x ≡ j = cc in subst P z all.0
+all-at P (x ∷ xs) all (suc a) j e = all-at P xs all.1 a j e
 
 at_front : (xs ys : List ℕ) (a j : ℕ) → a < length xs → slice_get (xs ++ ys) a ≡ Some j
     → slice_get xs a ≡ Some j
@@ -112,8 +114,8 @@ pub record Walking (f : ℕ → Ordering) (w : List ℕ) (start : ℕ) (path : L
   pub before : List ℕ
   pub after : List ℕ
   pub is : w ≡ before ++ cur ∷ after
-  pub low : way ≡ Greater → IsParted f w → AllIn (λ y. f y ≡ Greater) before
-  pub high : way ≡ Less → IsParted f w → AllIn (λ y. f y ≡ Less) after
+  pub low : way ≡ Greater → IsParted f w → AllByRecursion (λ y. f y ≡ Greater) before
+  pub high : way ≡ Less → IsParted f w → AllByRecursion (λ y. f y ≡ Less) after
   pub right : way ≡ Greater → (a : ℕ) → slice_get w a ≡ Some start → length before ≡ a + steps
   pub left : way ≡ Less → (a : ℕ) → slice_get w a ≡ Some start → length before + steps ≡ a
   pub first : way ≡ Equal → (steps ≡ 0) × (cur ≡ start)
@@ -223,7 +225,7 @@ module _ (e : ℕ → Option Ends) (f : ℕ → Ordering) (w : List ℕ) (start 
         low = λ u. absurd (cc);
         high = λ u parted. (
           here,
-          AllIn-map (λ y. Before (f cur) (f y)) (λ y. f y ≡ Less)
+          all-map (λ y. Before (f cur) (f y)) (λ y. f y ≡ Less)
               (λ y z. z.less here) k.after
               (parted-after f k.before cur k.after (subst (IsParted f) k.is parted)),
         );
@@ -257,8 +259,8 @@ module _ (e : ℕ → Option Ends) (f : ℕ → Ordering) (w : List ℕ) (start 
         after = l.back;
         is = k.is ∙ ap (λ z. k.before ++ cur ∷ z) l.is
             ∙ sym (append_assoc k.before (cur ∷ []) (next ∷ l.back));
-        low = λ u parted. AllIn-append (λ y. f y ≡ Greater) k.before (cur ∷ [])
-            (AllIn-map (λ y. Before (f y) (f cur)) (λ y. f y ≡ Greater) (λ y z. z.greater here)
+        low = λ u parted. all-append (λ y. f y ≡ Greater) k.before (cur ∷ [])
+            (all-map (λ y. Before (f y) (f cur)) (λ y. f y ≡ Greater) (λ y z. z.greater here)
             k.before (parted-before f k.before cur k.after (subst (IsParted f) k.is parted)))
             (here, tt);
         high = λ u. absurd (cc);
@@ -321,7 +323,7 @@ module _ (e : ℕ → Option Ends) (f : ℕ → Ordering) (w : List ℕ) (start 
   -- where it ends there is an index that ends it, or the gap is beside
   pub walking_stops : (way d : Ordering) (cur steps : ℕ) (ends : Ends)
       → Walking f w start path way cur steps → e cur ≡ Some ends → onward way d ends ≡ None
-      → IsParted f w → Places f w cur d
+      → IsParted f w → EndsAt f w cur d
   walking_stops way d cur steps ends k at off parted = record {
     before = k.before;
     after = k.after;
@@ -333,13 +335,13 @@ module _ (e : ℕ → Option Ends) (f : ℕ → Ordering) (w : List ℕ) (start 
       is : ends ≡ (last_or None k.before, first_or k.after None)
       is = ends_at way cur steps k ends at
 
-      none_before : last_or None k.before ≡ None → AllIn (λ y. f y ≡ Greater) k.before
+      none_before : last_or None k.before ≡ None → AllByRecursion (λ y. f y ≡ Greater) k.before
       none_before z = rw (no_last k.before z) tt
 
-      none_after : first_or k.after None ≡ None → AllIn (λ y. f y ≡ Less) k.after
+      none_after : first_or k.after None ≡ None → AllByRecursion (λ y. f y ≡ Less) k.after
       none_after z = rw (no_first k.after z) tt
 
-      lower : (b : Ordering) → way ≡ b → d ≡ Less → AllIn (λ y. f y ≡ Greater) k.before
+      lower : (b : Ordering) → way ≡ b → d ≡ Less → AllByRecursion (λ y. f y ≡ Greater) k.before
       lower Less u v = none_before
           (sym (ap (λ z. z.0) is)
           ∙ sym (ap (λ b. onward b d ends) u ∙ ap (λ c. onward Less c ends) v) ∙ off)
@@ -348,7 +350,7 @@ module _ (e : ℕ → Option Ends) (f : ℕ → Ordering) (w : List ℕ) (start 
           ∙ sym (ap (λ b. onward b d ends) u ∙ ap (λ c. onward Equal c ends) v) ∙ off)
       lower Greater u v = k.low u parted
 
-      upper : (b : Ordering) → way ≡ b → d ≡ Greater → AllIn (λ y. f y ≡ Less) k.after
+      upper : (b : Ordering) → way ≡ b → d ≡ Greater → AllByRecursion (λ y. f y ≡ Less) k.after
       upper Less u v = k.high u parted
       upper Equal u v = none_after
           (sym (ap (λ z. z.1) is)
@@ -391,7 +393,7 @@ module _ (e : ℕ → Option Ends) (f : ℕ → Ordering) (w : List ℕ) (start 
   near_greater cur num k parted j near =
       let h = k.right refl near.from near.starts in
       let ahead = near.ahead in
-      AllIn-at (λ y. f y ≡ Greater) k.before (k.low refl parted) near.to j
+      all-at (λ y. f y ≡ Greater) k.before (k.low refl parted) near.to j
       (at_front k.before (cur ∷ k.after) near.to j (omega (arith, h, ahead))
       (subst (λ l. slice_get l near.to ≡ Some j) k.is near.ends))
 
@@ -406,7 +408,7 @@ module _ (e : ℕ → Option Ends) (f : ℕ → Ordering) (w : List ℕ) (start 
       ∙ sym (append_assoc k.before (cur ∷ []) k.after) in
       let l = at_back (k.before ++ cur ∷ []) k.after near.to j (omega (arith, h, behind, longer))
       (subst (λ l. slice_get l near.to ≡ Some j) is near.ends) in
-      AllIn-at (λ y. f y ≡ Less) k.after (k.high refl parted) l.place j l.at
+      all-at (λ y. f y ≡ Less) k.after (k.high refl parted) l.place j l.at
 
   -- so no index that ends the search is near
   pub end_not_near : (way : Ordering) (cur num : ℕ) → Walking f w start path way cur num
@@ -439,8 +441,8 @@ module _ (e : ℕ → Option Ends) (f : ℕ → Ordering) (w : List ℕ) (start 
           let near = gap.last p.0 (ap (last_or None) p.1.is ∙ last_snoc p.1.front p.0) in
           let less = near_less cur num (subst (λ b. Walking f w start path b cur num) u k) parted
           p.0 near in
-          let greater = (AllIn-back (λ j. f j ≡ Greater) p.1.front (p.0 ∷ [])
-          (subst (AllIn (λ j. f j ≡ Greater)) p.1.is gap.greater)).0 in
+          let greater = (all-back (λ j. f j ≡ Greater) p.1.front (p.0 ∷ [])
+          (subst (AllByRecursion (λ j. f j ≡ Greater)) p.1.is gap.greater)).0 in
           absurd (cc)
       by Less u (inr h) =
           let q = has_first gap.high (omega (arith, whole)) in
@@ -480,7 +482,7 @@ module _ (e : ℕ → Option Ends) (f : ℕ → Ordering) (w : List ℕ) (start 
           let near = gap.first q.0 (ap (λ l. first_or l None) q.1.is) in
           let greater = near_greater cur num (subst (λ b. Walking f w start path b cur num) u k)
           parted q.0 near in
-          let less : f q.0 ≡ Less = (subst (AllIn (λ j. f j ≡ Less)) q.1.is gap.less).0 in
+          let less : f q.0 ≡ Less = (subst (AllByRecursion (λ j. f j ≡ Less)) q.1.is gap.less).0 in
           absurd (cc)
 
 -- of the indexes of a path, one that ends the search is the last

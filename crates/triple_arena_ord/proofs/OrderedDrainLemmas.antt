@@ -33,60 +33,60 @@ last_split (x ∷ []) h e = let same : x ≡ h = cc in ([], ap (λ y. y ∷ []) 
 last_split (x ∷ y ∷ w) h e =
     let rest = last_split (y ∷ w) h e in (x ∷ rest.0, ap (λ l. x ∷ l) rest.1)
 
-module _ {I T : Type 0} where
+module _ {T : Type 0} where
   -- an index that is not listed can go
-  listed_other : (o p : Ordered I T) (h : ℕ) → ((k : ℕ) → entry_in p k ≡ without (entry_in o) h k)
+  listed_other : (o p : Ordered T) (h : ℕ) → ((k : ℕ) → entry_in p k ≡ without (entry_in o) h k)
       → (xs : List ℕ) → Off xs h → entries_at p xs ≡ entries_at o xs
   listed_other o p h entries [] off = refl
   listed_other o p h entries (x ∷ xs) off =
       let same : entry_in p x ≡ entry_in o x = entries x ∙ rw (ne_eqb x h off.0) refl in
       rw (same, listed_other o p h entries xs off.1) refl
 
-  module _ (number : I → ℕ) (o p : Ordered I T) (is : IsOrdered number o) (h : ℕ) where
+  module _ (o p : Ordered T) (is : IsOrdered o) (h : ℕ) where
     -- the list without its first index
     pub record Shorter : Type 0 where
       pub after : List ℕ
-      pub was : order_in number o ≡ h ∷ after
-      pub now : order_in number p ≡ after
+      pub was : order_in o ≡ h ∷ after
+      pub now : order_in p ≡ after
 
-    shorter : first_or (order_in number o) None ≡ Some h
-        → Loses (order_in number o) (order_in number p) h → Shorter
+    shorter : first_or (order_in o) None ≡ Some h
+        → Loses (order_in o) (order_in p) h → Shorter
     shorter first lost = by lost.before lost.was lost.is
       where
-        by : (before : List ℕ) → order_in number o ≡ before ++ h ∷ lost.after
-            → order_in number p ≡ before ++ lost.after → Shorter
+        by : (before : List ℕ) → order_in o ≡ before ++ h ∷ lost.after
+            → order_in p ≡ before ++ lost.after → Shorter
         by [] was now = record { after = lost.after; was = was; now = now }
         by (x ∷ before) was now =
             let begins : Some x ≡ Some h = ap (λ l. first_or l None) (sym was) ∙ first in
             let same : x ≡ h = cc in
             let apart : Apart (x ∷ before ++ h ∷ lost.after) =
-            subst Apart was (linear_apart (ends_in number o.chains) None (order_in number o)
+            subst Apart was (linear_apart (ends_in o.chains) None (order_in o)
             is.linear) in
             absurd (Off-not_on before lost.after h
             (subst (λ y. Off (before ++ h ∷ lost.after) y) same apart.0))
 
     -- the entries are listed without the first
-    pub first_gone : (last : Option ℕ) (entry : ℕ × T) → first_or (order_in number o) None ≡ Some h
-        → entry_in o h ≡ Some entry → IsEntryRemoved number last h o p
-        → ordered_entries number o ≡ (h, entry) ∷ ordered_entries number p
+    pub first_gone : (last : Option ℕ) (entry : ℕ × T) → first_or (order_in o) None ≡ Some h
+        → entry_in o h ≡ Some entry → IsEntryRemoved last h o p
+        → ordered_entries o ≡ (h, entry) ∷ ordered_entries p
     first_gone last entry first at removed =
         let s = shorter first removed.order in
         let off = (subst Apart s.was
-        (linear_apart (ends_in number o.chains) None (order_in number o) is.linear)).0 in
+        (linear_apart (ends_in o.chains) None (order_in o) is.linear)).0 in
         ap (entries_at o) s.was ∙ listed_first o h entry s.after at
         ∙ ap (λ l. (h, entry) ∷ l) (sym (listed_other o p h removed.entries s.after off))
         ∙ ap (λ l. (h, entry) ∷ entries_at p l) (sym s.now)
 
   -- nothing is listed where there is no first
-  pub none_first : (number : I → ℕ) (o : Ordered I T) → first_or (order_in number o) None ≡ None
-      → ordered_entries number o ≡ []
-  none_first number o none = ap (entries_at o) (nil (order_in number o) none)
+  pub none_first : (o : Ordered T) → first_or (order_in o) None ≡ None
+      → ordered_entries o ≡ []
+  none_first o none = ap (entries_at o) (nil (order_in o) none)
     where
       nil : (w : List ℕ) → first_or w None ≡ None → w ≡ []
       nil [] h = refl
       nil (x ∷ w) h = absurd (cc)
 
-  pub listed-append : (o : Ordered I T) (v w : List ℕ)
+  pub listed-append : (o : Ordered T) (v w : List ℕ)
       → entries_at o (v ++ w) ≡ entries_at o v ++ entries_at o w
   listed-append o [] w = refl
   listed-append o (x ∷ v) w = by (entry_in o x) refl (listed-append o v w)
@@ -98,9 +98,9 @@ module _ {I T : Type 0} where
       by (Some e) is rest = rw is (ap (λ l. (x, e) ∷ l) rest)
 
   -- nothing is listed where there is no last
-  pub none_last : (number : I → ℕ) (o : Ordered I T) → last_or None (order_in number o) ≡ None
-      → ordered_entries number o ≡ []
-  none_last number o none = ap (entries_at o) (nil (order_in number o) none)
+  pub none_last : (o : Ordered T) → last_or None (order_in o) ≡ None
+      → ordered_entries o ≡ []
+  none_last o none = ap (entries_at o) (nil (order_in o) none)
     where
       some : (x : ℕ) (w : List ℕ) → last_or (Some x) w ≡ None → ⊥
       some x [] e = cc
@@ -110,19 +110,19 @@ module _ {I T : Type 0} where
       nil [] e = refl
       nil (x ∷ w) e = absurd (some x w e)
 
-  module _ (number : I → ℕ) (o p : Ordered I T) (is : IsOrdered number o) (h : ℕ) where
+  module _ (o p : Ordered T) (is : IsOrdered o) (h : ℕ) where
     -- the entries are listed without the last
-    last_gone : (last : Option ℕ) (entry : ℕ × T) → last_or None (order_in number o) ≡ Some h
-        → entry_in o h ≡ Some entry → IsEntryRemoved number last h o p
-        → ordered_entries number o ≡ ordered_entries number p ++ (h, entry) ∷ []
+    last_gone : (last : Option ℕ) (entry : ℕ × T) → last_or None (order_in o) ≡ Some h
+        → entry_in o h ≡ Some entry → IsEntryRemoved last h o p
+        → ordered_entries o ≡ ordered_entries p ++ (h, entry) ∷ []
     last_gone last entry ends at removed =
         let lost = removed.order in
-        let split = last_split (order_in number o) h ends in
-        let apart = linear_apart (ends_in number o.chains) None (order_in number o) is.linear in
+        let split = last_split (order_in o) h ends in
+        let apart = linear_apart (ends_in o.chains) None (order_in o) is.linear in
         let same = split_same lost.before h lost.after split.0 [] (subst Apart lost.was apart)
         (sym lost.was ∙ split.1) in
         let off = (Apart-split split.0 [] h (subst Apart split.1 apart)).0 in
-        let now : order_in number p ≡ split.0 =
+        let now : order_in p ≡ split.0 =
         lost.is ∙ ap (λ l. l ++ lost.after) same.0 ∙ ap (λ l. split.0 ++ l) same.1
         ∙ append-nil split.0 in
         ap (entries_at o) split.1 ∙ listed-append o split.0 (h ∷ [])
@@ -130,37 +130,37 @@ module _ {I T : Type 0} where
         ∙ ap (λ l. l ++ (h, entry) ∷ []) (sym (listed_other o p h removed.entries split.0 off))
         ∙ ap (λ l. entries_at p l ++ (h, entry) ∷ []) (sym now)
 
-  module _ {P : Type 0} (number : I → ℕ) (last : Option ℕ) (index generation : P → ℕ)
-      (o p : Ordered I T) (h : ℕ) (item : InvalidationOption (P × T)) (is : IsOrdered number o)
-      (taken : IsTaken number last index generation h item o p) where
+  module _ {P : Type 0} (last : Option ℕ) (index generation : P → ℕ)
+      (o p : Ordered T) (h : ℕ) (item : InvalidationOption (P × T)) (is : IsOrdered o)
+      (taken : IsTaken last index generation h item o p) where
     -- a removal at an end of the list
-    pub first_taken : first_or (order_in number o) None ≡ Some h
-        → IsFirstTaken number last index generation item o p
+    pub first_taken : first_or (order_in o) None ≡ Some h
+        → IsFirstTaken last index generation item o p
     first_taken first = record {
-      first = first_gone number o p is h last _ first taken.was taken.removed
+      first = first_gone o p is h last _ first taken.was taken.removed
           ∙ ap (λ n. (n, (generation (value_of item).0, (value_of item).1))
-          ∷ ordered_entries number p) (sym taken.at);
+          ∷ ordered_entries p) (sym taken.at);
       overflow = taken.overflow;
-      removed = subst (λ k. IsEntryRemoved number last k o p) (sym taken.at) taken.removed;
+      removed = subst (λ k. IsEntryRemoved last k o p) (sym taken.at) taken.removed;
     }
 
-    pub last_taken : last_or None (order_in number o) ≡ Some h
-        → IsLastTaken number last index generation item o p
+    pub last_taken : last_or None (order_in o) ≡ Some h
+        → IsLastTaken last index generation item o p
     last_taken ends = record {
-      at_end = last_gone number o p is h last _ ends taken.was taken.removed
-          ∙ ap (λ n. ordered_entries number p
+      at_end = last_gone o p is h last _ ends taken.was taken.removed
+          ∙ ap (λ n. ordered_entries p
           ++ (n, (generation (value_of item).0, (value_of item).1)) ∷ []) (sym taken.at);
       overflow = taken.overflow;
-      removed = subst (λ k. IsEntryRemoved number last k o p) (sym taken.at) taken.removed;
+      removed = subst (λ k. IsEntryRemoved last k o p) (sym taken.at) taken.removed;
     }
 
 -- what is left in the end
-emptied_next : {I T : Type 0} (number : I → ℕ) (last : Option ℕ) (n h : ℕ) (o p : Ordered I T)
-    → IsEntryRemoved number last h o p
+emptied_next : {T : Type 0} (last : Option ℕ) (n h : ℕ) (o p : Ordered T)
+    → IsEntryRemoved last h o p
     → emptied_after last n p ≡ emptied_after last (suc n) o
-emptied_next number last n h o p removed = rw (removed.room, removed.counter) refl
+emptied_next last n h o p removed = rw (removed.room, removed.counter) refl
 
-module _ {I T : Type 0} (number : I → ℕ) (o : Ordered I T) (is : IsOrdered number o) where
+module _ {T : Type 0} (o : Ordered T) (is : IsOrdered o) where
   listed_length : (xs : List ℕ) → ((i : ℕ) → On xs i → IsSome (entry_in o i))
       → length (entries_at o xs) ≡ length xs
   listed_length [] live = refl
@@ -174,28 +174,28 @@ module _ {I T : Type 0} (number : I → ℕ) (o : Ordered I T) (is : IsOrdered n
       by rest (Some entry) at some = ap length (listed_first o x entry xs at) ∙ omega (arith, rest)
 
   -- so many are listed as entries are left
-  pub all_listed : length (ordered_entries number o) ≡ size_in o
-  all_listed = listed_length (order_in number o) (on_lives number o is) ∙ is.counted
+  pub all_listed : length (ordered_entries o) ≡ size_in o
+  all_listed = listed_length (order_in o) (on_lives o is) ∙ is.counted
 
   -- and so many are left to remove
   pub removals_left : (last : Option ℕ)
-      → length (removals last (counter_in o) (ordered_entries number o)) ≡ size_in o
-  removals_left last = removals-length last (counter_in o) (ordered_entries number o) ∙ all_listed
+      → length (removals last (counter_in o) (ordered_entries o)) ≡ size_in o
+  removals_left last = removals-length last (counter_in o) (ordered_entries o) ∙ all_listed
 
-module _ {P T S Inx Gen Word Alloc : Type 0} (last : Option ℕ) (number : Inx → ℕ)
+module _ {P T S Inx Gen Word Alloc : Type 0} (last : Option ℕ)
     (index generation : P → ℕ) where
   -- the first entry leaves: a drain gives its removal, and is on by one
   pub drain_steps : (item : Option (InvalidationOption (P × T)))
       (old new : OrderedDrain P T S Inx Gen Word Alloc)
-      → TakesFirst number last index generation item (drain_arena old) (drain_arena new)
+      → TakesFirst last index generation item (drain_arena old) (drain_arena new)
       → drain_lender new ≡ drain_lender old
-      → DrainSteps last number index generation old item new
+      → DrainSteps last index generation old item new
   drain_steps None old new took lender =
-      let rest : drain_rest last number old ≡ [] =
+      let rest : drain_rest last old ≡ [] =
       ap (removals last (counter_in (drain_arena old))) took.0 in (
         (
           rest,
-          ap (λ (o : Ordered Inx T). removals last (counter_in o) (ordered_entries number o))
+          ap (λ (o : Ordered T). removals last (counter_in o) (ordered_entries o))
               took.1 ∙ rest,
         ),
         record { lender = lender; leaves = ap (emptied_after last 1) took.1 },
@@ -207,7 +207,7 @@ module _ {P T S Inx Gen Word Alloc : Type 0} (last : Option ℕ) (number : Inx �
     record {
       lender = lender;
       leaves =
-          emptied_next number last 1 (index (value_of item).0) (drain_arena old) (drain_arena new)
+          emptied_next last 1 (index (value_of item).0) (drain_arena old) (drain_arena new)
           took.removed;
     },
     took,
@@ -219,8 +219,8 @@ module _ {P T S Inx Gen Word Alloc : Type 0} (last : Option ℕ) (number : Inx �
   steps_on n old mid new first rest =
       record {
         lender = rest.lender ∙ first.lender;
-        leaves = rest.leaves ∙ go n (ap (λ (o : Ordered Inx T). o.chains.counter) first.leaves)
-            (ap (λ (o : Ordered Inx T). o.chains.room) first.leaves);
+        leaves = rest.leaves ∙ go n (ap (λ (o : Ordered T). o.chains.counter) first.leaves)
+            (ap (λ (o : Ordered T). o.chains.room) first.leaves);
       }
     where
       go : (n : ℕ) → next_generation last (drain_arena mid).chains.counter
@@ -231,7 +231,7 @@ module _ {P T S Inx Gen Word Alloc : Type 0} (last : Option ℕ) (number : Inx �
       go n counter room = rw (counter, room) refl
 
   pub keeps_along : (first : OrderedDrain P T S Inx Gen Word Alloc)
-      → DrainKeepsAlong last number index generation first
+      → DrainKeepsAlong last index generation first
   keeps_along first [] later run =
       subst (IsOn last 0 first) run (record { lender = refl; leaves = refl })
   keeps_along first (item ∷ items) later run =

@@ -14,7 +14,7 @@ use Rattle.triple_arena_chain.specs.ListLaws.{Apart-split, first_on, last_on_lis
 use Rattle.triple_arena_chain.specs.Links.{ends_in, entry_ends, valued}
 use Rattle.triple_arena_chain.specs.UniquenessLaws.{linear_apart}
 use Rattle.triple_arena_ord.specs.NodeShape.{IndexNode}
-use Rattle.triple_arena_ord.specs.Node.{knots_in, itemed}
+use Rattle.triple_arena_ord.specs.Node.{nodes_in, itemed}
 use Rattle.triple_arena_ord.specs.Ordered.{Ordered, IsOrdered, tree_in, order_in, entry_in}
 use Rattle.triple_arena_ord.specs.OrderedWalks.{OrderedWalk, walk_at, from_index, from_where, along}
 use Rattle.triple_arena_ord.specs.OrderedWalks.{IsFrom, left_over, IsEnd, IsGiven, IsOver}
@@ -102,12 +102,12 @@ On-reverse xs i on = record {
   is = ap reverse on.is ∙ reverse_split on.front i on.back;
 }
 
-module _ {I T : Type 0} (number : I → ℕ) (o : Ordered I T) (is : IsOrdered number o) where
+module _ {T : Type 0} (o : Ordered T) (is : IsOrdered o) where
   abbrev w : List ℕ
-  w = order_in number o
+  w = order_in o
 
   abbrev e : ℕ → Option Ends
-  e = ends_in number o.chains
+  e = ends_in o.chains
 
   onward : Leads (next_at e) w
   onward = record {
@@ -143,30 +143,28 @@ module _ {I T : Type 0} (number : I → ℕ) (o : Ordered I T) (is : IsOrdered n
   off_along true i off = Off-reverse w i off
   off_along false i off = off
 
-  neighbor_is : (back : Bool) (i : ℕ) (entry : ℕ × IndexLink I (IndexNode I T))
+  neighbor_is : (back : Bool) (i : ℕ) (entry : ℕ × IndexLink (IndexNode T))
       → entry_at o.chains i ≡ Some entry
-      → neighbor back i ≡ (if back then option_map number entry.1.prev else option_map number
-      entry.1.next)
-  neighbor_is true i entry found = ap (λ v. prev_in (option_map (entry_ends number) v)) found
-  neighbor_is false i entry found = ap (λ v. next_in (option_map (entry_ends number) v)) found
+      → neighbor back i ≡ (if back then entry.1.prev else entry.1.next)
+  neighbor_is true i entry found = ap (λ v. prev_in (option_map entry_ends v)) found
+  neighbor_is false i entry found = ap (λ v. next_in (option_map entry_ends v)) found
 
-  item_at : (i : ℕ) (entry : ℕ × IndexLink I (IndexNode I T)) → entry_at o.chains i ≡ Some entry
+  item_at : (i : ℕ) (entry : ℕ × IndexLink (IndexNode T)) → entry_at o.chains i ≡ Some entry
       → entry_in o i ≡ Some (entry.0, entry.1.t.t)
   item_at i entry found = ap (λ v. option_map itemed (option_map valued v)) found
 
   -- where an entry lives a step gives it, and goes to its neighbor
-  gives : (before after : OrderedWalk) (i : ℕ) (entry : ℕ × IndexLink I (IndexNode I T))
+  gives : (before after : OrderedWalk) (i : ℕ) (entry : ℕ × IndexLink (IndexNode T))
       → before.at ≡ Some i → entry_at o.chains i ≡ Some entry
-      → after.at ≡ (if before.back then option_map number entry.1.prev else option_map number
-      entry.1.next) → after.back ≡ before.back
-      → IsGiven number i entry.0 o before after
+      → after.at ≡ (if before.back then entry.1.prev else entry.1.next) → after.back ≡ before.back
+      → IsGiven i entry.0 o before after
   gives before after i entry at found goes same =
       let b = before.back in
       let item = item_at i entry found in
       let r = led (neighbor b) (along b w) (leads b) i
-      (on_along b i (stands number o is i (subst IsSome (sym item) refl))) in
+      (on_along b i (stands o is i (subst IsSome (sym item) refl))) in
       let to : after.at ≡ neighbor b i = goes ∙ sym (neighbor_is b i entry found) in
-      let left_after : left_over number o after ≡ r.back =
+      let left_after : left_over o after ≡ r.back =
       ap (λ c. from_where (along c w) after.at) same ∙ ap (from_where (along b w)) to ∙ r.there in
       record {
         at = at;
@@ -177,21 +175,20 @@ module _ {I T : Type 0} (number : I → ℕ) (o : Ordered I T) (is : IsOrdered n
       }
 
   -- the same of a pointer to the entry
-  pub given : (before after : OrderedWalk) (i g j : ℕ) (entry : ℕ × IndexLink I (IndexNode I T))
+  pub given : (before after : OrderedWalk) (i g j : ℕ) (entry : ℕ × IndexLink (IndexNode T))
       → i ≡ j → g ≡ entry.0 → before.at ≡ Some j
       → entry_at o.chains j ≡ Some entry
-      → after.at ≡ (if before.back then option_map number entry.1.prev else option_map number
-      entry.1.next)
-      → after.back ≡ before.back → IsGiven number i g o before after
+      → after.at ≡ (if before.back then entry.1.prev else entry.1.next)
+      → after.back ≡ before.back → IsGiven i g o before after
   given before after i g j entry is_i is_g at found goes same =
-      subst (λ k. IsGiven number k g o before after) (sym is_i)
-      (subst (λ k. IsGiven number j k o before after) (sym is_g)
+      subst (λ k. IsGiven k g o before after) (sym is_i)
+      (subst (λ k. IsGiven j k o before after) (sym is_g)
       (gives before after j entry at found goes same))
 
   -- where none lives the walk is over
   pub ends : (before after : OrderedWalk) (i : ℕ) → before.at ≡ Some i → entry_at o.chains i ≡ None
       → after.at ≡ None → after.back ≡ before.back
-      → IsOver number o before after
+      → IsOver o before after
   ends before after i at none over same =
       let vacant : entry_in o i ≡ None = ap (λ v. option_map itemed (option_map valued v)) none in
       record {
@@ -207,19 +204,19 @@ module _ {I T : Type 0} (number : I → ℕ) (o : Ordered I T) (is : IsOrdered n
           elim (off_or_on w i) [
             | inl off ↦ off
             | inr on ↦ absurd (let no : false ≡ true = sym (ap is_some vacant)
-                ∙ counted_entry number o is i (walk-counted (tree_in number o) i on) in cc)
+                ∙ counted_entry o is i (walk-counted (tree_in o) i on) in cc)
           ]
 
   -- a walk from an entry goes along the list
   pub begins : (a : OrderedWalk) (i g : ℕ) (back : Bool) → IsSome (value_if g (entry_in o i))
-      → a ≡ walk_at i back → IsFrom w i back (left_over number o a)
+      → a ≡ walk_at i back → IsFrom w i back (left_over o a)
   begins a i g back found a_is =
-      let on = stands number o is i (found_some (entry_in o i) found) in
+      let on = stands o is i (found_some (entry_in o i) found) in
       record {
         before = on.front;
         after = on.back;
         is = on.is;
-        left_is = ap (left_over number o) a_is ∙ by back on;
+        left_is = ap (left_over o) a_is ∙ by back on;
       }
     where
       found_some : (v : Option (ℕ × T)) → IsSome (value_if g v) → IsSome v
@@ -239,7 +236,7 @@ module _ {I T : Type 0} (number : I → ℕ) (o : Ordered I T) (is : IsOrdered n
           ap (λ l. from_index l i) on.is ∙ from_there on.front i on.back off
 
   -- a walk from the first index goes along the whole list
-  pub whole : (a : OrderedWalk) → a.at ≡ first_or w None → a.back ≡ false → left_over number o a ≡ w
+  pub whole : (a : OrderedWalk) → a.at ≡ first_or w None → a.back ≡ false → left_over o a ≡ w
   whole a at forth = ap (λ c. from_where (along c w) a.at) forth ∙ ap (from_where w) at ∙ all w
     where
       all : (l : List ℕ) → from_where l (first_or l None) ≡ l
@@ -247,21 +244,21 @@ module _ {I T : Type 0} (number : I → ℕ) (o : Ordered I T) (is : IsOrdered n
       all (x ∷ l) = rw (eq-eqb x x refl) refl
 
   pub on_lives : (i : ℕ) → On w i → IsSome (entry_in o i)
-  on_lives i on = counted_entry number o is i (walk-counted (tree_in number o) i on)
+  on_lives i on = counted_entry o is i (walk-counted (tree_in o) i on)
 
   -- the ends of the list live
   pub first_lives : (i : ℕ) → first_or w None ≡ Some i → IsSome (entry_in o i)
   first_lives i at = on_lives i (first_on w i at)
 
-  pub first_knot : (i : ℕ) → first_or w None ≡ Some i → IsSome (knots_in number o.chains i)
-  first_knot i at =
-      counted-lives (knots_in number o.chains) None (tree_in number o) is.whole.stands.1 i
-      (walk-counted (tree_in number o) i (first_on w i at))
+  pub first_node : (i : ℕ) → first_or w None ≡ Some i → IsSome (nodes_in o.chains i)
+  first_node i at =
+      counted-lives (nodes_in o.chains) None (tree_in o) is.whole.stands.1 i
+      (walk-counted (tree_in o) i (first_on w i at))
 
-  pub last_knot : (i : ℕ) → last_or None w ≡ Some i → IsSome (knots_in number o.chains i)
-  last_knot i at =
-      counted-lives (knots_in number o.chains) None (tree_in number o) is.whole.stands.1 i
-      (walk-counted (tree_in number o) i (last_on_list e w i at))
+  pub last_node : (i : ℕ) → last_or None w ≡ Some i → IsSome (nodes_in o.chains i)
+  last_node i at =
+      counted-lives (nodes_in o.chains) None (tree_in o) is.whole.stands.1 i
+      (walk-counted (tree_in o) i (last_on_list e w i at))
 
   pub last_lives : (i : ℕ) → last_or None w ≡ Some i → IsSome (entry_in o i)
   last_lives i at = on_lives i (last_on_list e w i at)
@@ -306,14 +303,13 @@ module _ {I T : Type 0} (number : I → ℕ) (o : Ordered I T) (is : IsOrdered n
             (let z = last_some x l in let no : None ≡ Some z.0 = sym h ∙ z.1 in cc)
 
 -- the number of an index that was chosen by a test
-pub chosen : {I : Type 0} (number : I → ℕ) (b c : Bool) (x prev next : Option I) → b ≡ c
-    → x ≡ (if c then prev else next)
-    → option_map number x ≡ (if b then option_map number prev else option_map number next)
-chosen number b true x prev next is same = rw is (ap (option_map number) same)
-chosen number b false x prev next is same = rw is (ap (option_map number) same)
+pub chosen : (b c : Bool) (x prev next : Option ℕ) → b ≡ c → x ≡ (if c then prev else next)
+    → x ≡ (if b then prev else next)
+chosen b true x prev next is same = rw is same
+chosen b false x prev next is same = rw is same
 
 -- an entry that is listed
-pub listed_first : {I T : Type 0} (o : Ordered I T) (i : ℕ) (entry : ℕ × T) (is : List ℕ)
+pub listed_first : {T : Type 0} (o : Ordered T) (i : ℕ) (entry : ℕ × T) (is : List ℕ)
     → entry_in o i ≡ Some entry
     → entries_at o (i ∷ is) ≡ (i, entry) ∷ entries_at o is
 listed_first o i entry is at = rw at refl

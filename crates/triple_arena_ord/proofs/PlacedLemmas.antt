@@ -13,72 +13,72 @@ use Rattle.triple_arena_ord.specs.Ordered.{Ordered, IsOrdered, IsAscending, Stan
 use Rattle.triple_arena_ord.specs.Ordered.{entry_in, asked_of, asked_at}
 use Rattle.triple_arena_ord.specs.Inserted.{StandsAt, IsInsertedAt, IsPlacedByKey}
 use Rattle.triple_arena_ord.specs.Placing.{IsPlaceByKey, IsPlaceBeforeEqual, before_equal}
-use Rattle.rank_tree.specs.DescentLaws.{AllIn-map, parted-after, parted-before}
+use Rattle.rank_tree.specs.DescentLaws.{all-map, parted-after, parted-before}
 use Rattle.triple_arena_ord.proofs.SeekLemmas.{parts_at}
 use Rattle.triple_arena_ord.proofs.AscendingLemmas.{IsBetween, inserted_ascending}
 use Rattle.triple_arena_ord.proofs.InsertLemmas.{by_key}
 
-module _ {I T K : Type 0} (number : I → ℕ) (cmp : K → K → Ordering) (key : T → K)
-    (total : IsTotalOrder cmp) (o p : Ordered I T) where
-  module _ (k : K) (is : IsOrdered number o) (ascending : IsAscending number cmp key o) (n : ℕ)
+module _ {T K : Type 0} (cmp : K → K → Ordering) (key : T → K)
+    (total : IsTotalOrder cmp) (o p : Ordered T) where
+  module _ (k : K) (is : IsOrdered o) (ascending : IsAscending cmp key o) (n : ℕ)
     where
       abbrev f : ℕ → Ordering
       f = asked_at cmp key k o
 
       abbrev Between : Type 0
-      Between = IsBetween cmp key k (entry_in o) n (order_in number o) (order_in number p)
+      Between = IsBetween cmp key k (entry_in o) n (order_in o) (order_in p)
 
       -- what stands after lesser and before greater keys
-      strictly : IsPlacedByKey number cmp key k n o p → Between
+      strictly : IsPlacedByKey cmp key k n o p → Between
       strictly s = record {
         before = s.before;
         after = s.after;
         was = s.was;
         is = s.is;
-        low = AllIn-map (λ y. f y ≡ Greater) (λ y. f y ≢ Less)
+        low = all-map (λ y. f y ≡ Greater) (λ y. f y ≢ Less)
             (λ y e d. let z : Greater ≡ Less = sym e ∙ d in absurd (cc)) s.before
             (s.greater ascending);
-        high = AllIn-map (λ y. f y ≡ Less) (λ y. f y ≢ Greater)
+        high = all-map (λ y. f y ≡ Less) (λ y. f y ≢ Greater)
             (λ y e d. let z : Less ≡ Greater = sym e ∙ d in absurd (cc)) s.after (s.less ascending);
       }
 
       directly_before : (h : ℕ) → f h ≡ Equal
-          → StandsBeside Left (order_in number o) (order_in number p) h n → Between
+          → StandsBeside Left (order_in o) (order_in p) h n → Between
       directly_before h here s =
-          let parted = subst (IsParted f) s.was (parts_at number cmp key k total o is ascending) in
+          let parted = subst (IsParted f) s.was (parts_at cmp key k total o is ascending) in
           record {
             before = s.before;
             after = h ∷ s.after;
             was = s.was;
             is = s.is;
-            low = AllIn-map (λ y. Before (f y) (f h)) (λ y. f y ≢ Less)
+            low = all-map (λ y. Before (f y) (f h)) (λ y. f y ≢ Less)
                 (λ y z d. let e : Equal ≡ Less = sym here ∙ z.less d in absurd (cc)) s.before
                 (parted-before f s.before h s.after parted);
             high = (
               λ d. let e : Equal ≡ Greater = sym here ∙ d in absurd (cc),
-              AllIn-map (λ y. Before (f h) (f y)) (λ y. f y ≢ Greater)
+              all-map (λ y. Before (f h) (f y)) (λ y. f y ≢ Greater)
                   (λ y z d. let e : Equal ≡ Greater = sym here ∙ z.greater d in absurd (cc)) s.after
                   (parted-after f s.before h s.after parted),
             );
           }
 
-      placed : (place : Option (ℕ × Ordering)) → IsPlaceByKey number cmp key k o place
-          → StandsAt place (order_in number o) (order_in number p) n → Between
-      placed place at s = strictly (by_key number cmp key total o p k n place is at s)
+      placed : (place : Option (ℕ × Ordering)) → IsPlaceByKey cmp key k o place
+          → StandsAt place (order_in o) (order_in p) n → Between
+      placed place at s = strictly (by_key cmp key total o p k n place is at s)
 
-      placed_before : (found : Option (ℕ × Ordering)) → IsPlaceByKey number cmp key k o found
-          → StandsAt (before_equal found) (order_in number o) (order_in number p) n → Between
+      placed_before : (found : Option (ℕ × Ordering)) → IsPlaceByKey cmp key k o found
+          → StandsAt (before_equal found) (order_in o) (order_in p) n → Between
       placed_before None at s = placed None at s
       placed_before (Some a) at s = by a.1 refl s
         where
           by : (d : Ordering) → a.1 ≡ d
-              → StandsAt (before_equal (Some (a.0, d))) (order_in number o) (order_in number p) n
+              → StandsAt (before_equal (Some (a.0, d))) (order_in o) (order_in p) n
               → Between
           by Less e s = placed (Some (a.0, Less))
-              (subst (λ d. IsPlaceByKey number cmp key k o (Some (a.0, d))) e at) s
+              (subst (λ d. IsPlaceByKey cmp key k o (Some (a.0, d))) e at) s
           by Equal e s = directly_before a.0 (at.way a.0 Equal (ap (λ d. Some (a.0, d)) e)) s
           by Greater e s = placed (Some (a.0, Greater))
-              (subst (λ d. IsPlaceByKey number cmp key k o (Some (a.0, d))) e at) s
+              (subst (λ d. IsPlaceByKey cmp key k o (Some (a.0, d))) e at) s
 
   never_equal : (found : Option (ℕ × Ordering)) (i : ℕ) → before_equal found ≡ Some (i, Equal) → ⊥
   never_equal None i e = absurd (cc)
@@ -92,22 +92,22 @@ module _ {I T K : Type 0} (number : I → ℕ) (cmp : K → K → Ordering) (key
 
   module _ {P : Type 0} (index generation : P → ℕ) (allows : Option OrdInsertionError → Type 0)
       (t : T) (place : Option (ℕ × Ordering))
-      (result : Result (P × Option T) OrdInsertionError) (is : IsOrdered number o)
-      (new_is : IsOrdered number p) where
-    pub placed_ascending : IsPlaceByKey number cmp key (key t) o place
-        → IsInsertedAt number index generation allows place t result o p
-        → IsAscending number cmp key o → IsAscending number cmp key p
+      (result : Result (P × Option T) OrdInsertionError) (is : IsOrdered o)
+      (new_is : IsOrdered p) where
+    pub placed_ascending : IsPlaceByKey cmp key (key t) o place
+        → IsInsertedAt index generation allows place t result o p
+        → IsAscending cmp key o → IsAscending cmp key p
     placed_ascending at put ascending =
-        inserted_ascending cmp key total number index generation allows o p t place result new_is
+        inserted_ascending cmp key total index generation allows o p t place result new_is
         (λ i g u here was. sym (ap (asked_of cmp key (key t)) was) ∙ at.way i Equal here)
         (λ n s. placed (key t) is ascending n place at s) put ascending
 
-    pub placed_before_ascending : IsPlaceBeforeEqual number cmp key (key t) o place
-        → IsInsertedAt number index generation allows place t result o p
-        → IsAscending number cmp key o → IsAscending number cmp key p
+    pub placed_before_ascending : IsPlaceBeforeEqual cmp key (key t) o place
+        → IsInsertedAt index generation allows place t result o p
+        → IsAscending cmp key o → IsAscending cmp key p
     placed_before_ascending at put ascending =
-        inserted_ascending cmp key total number index generation allows o p t place result new_is
+        inserted_ascending cmp key total index generation allows o p t place result new_is
         (λ i g u here was. absurd (never_equal at.found i (sym at.is ∙ here)))
         (λ n s. placed_before (key t) is ascending n at.found at.by_key
-        (subst (λ place. StandsAt place (order_in number o) (order_in number p) n) at.is s)) put
+        (subst (λ place. StandsAt place (order_in o) (order_in p) n) at.is s)) put
         ascending

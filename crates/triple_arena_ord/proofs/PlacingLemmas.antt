@@ -13,39 +13,39 @@ use Rattle.triple_arena_ord.proofs.LiveLemmas.{counted_entry}
 use Rattle.triple_arena_ord.proofs.NameLemmas.{if_answered}
 use Rattle.triple_arena_ord.proofs.SeekLemmas.{parts_at}
 
-module _ {I T K : Type 0} (number : I → ℕ) (cmp : K → K → Ordering) (key : T → K) (k : K)
-    (o : Ordered I T) where
-  pub placed_by_key : IsTotalOrder cmp → IsOrdered number o → (place : Option (ℕ × Ordering))
-      → IsAnswer (asked_at cmp key k o) (tree_in number o) place
-      → IsPlaceByKey number cmp key k o place
+module _ {T K : Type 0} (cmp : K → K → Ordering) (key : T → K) (k : K) (o : Ordered T) where
+  pub placed_by_key : IsTotalOrder cmp → IsOrdered o → (place : Option (ℕ × Ordering))
+      → IsAnswer (asked_at cmp key k o) (tree_in o) place
+      → IsPlaceByKey cmp key k o place
   placed_by_key total is place answer = record {
     none = (
-      λ e. sym sized ∙ root_size (tree_in number o) (answer.empty e),
+      λ e. sym sized ∙ root_size (tree_in o) (answer.empty e),
       λ e. nothing place refl (sized ∙ e),
     );
-    live = λ i d e. counted_entry number o is i (answer.lives i d e);
+    live = λ i d e. counted_entry o is i (answer.lives i d e);
     way = answer.asked;
     places = λ ascending i d e. answer.parted i d e
-        (parts_at number cmp key k total o is ascending);
+        (parts_at cmp key k total o is ascending);
   }
     where
-      sized : size (tree_in number o) ≡ size_in o
-      sized = size-walk (tree_in number o) ∙ is.counted
+      sized : size (tree_in o) ≡ size_in o
+      sized = size-walk (tree_in o) ∙ is.counted
 
-      nothing : (s : Option (ℕ × Ordering)) → place ≡ s → size (tree_in number o) ≡ 0 → place ≡ None
+      nothing : (s : Option (ℕ × Ordering)) → place ≡ s → size (tree_in o) ≡ 0 → place ≡ None
       nothing None u z = u
-      nothing (Some x) u z = absurd (none_counted (tree_in number o) z x.0 (answer.lives x.0 x.1 u))
+      nothing (Some x) u z = absurd (none_counted (tree_in o) z x.0 (answer.lives x.0 x.1 u))
 
-  module _ (r : Option (I × Ordering)) where
-    abbrev numbered : Option (ℕ × Ordering)
-    numbered = option_map (λ a. (number a.0, a.1)) r
+module _ {I T K : Type 0} (number : I → ℕ) (cmp : K → K → Ordering) (key : T → K) (k : K)
+    (o : Ordered T) (r : Option (I × Ordering)) where
+  abbrev numbered : Option (ℕ × Ordering)
+  numbered = option_map (λ a. (number a.0, a.1)) r
 
-    unplaced : r ≡ None → numbered ≡ None
-    unplaced e = ap (option_map {U = ℕ × Ordering} (λ a. (number a.0, a.1))) e
+  unplaced : r ≡ None → numbered ≡ None
+  unplaced e = ap (option_map {U = ℕ × Ordering} (λ a. (number a.0, a.1))) e
 
-    pub key_live : IsPlaceByKey number cmp key k o numbered
-        → IfSome r (λ a. IsSome (entry_in o (number a.0)))
-    key_live place = if_answered number (λ i d. IsSome (entry_in o i)) r place.live
+  pub key_live : IsPlaceByKey cmp key k o numbered
+      → IfSome r (λ a. IsSome (entry_in o (number a.0)))
+  key_live place = if_answered number (λ i d. IsSome (entry_in o i)) r place.live
 
-    pub key_empty : IsPlaceByKey number cmp key k o numbered → r ≡ None → size_in o ≡ 0
-    key_empty place e = place.none.0 (unplaced e)
+  pub key_empty : IsPlaceByKey cmp key k o numbered → r ≡ None → size_in o ≡ 0
+  key_empty place e = place.none.0 (unplaced e)

@@ -8,11 +8,11 @@ use Rattle.std.proofs.Math.Nat.{pow-succ'}
 use Rattle.std.proofs.lemmas.Bool.Decides.{eqb_tells, leb_tells}
 use Rattle.triple_arena.specs.Content.{Content, entry_at}
 use Rattle.triple_arena_chain.specs.LinkShape.{IndexLink}
-use Rattle.triple_arena_chain.specs.Chains.{Ends, next_in, next_at, first_or, Stands, Off, Apart}
+use Rattle.triple_arena_chain.specs.Chains.{Ends, next_in, next_at, first_or, IsSegment, Off, Apart}
 use Rattle.triple_arena_chain.specs.Chains.{IsLinear}
-use Rattle.triple_arena_chain.specs.ChainLaws.{first_or-append, Stands-front, Stands-back}
+use Rattle.triple_arena_chain.specs.ChainLaws.{first_or-append, segment-front, segment-back}
 use Rattle.triple_arena_chain.specs.ChainLaws.{off_or_on, Off-front, Off-back, Apart-both}
-use Rattle.triple_arena_chain.specs.ListLaws.{Apart-front, Apart-back, Apart-split, Stands-where}
+use Rattle.triple_arena_chain.specs.ListLaws.{Apart-front, Apart-back, Apart-split, segment-where}
 use Rattle.triple_arena_chain.specs.UniquenessLaws.{linear_apart}
 use Rattle.triple_arena_chain.specs.Links.{ends_in, entry_ends, valued}
 use Rattle.rank_tree.specs.Store.{Store, Written, Reparented}
@@ -23,7 +23,7 @@ use Rattle.rank_tree.specs.FrameLaws.{one-same, one-other}
 use Rattle.rank_tree.specs.ClimbLaws.{size-walk}
 use Rattle.rank_tree.specs.BuildLaws.{built_over}
 use Rattle.triple_arena_ord.specs.NodeShape.{IndexNode}
-use Rattle.triple_arena_ord.specs.Node.{knots_in, knot_of, rest}
+use Rattle.triple_arena_ord.specs.Node.{nodes_in, view_of, rest}
 use Rattle.triple_arena_ord.proofs.RestLemmas.{rested}
 use Rattle.triple_arena_ord.specs.Rebuilt.{IsAhead, IsRebuilt}
 
@@ -69,9 +69,9 @@ pub parts : (e : ℕ → Option Ends) (cursor : Option ℕ) (count : ℕ) (w : L
 parts e cursor count w a some =
     let long = a.long in
     let c = cut w (count / 2) (omega (arith, long, some)) in
-    let s = subst (λ l. Stands e a.before l a.after) c.whole a.stands in
+    let s = subst (λ l. IsSegment e a.before l a.after) c.whole a.stands in
     let apart = subst Apart c.whole a.apart in
-    let back = Stands-back e a.before a.after c.v (c.i ∷ c.u) s in
+    let back = segment-back e a.before a.after c.v (c.i ∷ c.u) s in
     let sum = length-append c.v (c.i ∷ c.u) in
     let all = ap length c.whole in
     let half = c.long in
@@ -83,7 +83,7 @@ parts e cursor count w a some =
       left = record {
         before = a.before;
         after = Some c.i;
-        stands = Stands-front e a.before a.after c.v (c.i ∷ c.u) s;
+        stands = segment-front e a.before a.after c.v (c.i ∷ c.u) s;
         first = a.first ∙ ap (λ l. first_or l a.after) c.whole
             ∙ first_or-append c.v (c.i ∷ c.u) a.after;
         apart = Apart-front c.v (c.i ∷ c.u) apart;
@@ -162,14 +162,14 @@ root_lives k w root n m b i is = by b.tree b.represents (sym b.root_is ∙ is)
     by (node l x rank rr) r at = let same : x ≡ i = cc in
         subst (λ y. IsSome (m y)) same (ap is_some r.0)
 
-module _ {I T : Type 0} (number : I → ℕ) where
-  pub live_knot : (c : Content (IndexLink I (IndexNode I T))) (k : ℕ) → IsSome (ends_in number c k)
-      → IsSome (knots_in number c k)
-  live_knot c k some = by (entry_at c k) some
+module _ {T : Type 0} where
+  pub live_node : (c : Content (IndexLink (IndexNode T))) (k : ℕ) → IsSome (ends_in c k)
+      → IsSome (nodes_in c k)
+  live_node c k some = by (entry_at c k) some
     where
-      by : (o : Option (ℕ × IndexLink I (IndexNode I T)))
-          → IsSome (option_map (entry_ends number) o)
-          → IsSome (option_map (λ e. knot_of number e.1) (option_map valued o))
+      by : (o : Option (ℕ × IndexLink (IndexNode T)))
+          → IsSome (option_map entry_ends o)
+          → IsSome (option_map (λ e. view_of e.1) (option_map valued o))
       by None h = absurd (true≢false (sym h))
       by (Some e) h = refl
 
@@ -229,21 +229,21 @@ pub lives_if : {I : Type 0} (number : I → ℕ) (o : Option I) (m : Store)
 lives_if number None m each = tt
 lives_if number (Some x) m each = each (number x) refl
 
-module _ {I T : Type 0} (number : I → ℕ) where
+module _ {T : Type 0} where
   -- the right part, after the left one was written
-  pub right_ahead : (old mid : Content (IndexLink I (IndexNode I T))) (cursor next : Option ℕ)
+  pub right_ahead : (old mid : Content (IndexLink (IndexNode T))) (cursor next : Option ℕ)
       (m i : ℕ) (w : List ℕ) (after : Option ℕ)
-      → rest mid ≡ rest old → (p : Parts (ends_in number old) cursor m w after) → i ≡ p.i
-      → next ≡ next_at (ends_in number mid) i
-      → (b : IsAhead (ends_in number mid) next (m - m / 2 - 1) p.u) × (b.after ≡ after)
+      → rest mid ≡ rest old → (p : Parts (ends_in old) cursor m w after) → i ≡ p.i
+      → next ≡ next_at (ends_in mid) i
+      → (b : IsAhead (ends_in mid) next (m - m / 2 - 1) p.u) × (b.after ≡ after)
   right_ahead old mid cursor next m i w after keeps p is goes =
-      let r = rested number old mid keeps in
-      let from : next_at (ends_in number old) p.i ≡ next = ap next_in (sym (r.ends p.i))
-      ∙ ap (next_at (ends_in number mid)) (sym is) ∙ sym goes in (
+      let r = rested old mid keeps in
+      let from : next_at (ends_in old) p.i ≡ next = ap next_in (sym (r.ends p.i))
+      ∙ ap (next_at (ends_in mid)) (sym is) ∙ sym goes in (
         record {
           before = p.right.before;
           after = p.right.after;
-          stands = Stands-where (ends_in number old) (ends_in number mid) p.right.before
+          stands = segment-where (ends_in old) (ends_in mid) p.right.before
               p.right.after p.u (λ k on. r.ends k) p.right.stands;
           first = sym from ∙ p.right.first;
           apart = p.right.apart;
@@ -252,9 +252,9 @@ module _ {I T : Type 0} (number : I → ℕ) where
         p.right_after,
       )
 
-  pub stays_there : (old new : Content (IndexLink I (IndexNode I T))) (k : ℕ) → rest new ≡ rest old
-      → IsSome (knots_in number old k) → IsSome (knots_in number new k)
-  stays_there old new k keeps some = (rested number old new keeps).stays k some
+  pub stays_there : (old new : Content (IndexLink (IndexNode T))) (k : ℕ) → rest new ≡ rest old
+      → IsSome (nodes_in old k) → IsSome (nodes_in new k)
+  stays_there old new k keeps some = (rested old new keeps).stays k some
 
 module _ where
   abbrev pub most : ℕ
@@ -269,47 +269,3 @@ module _ where
   pub doubled_none : (count : ℕ) → IsDoubled count 0 1
   doubled_none count = record
       { reached = refl; some = omega arith; less = λ s below. absurd (omega (arith, below)) }
-
-  pub doubled_more : (count exponent reach more : ℕ) → count < 2 ^ 64
-      → IsDoubled count exponent reach → reach < count - 1 → more ≡ min (reach * 2) (2 ^ 64 - 1)
-      → IsDoubled count (exponent + 1) more
-  doubled_more count exponent reach more fits d short is =
-      let next : 2 ^ suc exponent ≡ 2 * 2 ^ exponent = pow-succ' 2 exponent in
-      let one : 2 ^ (exponent + 1) ≡ 2 ^ suc exponent = ap (λ n. 2 ^ n) (omega arith) in
-      let reached = d.reached in
-      let some = d.some in
-      record {
-        reached = omega (arith, is, reached, next, one);
-        some = omega (arith, is, some);
-        less = λ s below.
-            elim (eqb_tells s exponent) [
-              | inl same ↦ let here : 2 ^ s ≡ 2 ^ exponent = ap (λ n. 2 ^ n) same.1 in
-                  omega (arith, here, reached, short, fits)
-              | inr other ↦ let differs : s ≢ exponent = other.1 in
-                  d.less s (omega (arith, below, differs))
-            ];
-      }
-
-  pub doubled_few : (count exponent reach : ℕ) → count < 2 ^ 64 → IsDoubled count exponent reach
-      → exponent ≤ 64
-  doubled_few count exponent reach fits d =
-      elim (leb_tells exponent 64) [
-        | inl within ↦ within.1
-        | inr past ↦ absurd (let over = d.less 64 (omega (arith, past.1)) in
-            omega (arith, over, fits))
-      ]
-
-  pub doubled_top : (count exponent reach rank : ℕ) → IsDoubled count exponent reach
-      → count - 1 ≤ reach → rank ≡ exponent + 1 → IsTopRank count rank
-  doubled_top count exponent reach rank d done is =
-      let reached = d.reached in
-      record {
-        exponent = exponent;
-        is = omega (arith, is);
-        reaches = omega (arith, reached, done);
-        least = λ s within.
-            elim (leb_tells exponent s) [
-              | inl up ↦ up.1
-              | inr short ↦ absurd (let less = d.less s short.1 in omega (arith, less, within))
-            ];
-      }

@@ -18,10 +18,10 @@ use Rattle.rank_tree.specs.Halving.{part_rank, IsTopRank}
 use Rattle.rank_tree.specs.FrameLaws.{Represents-keep, one-other, count-walk}
 use Rattle.rank_tree.specs.ClimbLaws.{size-walk}
 use Rattle.triple_arena_ord.specs.NodeShape.{IndexNode}
-use Rattle.triple_arena_ord.specs.Node.{knots_in}
+use Rattle.triple_arena_ord.specs.Node.{nodes_in}
 use Rattle.triple_arena_ord.specs.Rebuilt.{IsRebuilt}
 use Rattle.triple_arena_ord.specs.RebuiltRun.{IsRunBuilt, middle}
-use Rattle.triple_arena_ord.proofs.RebuildLemmas.{live_knot}
+use Rattle.triple_arena_ord.proofs.RebuildLemmas.{live_node}
 
 -- a run is its beginning, the next index, and the others
 run_join : (u p q : ℕ)
@@ -205,9 +205,9 @@ run_on low (suc n) i up short =
     ]
 
 -- where the list is a run, each of its indexes has a node
-pub run_lives : {I T : Type 0} (number : I → ℕ) (c : Content (IndexLink I (IndexNode I T))) (n : ℕ)
-    → IsLinear (ends_in number c) (range_with_len 1 n)
-    → (k : ℕ) → 0 < k → k ≤ 0 + n → IsSome (knots_in number c k)
-run_lives number c n linear k some within =
-    live_knot number c k (live_on (ends_in number c) None None (range_with_len 1 n) k linear
+pub run_lives : {T : Type 0} (c : Content (IndexLink (IndexNode T))) (n : ℕ)
+    → IsLinear (ends_in c) (range_with_len 1 n)
+    → (k : ℕ) → 0 < k → k ≤ 0 + n → IsSome (nodes_in c k)
+run_lives c n linear k some within =
+    live_node c k (live_on (ends_in c) None None (range_with_len 1 n) k linear
     (run_on 1 n k some (omega (arith, within))))

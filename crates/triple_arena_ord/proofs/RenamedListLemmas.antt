@@ -12,7 +12,7 @@ use Rattle.triple_arena_chain.specs.Links.{ends_in}
 use Rattle.triple_arena_chain.specs.Renaming.{FollowsRenaming}
 use Rattle.std.specs.Prelude.{Option}
 use Rattle.triple_arena_ord.specs.NodeShape.{IndexNode}
-use Rattle.triple_arena_ord.specs.Node.{knots_in, rest}
+use Rattle.triple_arena_ord.specs.Node.{nodes_in, rest}
 use Rattle.triple_arena_ord.specs.Ordered.{Ordered, IsOrdered, size_in, order_in}
 use Rattle.triple_arena_ord.specs.Rebuilt.{IsRebuilt}
 use Rattle.triple_arena_ord.proofs.WrittenListLemmas.{on_order, IsWritten, written}
@@ -37,24 +37,24 @@ on_renamed e f to w follows whole k some =
     let from = follows.onto k some in
     subst (On (map to w)) from.2 (on_mapped to w from.0 (whole from.0 from.1))
 
-module _ {I T : Type 0} (number : I → ℕ) (o : Ordered I T)
-    (mid : Content (IndexLink I (IndexNode I T))) (to : ℕ → ℕ) (is : IsOrdered number o)
-    (follows : FollowsRenaming to (ends_in number o.chains) (ends_in number mid))
+module _ {T : Type 0} (o : Ordered T)
+    (mid : Content (IndexLink (IndexNode T))) (to : ℕ → ℕ) (is : IsOrdered o)
+    (follows : FollowsRenaming to (ends_in o.chains) (ends_in mid))
     (live : live_count mid ≡ size_in o) where
-  pub list_linear : IsLinear (ends_in number mid) (map to (order_in number o))
-  list_linear = follows.lists (Linear (order_in number o)) is.linear
+  pub list_linear : IsLinear (ends_in mid) (map to (order_in o))
+  list_linear = follows.lists (Linear (order_in o)) is.linear
 
-  pub list_long : length (map to (order_in number o)) ≡ live_count mid
-  list_long = length-map (order_in number o) to ∙ is.counted ∙ sym live
+  pub list_long : length (map to (order_in o)) ≡ live_count mid
+  list_long = length-map (order_in o) to ∙ is.counted ∙ sym live
 
   -- each live index is on it
-  pub on_list : (k : ℕ) → IsSome (ends_in number mid k) → On (map to (order_in number o)) k
-  on_list k some = on_renamed (ends_in number o.chains) (ends_in number mid) to (order_in number o)
-      follows (on_order number o is) k some
+  pub on_list : (k : ℕ) → IsSome (ends_in mid k) → On (map to (order_in o)) k
+  on_list k some = on_renamed (ends_in o.chains) (ends_in mid) to (order_in o)
+      follows (on_order o is) k some
 
   -- what the rebuild leaves
-  pub rewritten : (new : Ordered I T) → rest new.chains ≡ rest mid
-      → IsRebuilt (map to (order_in number o)) new.root (knots_in number new.chains)
-      → IsWritten number mid (map to (order_in number o)) list_linear on_list list_long new
+  pub rewritten : (new : Ordered T) → rest new.chains ≡ rest mid
+      → IsRebuilt (map to (order_in o)) new.root (nodes_in new.chains)
+      → IsWritten mid (map to (order_in o)) list_linear on_list list_long new
   rewritten new keeps b =
-      written number mid (map to (order_in number o)) list_linear on_list list_long new keeps b
+      written mid (map to (order_in o)) list_linear on_list list_long new keeps b

@@ -1,4 +1,4 @@
--- A write of a knot keeps the rest, and what follows where the rest is the same.
+-- A write of a node_view keeps the rest, and what follows where the rest is the same.
 use Rattle.std.proofs.Common.{◌≡◌, ℕ, zero, suc, ◌+◌, ◌-◌, List, [], ◌∷◌, length, map, set, get_or}
 use Rattle.std.proofs.Common.{Option, Some, None, IsSome, is_some, count_by, cond, refl, sym, ap}
 use Rattle.std.proofs.Common.{◌∙◌, arith}
@@ -9,11 +9,11 @@ use Rattle.triple_arena_chain.specs.LinkShape.{IndexLink}
 use Rattle.triple_arena_chain.specs.Links.{ends_in, entry_ends, values_in, valued, with_link_of}
 use Rattle.triple_arena_chain.specs.Links.{with_value_in, IsKept}
 use Rattle.triple_arena_ord.specs.NodeShape.{IndexNode}
-use Rattle.triple_arena_ord.specs.Node.{knots_in, knot_of, items_in, itemed, bare, rest}
+use Rattle.triple_arena_ord.specs.Node.{nodes_in, view_of, items_in, itemed, bare, rest}
 
-module _ {I T : Type 0} where
-  bare_set : (xs : List (Option (ℕ × IndexLink I (IndexNode I T)))) (k g : ℕ)
-      (l m : IndexLink I (IndexNode I T)) → get_or xs k None ≡ Some (g, l)
+module _ {T : Type 0} where
+  bare_set : (xs : List (Option (ℕ × IndexLink (IndexNode T)))) (k g : ℕ)
+      (l m : IndexLink (IndexNode T)) → get_or xs k None ≡ Some (g, l)
       → bare (g, m) ≡ bare (g, l)
       → map (option_map bare) (set xs k (Some (g, m))) ≡ map (option_map bare) xs
   bare_set [] k g l m is same = refl
@@ -22,8 +22,8 @@ module _ {I T : Type 0} where
   bare_set (x ∷ xs) (suc k) g l m is same =
       ap (λ z. option_map bare x ∷ z) (bare_set xs k g l m is same)
 
-  rest-with_value : (c : Content (IndexLink I (IndexNode I T))) (i g : ℕ)
-      (l m : IndexLink I (IndexNode I T)) → entry_at c i ≡ Some (g, l)
+  rest-with_value : (c : Content (IndexLink (IndexNode T))) (i g : ℕ)
+      (l m : IndexLink (IndexNode T)) → entry_at c i ≡ Some (g, l)
       → bare (g, m) ≡ bare (g, l) → rest (with_value c i m) ≡ rest c
   unfolding rest
   rest-with_value c zero g l m is same = absurd (cc)
@@ -34,12 +34,12 @@ module _ {I T : Type 0} where
       (bare_set c.slots k g l m is same))
 
   -- a write of a node with the same item
-  pub rest-write : (c : Content (IndexLink I (IndexNode I T))) (i : ℕ) (u v : IndexNode I T)
+  pub rest-write : (c : Content (IndexLink (IndexNode T))) (i : ℕ) (u v : IndexNode T)
       → option_map (λ e. e.1) (values_in c i) ≡ Some u
       → v.t ≡ u.t → rest (with_value_in c i v) ≡ rest c
   rest-write c i u v is same = by (entry_at c i) refl
     where
-      by : (o : Option (ℕ × IndexLink I (IndexNode I T))) → entry_at c i ≡ o
+      by : (o : Option (ℕ × IndexLink (IndexNode T))) → entry_at c i ≡ o
           → rest (with_value_in c i v) ≡ rest c
       by None at = ap (λ o. rest (with_link_of c i (λ link. record link { t = v }) o)) at
       by (Some e) at =
@@ -48,37 +48,37 @@ module _ {I T : Type 0} where
           let item : e.1.t.t ≡ u.t = cc in
           ap (λ o. rest (with_link_of c i (λ link. record link { t = v }) o)) at
           ∙ rest-with_value c i e.0 e.1 (record e.1 { t = v }) at
-          (ap (λ (z : T). (let r : ℕ × IndexLink I T =
+          (ap (λ (z : T). (let r : ℕ × IndexLink T =
           (e.0, record { prev = e.1.prev; next = e.1.next; t = z }) in r)) (same ∙ sym item))
 
-  bare-length : (xs : List (Option (ℕ × IndexLink I (IndexNode I T))))
+  bare-length : (xs : List (Option (ℕ × IndexLink (IndexNode T))))
       → length (map (option_map bare) xs) ≡ length xs
   bare-length [] = refl
   bare-length (x ∷ xs) = ap suc (bare-length xs)
 
-  bare-at : (xs : List (Option (ℕ × IndexLink I (IndexNode I T)))) (k : ℕ)
+  bare-at : (xs : List (Option (ℕ × IndexLink (IndexNode T)))) (k : ℕ)
       → get_or (map (option_map bare) xs) k None ≡ option_map bare (get_or xs k None)
   bare-at [] k = refl
   bare-at (x ∷ xs) zero = refl
   bare-at (x ∷ xs) (suc k) = bare-at xs k
 
-  bare-entry : (c : Content (IndexLink I (IndexNode I T))) (i : ℕ)
+  bare-entry : (c : Content (IndexLink (IndexNode T))) (i : ℕ)
       → entry_at (rest c) i ≡ option_map bare (entry_at c i)
   unfolding rest
   bare-entry c zero = refl
   bare-entry c (suc k) = bare-at c.slots k
 
-  bare-item : (o : Option (ℕ × IndexLink I (IndexNode I T)))
+  bare-item : (o : Option (ℕ × IndexLink (IndexNode T)))
       → option_map valued (option_map bare o) ≡ option_map itemed (option_map valued o)
   bare-item None = refl
   bare-item (Some e) = refl
 
-  bare-some : (x : Option (ℕ × IndexLink I (IndexNode I T)))
+  bare-some : (x : Option (ℕ × IndexLink (IndexNode T)))
       → is_some (option_map bare x) ≡ is_some x
   bare-some None = refl
   bare-some (Some e) = refl
 
-  bare-live : (xs : List (Option (ℕ × IndexLink I (IndexNode I T))))
+  bare-live : (xs : List (Option (ℕ × IndexLink (IndexNode T))))
       → count_by is_some (map (option_map bare) xs) ≡ count_by is_some xs
   bare-live [] = refl
   bare-live (x ∷ xs) =
@@ -90,28 +90,28 @@ module _ {I T : Type 0} where
       p ∙ ap (λ b. cond b 1 0 + count_by is_some (map (option_map bare) xs)) (bare-some x)
       ∙ ap (λ n. cond (is_some x) 1 0 + n) (bare-live xs) ∙ sym q
 
-module _ {I T : Type 0} (number : I → ℕ) where
-  bare-ends : (o : Option (ℕ × IndexLink I (IndexNode I T)))
-      → option_map (entry_ends number) (option_map bare o) ≡ option_map (entry_ends number) o
+module _ {T : Type 0} where
+  bare-ends : (o : Option (ℕ × IndexLink (IndexNode T)))
+      → option_map entry_ends (option_map bare o) ≡ option_map entry_ends o
   bare-ends None = refl
   bare-ends (Some e) = refl
 
-  item-lives : (o p : Option (ℕ × IndexNode I T)) → option_map itemed o ≡ option_map itemed p
-      → IsSome (option_map (λ e. knot_of number e.1) o)
-      → IsSome (option_map (λ e. knot_of number e.1) p)
+  item-lives : (o p : Option (ℕ × IndexNode T)) → option_map itemed o ≡ option_map itemed p
+      → IsSome (option_map (λ e. view_of e.1) o)
+      → IsSome (option_map (λ e. view_of e.1) p)
   item-lives None p e h = absurd (cc)
   item-lives (Some a) None e h = absurd (cc)
   item-lives (Some a) (Some b) e h = refl
 
   -- what is the same where the rest is
-  pub record Rested (old new : Content (IndexLink I (IndexNode I T))) : Type 0 where
-    pub ends : (k : ℕ) → ends_in number new k ≡ ends_in number old k
+  pub record Rested (old new : Content (IndexLink (IndexNode T))) : Type 0 where
+    pub ends : (k : ℕ) → ends_in new k ≡ ends_in old k
     pub items : (k : ℕ) → items_in new k ≡ items_in old k
-    pub lives : (k : ℕ) → IsSome (knots_in number new k) → IsSome (knots_in number old k)
-    pub stays : (k : ℕ) → IsSome (knots_in number old k) → IsSome (knots_in number new k)
+    pub lives : (k : ℕ) → IsSome (nodes_in new k) → IsSome (nodes_in old k)
+    pub stays : (k : ℕ) → IsSome (nodes_in old k) → IsSome (nodes_in new k)
     pub kept : IsKept old new
 
-  pub rested : (old new : Content (IndexLink I (IndexNode I T))) → rest new ≡ rest old
+  pub rested : (old new : Content (IndexLink (IndexNode T))) → rest new ≡ rest old
       → Rested old new
   unfolding rest
   rested old new e =
@@ -121,7 +121,7 @@ module _ {I T : Type 0} (number : I → ℕ) where
       λ k. sym (bare-item (entry_at new k)) ∙ ap (option_map valued) (entry k)
       ∙ bare-item (entry_at old k) in
       record {
-        ends = λ k. sym (bare-ends (entry_at new k)) ∙ ap (option_map (entry_ends number)) (entry k)
+        ends = λ k. sym (bare-ends (entry_at new k)) ∙ ap (option_map entry_ends) (entry k)
             ∙ bare-ends (entry_at old k);
         items = items;
         lives = λ k h. item-lives (values_in new k) (values_in old k) (items k) h;

@@ -6,18 +6,18 @@ use Rattle.triple_arena_chain.specs.Chains.{IsLinear}
 use Rattle.triple_arena_chain.specs.Links.{ends_in}
 use Rattle.triple_arena_chain.specs.Lists.{Linear}
 use Rattle.triple_arena_chain.specs.ListLaws.{chain_where}
-use Rattle.triple_arena_ord.specs.Node.{knots_in}
-use Rattle.rank_tree.specs.Knot.{Knot}
+use Rattle.triple_arena_ord.specs.Node.{nodes_in}
+use Rattle.rank_tree.specs.NodeView.{NodeView}
 use Rattle.rank_tree.specs.Store.{Store, rank_or_link}
 use Rattle.rank_tree.specs.Tree.{Tree, leaf, node, walk, IsRanked}
 use Rattle.rank_tree.specs.Whole.{read_tree, tree_of}
-use Rattle.rank_tree.specs.Shape.{Stands, IsDistinct, count}
+use Rattle.rank_tree.specs.Shape.{RepresentsTree, IsDistinct, count}
 use Rattle.triple_arena_ord.specs.Ordered.{Ordered, IsOrdered, tree_in, order_in}
 use Rattle.rank_tree.specs.FrameLaws.{Represents-keep}
 use Rattle.rank_tree.specs.UniqueLaws.{tree_is}
 
 -- what hangs from a node, read as deep as the fuel goes
-abbrev hanging : ℕ → Store → ℕ → Option Knot → Tree
+abbrev hanging : ℕ → Store → ℕ → Option NodeView → Tree
 hanging fuel n i o = elim o
     [ None ↦ leaf | Some v ↦ node (read_tree fuel n v.left) i v.rank (read_tree fuel n v.right) ]
 
@@ -27,7 +27,8 @@ module _ (n m : Store) (same : (k : ℕ) → n k ≡ m k) where
   read_same (suc fuel) None = refl
   read_same (suc fuel) (Some i) = ap (hanging fuel n i) (same i) ∙ by (m i) (read_same fuel)
     where
-      by : (o : Option Knot) → ((root : Option ℕ) → read_tree fuel n root ≡ read_tree fuel m root)
+      by : (o : Option NodeView)
+          → ((root : Option ℕ) → read_tree fuel n root ≡ read_tree fuel m root)
           → hanging fuel n i o ≡ hanging fuel m i o
       by None below = refl
       by (Some v) below = rw (below v.left, below v.right) refl
@@ -40,39 +41,39 @@ module _ (n m : Store) (same : (k : ℕ) → n k ≡ m k) where
   pub tree_same : (root : Option ℕ) → tree_of n root ≡ tree_of m root
   tree_same root = rw (fuel_same root) (read_same (rank_or_link m root) root)
 
-module _ {I T : Type 0} (number : I → ℕ) where
+module _ {T : Type 0} where
   -- the list is the same, and as it must be
-  pub record Reordered (o p : Ordered I T) : Type 0 where
-    pub ordered : IsOrdered number p
-    pub order : order_in number p ≡ order_in number o
-    pub tree : tree_in number p ≡ tree_in number o
+  pub record Reordered (o p : Ordered T) : Type 0 where
+    pub ordered : IsOrdered p
+    pub order : order_in p ≡ order_in o
+    pub tree : tree_in p ≡ tree_in o
 
-  pub same_list : (o p : Ordered I T) → p.root ≡ o.root
-      → ((k : ℕ) → knots_in number p.chains k ≡ knots_in number o.chains k)
-      → ((k : ℕ) → ends_in number p.chains k ≡ ends_in number o.chains k)
+  pub same_list : (o p : Ordered T) → p.root ≡ o.root
+      → ((k : ℕ) → nodes_in p.chains k ≡ nodes_in o.chains k)
+      → ((k : ℕ) → ends_in p.chains k ≡ ends_in o.chains k)
       → live_count p.chains ≡ live_count o.chains
-      → IsOrdered number o → Reordered o p
-  same_list o p root knots ends live is =
-      let n = knots_in number p.chains in
-      let tree = tree_in number o in
-      let stands : Stands n p.root tree = (
+      → IsOrdered o → Reordered o p
+  same_list o p root nodes ends live is =
+      let n = nodes_in p.chains in
+      let tree = tree_in o in
+      let stands : RepresentsTree n p.root tree = (
         root ∙ is.whole.stands.0,
-        Represents-keep (knots_in number o.chains) n None tree (λ j c. knots j) is.whole.stands.1,
+        Represents-keep (nodes_in o.chains) n None tree (λ j c. nodes j) is.whole.stands.1,
       ) in
-      let same : tree_in number p ≡ tree = tree_is n p.root tree stands is.whole.ranked in
-      let order : order_in number p ≡ order_in number o = ap walk same in
-      let linear = chain_where (ends_in number o.chains) (ends_in number p.chains)
-      (Linear (order_in number o)) (λ i on. ends i) is.linear in
+      let same : tree_in p ≡ tree = tree_is n p.root tree stands is.whole.ranked in
+      let order : order_in p ≡ order_in o = ap walk same in
+      let linear = chain_where (ends_in o.chains) (ends_in p.chains)
+      (Linear (order_in o)) (λ i on. ends i) is.linear in
       record {
         ordered = record {
           whole = record {
-            stands = subst (Stands n p.root) (sym same) stands;
+            stands = subst (RepresentsTree n p.root) (sym same) stands;
             distinct = subst IsDistinct (sym same) is.whole.distinct;
             ranked = subst IsRanked (sym same) is.whole.ranked;
           };
-          linear = subst (IsLinear (ends_in number p.chains)) (sym order) linear;
+          linear = subst (IsLinear (ends_in p.chains)) (sym order) linear;
           all = λ i lives. subst (λ t. 0 < count i t) (sym same)
-              (is.all i (subst IsSome (knots i) lives));
+              (is.all i (subst IsSome (nodes i) lives));
           counted = ap length order ∙ is.counted ∙ sym live;
         };
         order = order;

@@ -14,10 +14,10 @@ use Rattle.triple_arena_chain.specs.UniquenessLaws.{linear_apart}
 use Rattle.rank_tree.specs.declared.side.Side.{Side}
 use Rattle.rank_tree.specs.declared.side.Side.TheVariants.{Left, Right}
 use Rattle.triple_arena_ord.specs.NodeShape.{IndexNode}
-use Rattle.rank_tree.specs.Knot.{Knot}
-use Rattle.triple_arena_ord.specs.Node.{knots_in, prev_for, next_for}
+use Rattle.rank_tree.specs.NodeView.{NodeView}
+use Rattle.triple_arena_ord.specs.Node.{nodes_in, prev_for, next_for}
 use Rattle.rank_tree.specs.Tree.{Tree, leaf, node, walk}
-use Rattle.rank_tree.specs.Shape.{knot, root_of, Context, top, under, plug, holder, Stands}
+use Rattle.rank_tree.specs.Shape.{node_view, root_of, Context, top, under, plug, holder, RepresentsTree}
 use Rattle.rank_tree.specs.Search.{IsFreeAt}
 use Rattle.triple_arena_ord.specs.Ordered.{Ordered, IsOrdered, StandsBeside, tree_in, order_in}
 use Rattle.triple_arena_ord.specs.Ordered.{size_in}
@@ -68,29 +68,29 @@ replaces_there w None other same replaces = absurd replaces
 replaces_there w (Some a) other same replaces =
     subst Replaces (sym (same.replaced a.0 (ap (λ d. Some (a.0, d)) replaces))) refl
 
-module _ {I T : Type 0} (number : I → ℕ) (t : T) (o p : Ordered I T) where
+module _ {T : Type 0} (t : T) (o p : Ordered T) where
   -- a new entry at a place is one at the same place
   pub adds_there : (one other : Option (ℕ × Ordering)) (i g : ℕ)
-      → IsSamePlace (order_in number o) one other → AddsAt number one i g t o p
-      → AddsAt number other i g t o p
+      → IsSamePlace (order_in o) one other → AddsAt one i g t o p
+      → AddsAt other i g t o p
   adds_there one other i g same put = record {
-    stands = same.stands (order_in number p) i put.stands;
+    stands = same.stands (order_in p) i put.stands;
     added = put.added;
     counter = put.counter;
     room = put.room;
     ordered = put.ordered;
   }
 
-module _ {I T P : Type 0} (number : I → ℕ) (index generation : P → ℕ)
-    (allows : Option OrdInsertionError → Type 0) (t : T) (o p : Ordered I T) where
+module _ {T P : Type 0} (index generation : P → ℕ)
+    (allows : Option OrdInsertionError → Type 0) (t : T) (o p : Ordered T) where
   -- an insertion at a place is one at the same place
   pub inserted_there : (one other : Option (ℕ × Ordering))
-      (result : Result (P × Option T) OrdInsertionError) → IsSamePlace (order_in number o) one other
-      → IsInsertedAt number index generation allows one t result o p
-      → IsInsertedAt number index generation allows other t result o p
+      (result : Result (P × Option T) OrdInsertionError) → IsSamePlace (order_in o) one other
+      → IsInsertedAt index generation allows one t result o p
+      → IsInsertedAt index generation allows other t result o p
   inserted_there one other result same put = record {
     replaced = λ q u e. let r = put.replaced q u e in (same.replaced (index q) r.0, r.1);
-    added = λ q e. let r = put.added q e in (same.stands (order_in number p) (index q) r.0, r.1);
+    added = λ q e. let r = put.added q e in (same.stands (order_in p) (index q) r.0, r.1);
     fits = put.fits;
     refused = λ error e. let r = put.refused error e in (λ u. r.0 (same.replaces u), r.1);
     same = put.same;
@@ -99,21 +99,21 @@ module _ {I T P : Type 0} (number : I → ℕ) (index generation : P → ℕ)
   -- the same by numbers
   abbrev Numbered : Option (ℕ × Ordering) → Result ((ℕ × ℕ) × Option T) OrdInsertionError → Type 0
   Numbered place result =
-      IsInsertedAt number (λ (q : ℕ × ℕ). q.0) (λ (q : ℕ × ℕ). q.1) allows place t result o p
+      IsInsertedAt (λ (q : ℕ × ℕ). q.0) (λ (q : ℕ × ℕ). q.1) allows place t result o p
 
   inserted_numbered : (place : Option (ℕ × Ordering))
       (result : Result (P × Option T) OrdInsertionError) (a : P) (u : Option T) → result ≡ Ok (a, u)
-      → IsInsertedAt number index generation allows place t result o p
+      → IsInsertedAt index generation allows place t result o p
       → Numbered place (Ok ((index a, generation a), u))
   inserted_numbered place result a u is put = record {
     replaced = λ q v e.
         let z = pair q (Some v) e in
-        subst (λ (q : ℕ × ℕ). (place ≡ Some (q.0, Equal)) × IsReplaced number q.0 q.1 t v o p) z.0
+        subst (λ (q : ℕ × ℕ). (place ≡ Some (q.0, Equal)) × IsReplaced q.0 q.1 t v o p) z.0
         (put.replaced a v (is ∙ ap (λ x. Ok (a, x)) z.1));
     added = λ q e.
         let z = pair q None e in
-        subst (λ (q : ℕ × ℕ). StandsAt place (order_in number o) (order_in number p) q.0
-        × IsAdded number q.0 q.1 t o p) z.0 (put.added a (is ∙ ap (λ x. Ok (a, x)) z.1));
+        subst (λ (q : ℕ × ℕ). StandsAt place (order_in o) (order_in p) q.0
+        × IsAdded q.0 q.1 t o p) z.0 (put.added a (is ∙ ap (λ x. Ok (a, x)) z.1));
     fits = λ q e. put.fits a (is ∙ ap (λ x. Ok (a, x)) (pair q None e).1);
     refused = λ error e. absurd (cc);
     same = λ error e. absurd (cc);
@@ -131,7 +131,7 @@ module _ {I T P : Type 0} (number : I → ℕ) (index generation : P → ℕ)
   inserted_nowhere : (place : Option (ℕ × Ordering))
       (result : Result (P × Option T) OrdInsertionError) (error : OrdInsertionError)
       → result ≡ Err error
-      → IsInsertedAt number index generation allows place t result o p → Numbered place (Err error)
+      → IsInsertedAt index generation allows place t result o p → Numbered place (Err error)
   inserted_nowhere place result error is put = record {
     replaced = λ q v e. absurd (cc);
     added = λ q e. absurd (cc);
@@ -145,23 +145,23 @@ module _ {I T P : Type 0} (number : I → ℕ) (index generation : P → ℕ)
           → ◌≡◌ {A = Result (P × Option T) OrdInsertionError} (Err error) (Err other)
       errs other e = let z : error ≡ other = cc in ap (λ x. Err x) z
 
-module _ {I T P : Type 0} (number : I → ℕ) (index generation : P → ℕ) (takes : Bool) (t : T)
-    (o p : Ordered I T) where
+module _ {T P : Type 0} (index generation : P → ℕ) (takes : Bool) (t : T)
+    (o p : Ordered T) where
   -- an insertion that answers no pointer
   abbrev InsertsSome : Option (ℕ × Ordering) → Result (Option T) OrdInsertionError → Type 0
   InsertsSome place result = (q : ℕ × ℕ)
-      × InsertsAt number (λ (q : ℕ × ℕ). q.0) (λ (q : ℕ × ℕ). q.1) (Some takes) place t
+      × InsertsAt (λ (q : ℕ × ℕ). q.0) (λ (q : ℕ × ℕ). q.1) (Some takes) place t
       (under_pointer q result) o p
 
   pub numbered_ok : (one other : Option (ℕ × Ordering))
       (result : Result (P × Option T) OrdInsertionError) (a : P) (u : Option T) → result ≡ Ok (a, u)
-      → IsSamePlace (order_in number o) one other
-      → InsertsAt number index generation (Some takes) one t result o p → InsertsSome other (Ok u)
+      → IsSamePlace (order_in o) one other
+      → InsertsAt index generation (Some takes) one t result o p → InsertsSome other (Ok u)
   numbered_ok one other result a u is same put = (
     (index a, generation a),
     record {
-      inserted = inserted_numbered number index generation _ t o p other result a u is
-          (inserted_there number index generation _ t o p one other result same put.inserted);
+      inserted = inserted_numbered index generation _ t o p other result a u is
+          (inserted_there index generation _ t o p one other result same put.inserted);
       counter = put.counter;
       room = put.room ∙ ap (λ r. room_left (Some takes) r (size_in o) o.chains.room) is;
       ordered = put.ordered;
@@ -171,14 +171,14 @@ module _ {I T P : Type 0} (number : I → ℕ) (index generation : P → ℕ) (t
   pub numbered_err : (one other : Option (ℕ × Ordering))
       (result : Result (P × Option T) OrdInsertionError) (error : OrdInsertionError)
       → result ≡ Err error
-      → IsSamePlace (order_in number o) one other
-      → InsertsAt number index generation (Some takes) one t result o p
+      → IsSamePlace (order_in o) one other
+      → InsertsAt index generation (Some takes) one t result o p
       → InsertsSome other (Err error)
   numbered_err one other result error is same put = (
     (0, 0),
     record {
-      inserted = inserted_nowhere number index generation _ t o p other result error is
-          (inserted_there number index generation _ t o p one other result same put.inserted);
+      inserted = inserted_nowhere index generation _ t o p other result error is
+          (inserted_there index generation _ t o p one other result same put.inserted);
       counter = put.counter;
       room = put.room ∙ ap (λ r. room_left (Some takes) r (size_in o) o.chains.room) is;
       ordered = put.ordered;
@@ -187,13 +187,13 @@ module _ {I T P : Type 0} (number : I → ℕ) (index generation : P → ℕ) (t
 
 module _ {I T : Type 0} (number : I → ℕ) where
   -- where a new leaf hangs that stands directly before or after an index
-  pub record Settled (o : Ordered I T) (side : Side) (h j : ℕ) (d : Ordering) : Type 0 where
-    pub free : IsFreeAt d (knots_in number o.chains j)
-    pub same : (w : List ℕ) (n : ℕ) → StandsAt (Some (j, d)) (order_in number o) w n
-        → StandsBeside side (order_in number o) w h n
+  pub record Settled (o : Ordered T) (side : Side) (h j : ℕ) (d : Ordering) : Type 0 where
+    pub free : IsFreeAt d (nodes_in o.chains j)
+    pub same : (w : List ℕ) (n : ℕ) → StandsAt (Some (j, d)) (order_in o) w n
+        → StandsBeside side (order_in o) w h n
 
   -- the same of the index that a link is found to name, in the arena as it is seen
-  pub settled_at : (o seen : Ordered I T) (side : Side) (h : ℕ) (d : Ordering) (q : Option I)
+  pub settled_at : (o seen : Ordered T) (side : Side) (h : ℕ) (d : Ordering) (q : Option I)
       → (i : I) × ((q ≡ Some i) × Settled o side h (number i) d)
       → (j : I) → q ≡ Some j → o ≡ seen → Settled seen side h (number j) d
   settled_at o seen side h d q s j here same =
@@ -202,20 +202,20 @@ module _ {I T : Type 0} (number : I → ℕ) where
       subst (λ z. Settled z side h (number j) d) same
       (subst (λ i. Settled o side h (number i) d) named s.1.1)
 
-  record Before (o : Ordered I T) (h : ℕ) : Type 0 where
+  record Before (o : Ordered T) (h : ℕ) : Type 0 where
     index : ℕ
-    is : prev_at (ends_in number o.chains) h ≡ Some index
+    is : prev_at (ends_in o.chains) h ≡ Some index
     settled : Settled o Left h index Greater
 
-  record After (o : Ordered I T) (h : ℕ) : Type 0 where
+  record After (o : Ordered T) (h : ℕ) : Type 0 where
     index : ℕ
-    is : next_at (ends_in number o.chains) h ≡ Some index
+    is : next_at (ends_in o.chains) h ≡ Some index
     settled : Settled o Right h index Less
 
-  module _ (o : Ordered I T) (is : IsOrdered number o) (h : ℕ) (v : Knot)
-      (at : knots_in number o.chains h ≡ Some v) where
-    found : Located (tree_in number o) h
-    found = located top (tree_in number o) h (is.all h (subst IsSome (sym at) refl))
+  module _ (o : Ordered T) (is : IsOrdered o) (h : ℕ) (v : NodeView)
+      (at : nodes_in o.chains h ≡ Some v) where
+    found : Located (tree_in o) h
+    found = located top (tree_in o) h (is.all h (subst IsSome (sym at) refl))
 
     abbrev c : Context
     c = found.context
@@ -229,25 +229,25 @@ module _ {I T : Type 0} (number : I → ℕ) where
     abbrev r : Tree
     r = found.right
 
-    at_h : Some v ≡ Some (knot Left (holder c) (root_of a) k (root_of r))
-    at_h = sym at ∙ (plug-opens (knots_in number o.chains) o.root c (node a h k r)
-        (subst (Stands (knots_in number o.chains) o.root) found.is is.whole.stands)).1.0
+    at_h : Some v ≡ Some (node_view Left (holder c) (root_of a) k (root_of r))
+    at_h = sym at ∙ (plug-opens (nodes_in o.chains) o.root c (node a h k r)
+        (subst (RepresentsTree (nodes_in o.chains) o.root) found.is is.whole.stands)).1.0
 
-    below : v ≡ knot Left (holder c) (root_of a) k (root_of r)
+    below : v ≡ node_view Left (holder c) (root_of a) k (root_of r)
     below = let e = at_h in cc e
 
-    round : order_in number o ≡ (before c ++ walk a) ++ h ∷ (walk r ++ after c)
+    round : order_in o ≡ (before c ++ walk a) ++ h ∷ (walk r ++ after c)
     round = ap walk found.is ∙ plug-walk_is c (node a h k r) ∙ flat c a h (walk r)
 
-    apart : Apart (order_in number o)
-    apart = linear_apart (ends_in number o.chains) None (order_in number o) is.linear
+    apart : Apart (order_in o)
+    apart = linear_apart (ends_in o.chains) None (order_in o) is.linear
 
     before_in : (x : ℕ) → v.left ≡ Some x → Before o h
     before_in x left =
         let f : Final a = final_at a x (sym (ap (λ z. z.left) below) ∙ left) in
         let i = f.index in
         let inner = plug_in (under c Left h k r) f.context in
-        let tree : tree_in number o ≡ plug inner (node f.left i f.rank leaf) =
+        let tree : tree_in o ≡ plug inner (node f.left i f.rank leaf) =
         found.is ∙ ap (λ t. plug c (node t h k r)) f.is
         ∙ sym (plug_in-plug (under c Left h k r) f.context (node f.left i f.rank leaf)) in
         let front = before c ++ walk (plug f.context f.left) in
@@ -255,15 +255,15 @@ module _ {I T : Type 0} (number : I → ℕ) where
         let to_end : before c ++ walk a ≡ front ++ i ∷ [] =
         ap (λ z. before c ++ z) f.at_end
         ∙ sym (append_assoc (before c) (walk (plug f.context f.left)) (i ∷ [])) in
-        let order : order_in number o ≡ (front ++ i ∷ []) ++ h ∷ back = round
+        let order : order_in o ≡ (front ++ i ∷ []) ++ h ∷ back = round
         ∙ ap (λ z. z ++ h ∷ back) to_end in
-        let flat_order : order_in number o ≡ front ++ i ∷ h ∷ back = order
+        let flat_order : order_in o ≡ front ++ i ∷ h ∷ back = order
         ∙ append_assoc front (i ∷ []) (h ∷ back) in
-        let ends = linear_ends (ends_in number o.chains) (front ++ i ∷ []) h back
-        (subst (IsLinear (ends_in number o.chains)) order is.linear) in
-        let node_at = (plug-opens (knots_in number o.chains) o.root inner
+        let ends = linear_ends (ends_in o.chains) (front ++ i ∷ []) h back
+        (subst (IsLinear (ends_in o.chains)) order is.linear) in
+        let node_at = (plug-opens (nodes_in o.chains) o.root inner
         (node f.left i f.rank leaf)
-        (subst (Stands (knots_in number o.chains) o.root) tree is.whole.stands)).1.0 in
+        (subst (RepresentsTree (nodes_in o.chains) o.root) tree is.whole.stands)).1.0 in
         record {
           index = i;
           is = ap prev_in ends ∙ last_snoc front i;
@@ -288,18 +288,18 @@ module _ {I T : Type 0} (number : I → ℕ) where
         let f : First r = first_at r x (sym (ap (λ z. z.right) below) ∙ right) in
         let i = f.index in
         let inner = plug_in (under c Right h k a) f.context in
-        let tree : tree_in number o ≡ plug inner (node leaf i f.rank f.right) =
+        let tree : tree_in o ≡ plug inner (node leaf i f.rank f.right) =
         found.is ∙ ap (λ t. plug c (node a h k t)) f.is
         ∙ sym (plug_in-plug (under c Right h k a) f.context (node leaf i f.rank f.right)) in
         let front = before c ++ walk a in
         let back = walk (plug f.context f.right) ++ after c in
-        let order : order_in number o ≡ front ++ h ∷ i ∷ back = round
+        let order : order_in o ≡ front ++ h ∷ i ∷ back = round
         ∙ ap (λ w. front ++ h ∷ (w ++ after c)) f.at_start in
-        let ends = linear_ends (ends_in number o.chains) front h (i ∷ back)
-        (subst (IsLinear (ends_in number o.chains)) order is.linear) in
-        let node_at = (plug-opens (knots_in number o.chains) o.root inner
+        let ends = linear_ends (ends_in o.chains) front h (i ∷ back)
+        (subst (IsLinear (ends_in o.chains)) order is.linear) in
+        let node_at = (plug-opens (nodes_in o.chains) o.root inner
         (node leaf i f.rank f.right)
-        (subst (Stands (knots_in number o.chains) o.root) tree is.whole.stands)).1.0 in
+        (subst (RepresentsTree (nodes_in o.chains) o.root) tree is.whole.stands)).1.0 in
         record {
           index = i;
           is = ap next_in ends;
@@ -319,27 +319,27 @@ module _ {I T : Type 0} (number : I → ℕ) where
           };
         }
 
-    prev_is : (e : Option (ℕ × IndexLink I (IndexNode I T))) (q : Option ℕ) (i : ℕ)
-        → option_map (λ e. prev_for number Left e.1 h) e ≡ Some q
-        → prev_in (option_map (entry_ends number) e) ≡ Some i → q ≡ Some i
+    prev_is : (e : Option (ℕ × IndexLink (IndexNode T))) (q : Option ℕ) (i : ℕ)
+        → option_map (λ e. prev_for Left e.1 h) e ≡ Some q
+        → prev_in (option_map entry_ends e) ≡ Some i → q ≡ Some i
     prev_is None q i p e = absurd (cc)
-    prev_is (Some l) q i p e = let z : option_map number l.1.prev ≡ q = cc p in sym z ∙ e
+    prev_is (Some l) q i p e = let z : l.1.prev ≡ q = cc p in sym z ∙ e
 
-    next_is : (e : Option (ℕ × IndexLink I (IndexNode I T))) (q : Option ℕ) (i : ℕ)
-        → option_map (λ e. next_for number Right e.1 h) e ≡ Some q
-        → next_in (option_map (entry_ends number) e) ≡ Some i → q ≡ Some i
+    next_is : (e : Option (ℕ × IndexLink (IndexNode T))) (q : Option ℕ) (i : ℕ)
+        → option_map (λ e. next_for Right e.1 h) e ≡ Some q
+        → next_in (option_map entry_ends e) ≡ Some i → q ≡ Some i
     next_is None q i p e = absurd (cc)
-    next_is (Some l) q i p e = let z : option_map number l.1.next ≡ q = cc p in sym z ∙ e
+    next_is (Some l) q i p e = let z : l.1.next ≡ q = cc p in sym z ∙ e
 
     -- the neighbor that was read
     settled_before : (x : ℕ) → v.left ≡ Some x → (q : Option ℕ)
-        → option_map (λ e. prev_for number Left e.1 h) (entry_at o.chains h) ≡ Some q
+        → option_map (λ e. prev_for Left e.1 h) (entry_at o.chains h) ≡ Some q
         → (j : ℕ) × ((q ≡ Some j) × Settled o Left h j Greater)
     settled_before x left q p = let b = before_in x left in
         (b.index, (prev_is (entry_at o.chains h) q b.index p b.is, b.settled))
 
     settled_after : (x : ℕ) → v.right ≡ Some x → (q : Option ℕ)
-        → option_map (λ e. next_for number Right e.1 h) (entry_at o.chains h) ≡ Some q
+        → option_map (λ e. next_for Right e.1 h) (entry_at o.chains h) ≡ Some q
         → (j : ℕ) × ((q ≡ Some j) × Settled o Right h j Less)
     settled_after x right q p = let b = after_in x right in
         (b.index, (next_is (entry_at o.chains h) q b.index p b.is, b.settled))
@@ -347,7 +347,7 @@ module _ {I T : Type 0} (number : I → ℕ) where
     -- the same, by the links as they stand in the nodes
     pub settled_prev : (l : Option I) → is_some l ≡ true → v.left ≡ option_map number l
         → (q : Option I)
-        → option_map (λ e. prev_for number Left e.1 h) (entry_at o.chains h)
+        → option_map (λ e. prev_for Left e.1 h) (entry_at o.chains h)
         ≡ Some (option_map number q)
         → (j : I) × ((q ≡ Some j) × Settled o Left h (number j) Greater)
     settled_prev None some e q p = absurd (cc)
@@ -362,7 +362,7 @@ module _ {I T : Type 0} (number : I → ℕ) where
 
     pub settled_next : (l : Option I) → is_some l ≡ true → v.right ≡ option_map number l
         → (q : Option I)
-        → option_map (λ e. next_for number Right e.1 h) (entry_at o.chains h)
+        → option_map (λ e. next_for Right e.1 h) (entry_at o.chains h)
         ≡ Some (option_map number q)
         → (j : I) × ((q ≡ Some j) × Settled o Right h (number j) Less)
     settled_next None some e q p = absurd (cc)

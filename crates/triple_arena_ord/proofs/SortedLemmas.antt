@@ -1,4 +1,5 @@
 -- A sorted list parts at a key.
+use Rattle.std.specs.List.{AllByRecursion}
 use Rattle.std.proofs.Common.{◌≡◌, ℕ, suc, ◌+◌, List, [], ◌∷◌, get_or, filter_map, Option, Some}
 use Rattle.std.proofs.Common.{None, IsSome, refl, sym, ap, ◌∙◌, subst, arith, false, true}
 use Rattle.std.specs.Option.{option_map}
@@ -8,9 +9,9 @@ use Rattle.std.specs.List.Sorted.{IsSorted}
 use Rattle.std.specs.declared.cmp.Ordering.{Ordering}
 use Rattle.std.specs.declared.cmp.Ordering.TheVariants.{Less, Equal, Greater}
 use Rattle.std.proofs.lemmas.Cmp.{alike_right}
-use Rattle.rank_tree.specs.Search.{AllIn, Before, IsParted}
+use Rattle.rank_tree.specs.Search.{Before, IsParted}
 use Rattle.triple_arena_ord.specs.Ordered.{asked_of}
-use Rattle.rank_tree.specs.DescentLaws.{AllIn-map}
+use Rattle.rank_tree.specs.DescentLaws.{all-map}
 
 before-trans : (a b c : Ordering) → Before a b → Before b c → Before a c
 before-trans a b c p q =
@@ -51,7 +52,7 @@ module _ {K : Type 0} {R : K → K → Ordering} (o : IsTotalOrder R) where
         → listed_of (i ∷ w) ≡ (i, e) ∷ listed_of w
     listed-cons i e w at = rw at refl
 
-    pub parted_from : (k : K) (w : List ℕ) → AllIn (λ i. IsSome (entry i)) w
+    pub parted_from : (k : K) (w : List ℕ) → AllByRecursion (λ i. IsSome (entry i)) w
         → IsSorted below (listed_of w) → IsParted (λ i. asked_of R key k (entry i)) w
     parted_from k [] all s = tt
     parted_from k (i ∷ []) all s = (tt, tt)
@@ -81,7 +82,7 @@ module _ {K : Type 0} {R : K → K → Ordering} (o : IsTotalOrder R) where
             in (
               (
                 step,
-                AllIn-map (λ y. Before (f j) (f y)) (λ y. Before (f i) (f y))
+                all-map (λ y. Before (f j) (f y)) (λ y. Before (f i) (f y))
                     (λ y z. before-trans (f i) (f j) (f y) step z) w later.0,
               ),
               later,

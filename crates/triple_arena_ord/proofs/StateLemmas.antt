@@ -12,7 +12,7 @@ use Rattle.triple_arena_chain.specs.Links.{ends_in, values_in, valued, with_link
 use Rattle.triple_arena_chain.specs.Links.{with_value_in}
 use Rattle.triple_arena_chain.specs.SameLinksLaws.{ends-same_slots, ends-invalidated}
 use Rattle.triple_arena_ord.specs.NodeShape.{IndexNode}
-use Rattle.triple_arena_ord.specs.Node.{knots_in, knot_of, itemed}
+use Rattle.triple_arena_ord.specs.Node.{nodes_in, view_of, itemed}
 use Rattle.triple_arena_ord.specs.Inserted.{IsRenewed, IsReplaced}
 use Rattle.rank_tree.specs.Tree.{walk}
 use Rattle.triple_arena_ord.specs.Ordered.{Ordered, IsOrdered, order_in, entry_in}
@@ -20,15 +20,15 @@ use Rattle.triple_arena_ord.specs.States.{invalidated_in, with_item}
 use Rattle.triple_arena_ord.proofs.SameListLemmas.{Reordered, same_list, tree_same}
 use Rattle.triple_arena_ord.proofs.InsertLemmas.{renewed, renewed_ordered, replaced}
 
-module _ {I T : Type 0} where
+module _ {T : Type 0} where
   -- a node with another item, as it is lent
-  pub item_lent : (c : Content (IndexLink I (IndexNode I T))) (i : ℕ) (v : IndexNode I T) (w : T)
+  pub item_lent : (c : Content (IndexLink (IndexNode T))) (i : ℕ) (v : IndexNode T) (w : T)
       → option_map (λ e. e.1) (values_in c i) ≡ Some v
       → with_value_in c i (record v { t = w })
       ≡ with_link c i (λ link. record link { t = record link.t { t = w } })
   item_lent c i v w is = by (entry_at c i) refl
     where
-      by : (o : Option (ℕ × IndexLink I (IndexNode I T))) → entry_at c i ≡ o
+      by : (o : Option (ℕ × IndexLink (IndexNode T))) → entry_at c i ≡ o
           → with_value_in c i (record v { t = w })
           ≡ with_link c i (λ link. record link { t = record link.t { t = w } })
       by None at = ap (with_link_of c i (λ link. record link { t = record v { t = w } })) at
@@ -38,88 +38,88 @@ module _ {I T : Type 0} where
           sym (ap (λ o. option_map (λ e. e.1) (option_map valued o)) at) ∙ is in
           let node : e.1.t ≡ v = cc found in
           ap (with_link_of c i (λ link. record link { t = record v { t = w } })) at
-          ∙ ap (λ (n : IndexNode I T). with_link_of c i
+          ∙ ap (λ (n : IndexNode T). with_link_of c i
           (λ link. record link { t = record n { t = w } }) (Some e)) (sym node)
           ∙ sym (ap (with_link_of c i (λ link. record link { t = record link.t { t = w } })) at)
 
-module _ {I T : Type 0} (number : I → ℕ) where
-  knots-invalidated : (last : Option ℕ) (c : Content (IndexLink I (IndexNode I T))) (i j : ℕ)
-      → knots_in number (invalidated last c i) j ≡ knots_in number c j
-  knots-invalidated last c i j =
-      ap (λ o. option_map (λ e. knot_of number e.1) (option_map valued o))
+module _ {T : Type 0} where
+  nodes-invalidated : (last : Option ℕ) (c : Content (IndexLink (IndexNode T))) (i j : ℕ)
+      → nodes_in (invalidated last c i) j ≡ nodes_in c j
+  nodes-invalidated last c i j =
+      ap (λ o. option_map (λ e. view_of e.1) (option_map valued o))
       (entry-invalidated last c i j)
       ∙ elim (eqb_tells j i) [
-        | inl same ↦ rw same.0 (by (entry_at c i) ∙ ap (λ k. knots_in number c k) (sym same.1))
+        | inl same ↦ rw same.0 (by (entry_at c i) ∙ ap (λ k. nodes_in c k) (sym same.1))
         | inr other ↦ rw other.0 refl
       ]
     where
-      by : (o : Option (ℕ × IndexLink I (IndexNode I T)))
-          → option_map (λ e. knot_of number e.1)
+      by : (o : Option (ℕ × IndexLink (IndexNode T)))
+          → option_map (λ e. view_of e.1)
           (option_map valued (option_map (λ e. (next_generation last c.counter, e.1)) o))
-          ≡ option_map (λ e. knot_of number e.1) (option_map valued o)
+          ≡ option_map (λ e. view_of e.1) (option_map valued o)
       by None = refl
       by (Some e) = refl
 
   -- the pointer of one entry changes alone
-  pub order-invalidated : (last : Option ℕ) (o : Ordered I T) (i : ℕ)
-      → order_in number (invalidated_in last o i) ≡ order_in number o
+  pub order-invalidated : (last : Option ℕ) (o : Ordered T) (i : ℕ)
+      → order_in (invalidated_in last o i) ≡ order_in o
   order-invalidated last o i =
-      ap walk (tree_same (knots_in number (invalidated last o.chains i)) (knots_in number o.chains)
-      (knots-invalidated last o.chains i) o.root)
+      ap walk (tree_same (nodes_in (invalidated last o.chains i)) (nodes_in o.chains)
+      (nodes-invalidated last o.chains i) o.root)
 
   -- the same slots
-  pub same_slots_list : (o p : Ordered I T) → p.root ≡ o.root → p.chains.slots ≡ o.chains.slots
-      → IsOrdered number o → Reordered number o p
+  pub same_slots_list : (o p : Ordered T) → p.root ≡ o.root → p.chains.slots ≡ o.chains.slots
+      → IsOrdered o → Reordered o p
   same_slots_list o p root slots is =
-      same_list number o p root
-      (λ k. ap (λ e. option_map (λ e. knot_of number e.1) (option_map valued e))
+      same_list o p root
+      (λ k. ap (λ e. option_map (λ e. view_of e.1) (option_map valued e))
       (entry-same_slots p.chains o.chains slots k))
-      (ends-same_slots number o.chains p.chains slots) (ap (count_by is_some) slots) is
+      (ends-same_slots o.chains p.chains slots) (ap (count_by is_some) slots) is
 
   -- whether or not there is an entry at the pointer
-  pub invalidates_list : {A : Type 0} (last : Option ℕ) (o p : Ordered I T) (i : ℕ) (r : Option A)
+  pub invalidates_list : {A : Type 0} (last : Option ℕ) (o p : Ordered T) (i : ℕ) (r : Option A)
       → p.root ≡ o.root
       → OnSome r (p.chains ≡ invalidated last o.chains i) → IfNone r (p.chains ≡ o.chains)
-      → IsOrdered number o → Reordered number o p
+      → IsOrdered o → Reordered o p
   invalidates_list last o p i None root some none is =
-      same_list number o p root (λ k. ap (λ c. knots_in number c k) none)
-      (λ k. ap (λ c. ends_in number c k) none) (ap live_count none) is
+      same_list o p root (λ k. ap (λ c. nodes_in c k) none)
+      (λ k. ap (λ c. ends_in c k) none) (ap live_count none) is
   invalidates_list last o p i (Some a) root some none is =
-      same_list number o p root
-      (λ k. ap (λ c. knots_in number c k) some ∙ knots-invalidated last o.chains i k)
-      (λ k. ap (λ c. ends_in number c k) some ∙ ends-invalidated number last o.chains i k)
+      same_list o p root
+      (λ k. ap (λ c. nodes_in c k) some ∙ nodes-invalidated last o.chains i k)
+      (λ k. ap (λ c. ends_in c k) some ∙ ends-invalidated last o.chains i k)
       (ap live_count some ∙ live-invalidated last o.chains i) is
 
   -- an item that is lent leaves the list, whatever is written
-  pub lent_list : (o : Ordered I T) (i : ℕ) (v : IndexNode I T) (w : T)
+  pub lent_list : (o : Ordered T) (i : ℕ) (v : IndexNode T) (w : T)
       → option_map (λ e. e.1) (values_in o.chains i) ≡ Some v
-      → IsOrdered number o → Reordered number o
+      → IsOrdered o → Reordered o
       (record o { chains = with_value_in o.chains i (record v { t = w }) })
   lent_list o i v w is ordered = by (values_in o.chains i) refl
     where
-      p : Ordered I T
+      p : Ordered T
       p = record o { chains = with_value_in o.chains i (record v { t = w }) }
 
-      by : (e : Option (ℕ × IndexNode I T)) → values_in o.chains i ≡ e → Reordered number o p
+      by : (e : Option (ℕ × IndexNode T)) → values_in o.chains i ≡ e → Reordered o p
       by None at = absurd (let no : None ≡ Some v = sym (ap (option_map (λ e. e.1)) at)
           ∙ is in cc no)
       by (Some e) at =
           let found : Some e.1 ≡ Some v = sym (ap (option_map (λ e. e.1)) at) ∙ is in
           let node : e.1 ≡ v = cc found in
           let here : values_in o.chains i ≡ Some (e.0, v) = at ∙ ap (λ n. Some (e.0, n)) node in
-          renewed_ordered number o p i e.0 w v.t refl
-          (renewed number o.chains i e.0 v (record v { t = w }) here refl) ordered
+          renewed_ordered o p i e.0 w v.t refl
+          (renewed o.chains i e.0 v (record v { t = w }) here refl) ordered
 
   -- an item that is written in place of another
-  pub record Written (o : Ordered I T) (i g : ℕ) (t u : T) : Type 0 where
-    pub ordered : IsOrdered number (with_item o i t)
-    pub replaced : IsReplaced number i g t u o (with_item o i t)
+  pub record Written (o : Ordered T) (i g : ℕ) (t u : T) : Type 0 where
+    pub ordered : IsOrdered (with_item o i t)
+    pub replaced : IsReplaced i g t u o (with_item o i t)
 
-  pub written : (o : Ordered I T) (i g : ℕ) (t u : T) → IsOrdered number o
+  pub written : (o : Ordered T) (i g : ℕ) (t u : T) → IsOrdered o
       → entry_in o i ≡ Some (g, u) → Written o i g t u
   written o i g t u is at = by (values_in o.chains i) refl
     where
-      by : (e : Option (ℕ × IndexNode I T)) → values_in o.chains i ≡ e → Written o i g t u
+      by : (e : Option (ℕ × IndexNode T)) → values_in o.chains i ≡ e → Written o i g t u
       by None e = absurd (let no : None ≡ Some (g, u) = sym (ap (option_map itemed) e)
           ∙ at in cc no)
       by (Some n) e =
@@ -132,20 +132,20 @@ module _ {I T : Type 0} (number : I → ℕ) where
           let d = with_value_in o.chains i (record n.1 { t = t }) in
           let lent : d ≡ (with_item o i t).chains =
           item_lent o.chains i n.1 t (ap (option_map (λ e. e.1)) e) in
-          let renewed_here = renewed number o.chains i n.0 n.1 (record n.1 { t = t }) e refl in
-          let r : IsRenewed number i g t u o.chains (with_item o i t).chains =
-          subst (λ c. IsRenewed number i g t u o.chains c) lent
-          (subst (λ h. IsRenewed number i h t u o.chains d) stamp
-          (subst (λ x. IsRenewed number i n.0 t x o.chains d) item renewed_here)) in
+          let renewed_here = renewed o.chains i n.0 n.1 (record n.1 { t = t }) e refl in
+          let r : IsRenewed i g t u o.chains (with_item o i t).chains =
+          subst (λ c. IsRenewed i g t u o.chains c) lent
+          (subst (λ h. IsRenewed i h t u o.chains d) stamp
+          (subst (λ x. IsRenewed i n.0 t x o.chains d) item renewed_here)) in
           record {
-            ordered = (renewed_ordered number o (with_item o i t) i g t u refl r is).ordered;
-            replaced = replaced number o o (with_item o i t) refl i g t u refl r is;
+            ordered = (renewed_ordered o (with_item o i t) i g t u refl r is).ordered;
+            replaced = replaced o o (with_item o i t) refl i g t u refl r is;
           }
 
-  pub written_ordered : (o : Ordered I T) (i : ℕ) (t : T) → IsOrdered number o
-      → IsSome (entry_in o i) → IsOrdered number (with_item o i t)
+  pub written_ordered : (o : Ordered T) (i : ℕ) (t : T) → IsOrdered o
+      → IsSome (entry_in o i) → IsOrdered (with_item o i t)
   written_ordered o i t is live = by (entry_in o i) refl live
     where
-      by : (e : Option (ℕ × T)) → entry_in o i ≡ e → IsSome e → IsOrdered number (with_item o i t)
+      by : (e : Option (ℕ × T)) → entry_in o i ≡ e → IsSome e → IsOrdered (with_item o i t)
       by None at some = absurd (cc)
       by (Some e) at some = (written o i e.0 t e.1 is at).ordered

@@ -7,9 +7,9 @@ use Rattle.std.specs.declared.cmp.Ordering.TheVariants.{Less, Equal, Greater}
 use Rattle.triple_arena_chain.specs.Chains.{On}
 use Rattle.rank_tree.specs.Tree.{Tree, leaf, node, walk}
 use Rattle.rank_tree.specs.Shape.{root_of, count}
-use Rattle.rank_tree.specs.Search.{AllIn, Before, IsParted, Places, IsAnswer}
+use Rattle.rank_tree.specs.Search.{Before, IsParted, EndsAt, IsAnswer}
 use Rattle.triple_arena_ord.specs.Asked.{left_by, IsWay}
-use Rattle.rank_tree.specs.DescentLaws.{AllIn-append, AllIn-back, AllIn-map, parted-after}
+use Rattle.rank_tree.specs.DescentLaws.{all-append, all-back, all-map, parted-after}
 use Rattle.rank_tree.specs.DescentLaws.{parted-before}
 use Rattle.rank_tree.specs.FrameLaws.{one-same}
 use Rattle.triple_arena_ord.proofs.SeekLemmas.{all-counted}
@@ -18,28 +18,29 @@ use Rattle.triple_arena_ord.proofs.SeekLemmas.{all-counted}
 pub walk-counted : (t : Tree) (j : ℕ) → On (walk t) j → 0 < count j t
 walk-counted t j on = by t refl
   where
-    counted : (t : Tree) → AllIn (λ i. 0 < count i t) (walk t)
+    counted : (t : Tree) → AllByRecursion (λ i. 0 < count i t) (walk t)
     counted leaf = tt
     counted (node l i k r) =
         let here = one-same i in
-        AllIn-append (λ j. 0 < count j (node l i k r)) (walk l) (i ∷ walk r)
-        (AllIn-map (λ j. 0 < count j l) (λ j. 0 < count j (node l i k r)) (λ j h. omega (arith, h))
+        all-append (λ j. 0 < count j (node l i k r)) (walk l) (i ∷ walk r)
+        (all-map (λ j. 0 < count j l) (λ j. 0 < count j (node l i k r)) (λ j h. omega (arith, h))
         (walk l) (counted l)) (
           omega (arith, here),
-          AllIn-map (λ j. 0 < count j r) (λ j. 0 < count j (node l i k r))
+          all-map (λ j. 0 < count j r) (λ j. 0 < count j (node l i k r))
               (λ j h. omega (arith, h)) (walk r) (counted r),
         )
 
     by : (u : Tree) → t ≡ u → 0 < count j t
-    by u e = (AllIn-back (λ i. 0 < count i t) on.front (j ∷ on.back)
-        (subst (AllIn (λ i. 0 < count i t)) on.is (counted t))).0
+    by u e = (all-back (λ i. 0 < count i t) on.front (j ∷ on.back)
+        (subst (AllByRecursion (λ i. 0 < count i t)) on.is (counted t))).0
 
 -- and what is counted is on the walk
-on_all : (before xs : List ℕ) → AllIn (On (before ++ xs)) xs
+on_all : (before xs : List ℕ) → AllByRecursion (On (before ++ xs)) xs
 on_all before [] = tt
 on_all before (x ∷ xs) = (
   record { front = before; back = xs; is = refl },
-  subst (λ l. AllIn (On l) xs) (append_assoc before (x ∷ []) xs) (on_all (before ++ x ∷ []) xs),
+  subst (λ l. AllByRecursion (On l) xs) (append_assoc before (x ∷ []) xs)
+      (on_all (before ++ x ∷ []) xs),
 )
 
 pub counted-walk : (t : Tree) (j : ℕ) → 0 < count j t → On (walk t) j
@@ -95,8 +96,9 @@ module _ (f : ℕ → Ordering) where
   -- it ends the questions, or is a neighbor of the gap
   way_places : (asked : List (ℕ × Ordering)) (low w high : List ℕ) → IsWay asked w
       → AllByRecursion (λ (a : ℕ × Ordering). f a.0 ≡ a.1) asked → IsParted f (low ++ (w ++ high))
-      → AllIn (λ y. f y ≡ Greater) low → AllIn (λ y. f y ≡ Less) high → (i : ℕ) (d : Ordering)
-      → last_or None asked ≡ Some (i, d) → Places f (low ++ (w ++ high)) i d
+      → AllByRecursion (λ y. f y ≡ Greater) low → AllByRecursion (λ y. f y ≡ Less) high
+      → (i : ℕ) (d : Ordering)
+      → last_or None asked ≡ Some (i, d) → EndsAt f (low ++ (w ++ high)) i d
   way_places [] low w high way all parted below above i d e = absurd (cc)
   way_places (a ∷ []) low w high way all parted below above i d e =
       let z = pair_some a i d e in
@@ -105,10 +107,10 @@ module _ (f : ℕ → Ordering) where
         after = way.0.back ++ high;
         is = ap (λ l. low ++ (l ++ high)) way.0.is
             ∙ simp append_assoc (ap (λ x. low ++ (way.0.front ++ x ∷ (way.0.back ++ high))) z.0);
-        less = λ u. AllIn-append (λ y. f y ≡ Greater) low way.0.front below
+        less = λ u. all-append (λ y. f y ≡ Greater) low way.0.front below
             (let nil : way.0.front ≡ [] = ap (λ c. left_by c way.0.front way.0.back) (sym (z.1 ∙ u))
             ∙ way.1 in rw nil tt);
-        greater = λ u. AllIn-append (λ y. f y ≡ Less) way.0.back high
+        greater = λ u. all-append (λ y. f y ≡ Less) way.0.back high
             (let nil : way.0.back ≡ [] = ap (λ c. left_by c way.0.front way.0.back) (sym (z.1 ∙ u))
             ∙ way.1 in rw nil tt) above;
       }
@@ -134,17 +136,17 @@ module _ (f : ℕ → Ordering) where
 
       turn : (c : Ordering) → a.1 ≡ c
           → (a.1 ≡ Less → IsParted f (low ++ (way.0.front ++ a.0 ∷ (way.0.back ++ high)))
-          → AllIn (λ y. f y ≡ Less) (a.0 ∷ (way.0.back ++ high)) → Places f
+          → AllByRecursion (λ y. f y ≡ Less) (a.0 ∷ (way.0.back ++ high)) → EndsAt f
           (low ++ (way.0.front ++ a.0 ∷ (way.0.back ++ high))) i d)
           → (a.1 ≡ Greater → IsParted f ((low ++ (way.0.front ++ a.0 ∷ [])) ++ (way.0.back ++ high))
-          → AllIn (λ y. f y ≡ Greater) (low ++ (way.0.front ++ a.0 ∷ []))
-          → Places f ((low ++ (way.0.front ++ a.0 ∷ [])) ++ (way.0.back ++ high)) i d)
-          → Places f (low ++ (w ++ high)) i d
+          → AllByRecursion (λ y. f y ≡ Greater) (low ++ (way.0.front ++ a.0 ∷ []))
+          → EndsAt f ((low ++ (way.0.front ++ a.0 ∷ [])) ++ (way.0.back ++ high)) i d)
+          → EndsAt f (low ++ (w ++ high)) i d
       turn Less u to_left to_right =
           let here : f a.0 ≡ Less = all.0 ∙ u in
-          subst (λ l. Places f l i d) (sym cut) (to_left u (subst (IsParted f) cut parted) (
+          subst (λ l. EndsAt f l i d) (sym cut) (to_left u (subst (IsParted f) cut parted) (
             here,
-            AllIn-map (λ y. Before (f a.0) (f y)) (λ y. f y ≡ Less) (λ y z. z.less here)
+            all-map (λ y. Before (f a.0) (f y)) (λ y. f y ≡ Less) (λ y z. z.less here)
                 (way.0.back ++ high) (parted-after f (low ++ way.0.front) a.0 (way.0.back ++ high)
                 opened),
           ))
@@ -161,12 +163,12 @@ module _ (f : ℕ → Ordering) where
           empty (x ∷ l) n v = absurd (cc)
       turn Greater u to_left to_right =
           let here : f a.0 ≡ Greater = all.0 ∙ u in
-          subst (λ l. Places f l i d) (sym (cut ∙ second))
+          subst (λ l. EndsAt f l i d) (sym (cut ∙ second))
           (to_right u (subst (IsParted f) (cut ∙ second) parted)
-          (AllIn-append (λ y. f y ≡ Greater) low (way.0.front ++ a.0 ∷ []) below
-          (AllIn-append (λ y. f y ≡ Greater) way.0.front (a.0 ∷ [])
-          (AllIn-back (λ y. f y ≡ Greater) low way.0.front
-          (AllIn-map (λ y. Before (f y) (f a.0)) (λ y. f y ≡ Greater) (λ y z. z.greater here)
+          (all-append (λ y. f y ≡ Greater) low (way.0.front ++ a.0 ∷ []) below
+          (all-append (λ y. f y ≡ Greater) way.0.front (a.0 ∷ [])
+          (all-back (λ y. f y ≡ Greater) low way.0.front
+          (all-map (λ y. Before (f y) (f a.0)) (λ y. f y ≡ Greater) (λ y z. z.greater here)
           (low ++ way.0.front)
           (parted-before f (low ++ way.0.front) a.0 (way.0.back ++ high) opened)))
           (here, tt))))
@@ -177,7 +179,7 @@ module _ (f : ℕ → Ordering) where
     empty = λ u. none asked way u;
     lives = λ i d u. walk-counted t i (way_on asked (walk t) way i d u);
     asked = λ i d u. last_answers asked all i d u;
-    parted = λ i d u p. subst (λ l. Places f l i d) (append-nil (walk t))
+    parted = λ i d u p. subst (λ l. EndsAt f l i d) (append-nil (walk t))
         (way_places asked [] (walk t) [] way all (subst (IsParted f) (sym (append-nil (walk t))) p)
         tt tt i d u);
   }

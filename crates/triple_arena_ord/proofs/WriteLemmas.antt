@@ -7,49 +7,49 @@ use Rattle.triple_arena_chain.specs.LinkShape.{IndexLink}
 use Rattle.triple_arena_chain.specs.Links.{values_in, with_value_in}
 use Rattle.triple_arena_chain.specs.LinkLaws.{values-with_value_in}
 use Rattle.triple_arena_ord.specs.NodeShape.{IndexNode}
-use Rattle.triple_arena_ord.specs.Node.{knots_in, knot_of}
-use Rattle.rank_tree.specs.Knot.{Knot}
+use Rattle.triple_arena_ord.specs.Node.{nodes_in, view_of}
+use Rattle.rank_tree.specs.NodeView.{NodeView}
 use Rattle.rank_tree.specs.Store.{Written}
 
-seen : (v w : Knot) → ◌≡◌ {A = Option Knot} (Some v) (Some w) → v ≡ w
+seen : (v w : NodeView) → ◌≡◌ {A = Option NodeView} (Some v) (Some w) → v ≡ w
 seen v w h = cc
 
-module _ {I T : Type 0} (number : I → ℕ) where
-  abbrev knot : ℕ × IndexNode I T → Knot
-  knot entry = knot_of number entry.1
+module _ {T : Type 0} where
+  abbrev node_view : ℕ × IndexNode T → NodeView
+  node_view entry = view_of entry.1
 
-  abbrev renewed : IndexNode I T → ℕ × IndexNode I T → ℕ × IndexNode I T
+  abbrev renewed : IndexNode T → ℕ × IndexNode T → ℕ × IndexNode T
   renewed v entry = (entry.0, v)
 
-  written_here : (v : IndexNode I T) (o : Option (ℕ × IndexNode I T)) → IsSome (option_map knot o)
-      → option_map knot (option_map (renewed v) o) ≡ Some (knot_of number v)
+  written_here : (v : IndexNode T) (o : Option (ℕ × IndexNode T)) → IsSome (option_map node_view o)
+      → option_map node_view (option_map (renewed v) o) ≡ Some (view_of v)
   written_here v None h = absurd (cc)
   written_here v (Some e) h = refl
 
-  pub written : (c : Content (IndexLink I (IndexNode I T))) (i : ℕ) (v : IndexNode I T)
-      → IsSome (knots_in number c i)
-      → Written (knots_in number c) (knots_in number (with_value_in c i v)) i (knot_of number v)
+  pub written : (c : Content (IndexLink (IndexNode T))) (i : ℕ) (v : IndexNode T)
+      → IsSome (nodes_in c i)
+      → Written (nodes_in c) (nodes_in (with_value_in c i v)) i (view_of v)
   written c i v lives = record {
-    here = ap (option_map knot) (values-with_value_in c i v i)
+    here = ap (option_map node_view) (values-with_value_in c i v i)
         ∙ rw (eq-eqb i i refl) (written_here v (values_in c i) lives);
-    elsewhere = λ j other. ap (option_map knot) (values-with_value_in c i v j)
+    elsewhere = λ j other. ap (option_map node_view) (values-with_value_in c i v j)
         ∙ rw (ne_eqb j i other) refl;
   }
 
-  there : (u : IndexNode I T) (o : Option (ℕ × IndexNode I T)) → option_map (λ e. e.1) o ≡ Some u
-      → option_map knot o ≡ Some (knot_of number u)
+  there : (u : IndexNode T) (o : Option (ℕ × IndexNode T)) → option_map (λ e. e.1) o ≡ Some u
+      → option_map node_view o ≡ Some (view_of u)
   there u None h = absurd (cc)
-  there u (Some e) h = let z : e.1 ≡ u = cc in ap (λ n. Some (knot_of number n)) z
+  there u (Some e) h = let z : e.1 ≡ u = cc in ap (λ n. Some (view_of n)) z
 
   -- a write of one field
-  pub written_in : (c : Content (IndexLink I (IndexNode I T))) (i : ℕ) (u v : IndexNode I T)
-      (k : Knot → Knot)
-      → IsSome (knots_in number c i) → option_map (λ e. e.1) (values_in c i) ≡ Some u
-      → knot_of number v ≡ k (knot_of number u)
-      → (w : Knot) → knots_in number c i ≡ Some w
-      → Written (knots_in number c) (knots_in number (with_value_in c i v)) i (k w)
+  pub written_in : (c : Content (IndexLink (IndexNode T))) (i : ℕ) (u v : IndexNode T)
+      (k : NodeView → NodeView)
+      → IsSome (nodes_in c i) → option_map (λ e. e.1) (values_in c i) ≡ Some u
+      → view_of v ≡ k (view_of u)
+      → (w : NodeView) → nodes_in c i ≡ Some w
+      → Written (nodes_in c) (nodes_in (with_value_in c i v)) i (k w)
   written_in c i u v k lives is same w at =
-      let it : knot_of number u ≡ w =
-      seen (knot_of number u) w (sym (there u (values_in c i) is) ∙ at) in
-      subst (Written (knots_in number c) (knots_in number (with_value_in c i v)) i) (same ∙ ap k it)
+      let it : view_of u ≡ w =
+      seen (view_of u) w (sym (there u (values_in c i) is) ∙ at) in
+      subst (Written (nodes_in c) (nodes_in (with_value_in c i v)) i) (same ∙ ap k it)
       (written c i v lives)

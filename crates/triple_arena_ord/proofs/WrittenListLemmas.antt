@@ -12,17 +12,17 @@ use Rattle.triple_arena_chain.specs.UniquenessLaws.{linear_apart}
 use Rattle.triple_arena_chain.specs.Lists.{Linear}
 use Rattle.triple_arena_chain.specs.Links.{ends_in, entry_ends, valued}
 use Rattle.rank_tree.specs.Tree.{Tree, leaf, node, walk, IsRanked}
-use Rattle.rank_tree.specs.Shape.{Stands, one, count, IsDistinct}
+use Rattle.rank_tree.specs.Shape.{RepresentsTree, one, count, IsDistinct}
 use Rattle.rank_tree.specs.FrameLaws.{one-same}
 use Rattle.rank_tree.specs.UniqueLaws.{tree_is}
 use Rattle.rank_tree.specs.HalvingLaws.{halving_ranked}
 use Rattle.rank_tree.specs.Halving.{IsHalvingOf}
 use Rattle.triple_arena_ord.specs.NodeShape.{IndexNode}
-use Rattle.triple_arena_ord.specs.Node.{knots_in, knot_of, rest}
+use Rattle.triple_arena_ord.specs.Node.{nodes_in, view_of, rest}
 use Rattle.triple_arena_ord.specs.Ordered.{Ordered, IsOrdered, tree_in, order_in}
 use Rattle.triple_arena_ord.specs.Rebuilt.{IsRebuilt}
 use Rattle.triple_arena_ord.proofs.RestLemmas.{Rested, rested}
-use Rattle.triple_arena_ord.proofs.RebuildLemmas.{distinct_walk, off_uncounted, live_knot}
+use Rattle.triple_arena_ord.proofs.RebuildLemmas.{distinct_walk, off_uncounted, live_node}
 
 -- what is on the walk counts
 pub on_counted : (t : Tree) (j : ℕ) → On (walk t) j → 0 < count j t
@@ -50,64 +50,64 @@ counted_on t j more =
       | inl off ↦ absurd (let none = off_uncounted t j off in omega (arith, none, more))
     ]
 
-module _ {I T : Type 0} (number : I → ℕ) where
-  knot_ends : (c : Content (IndexLink I (IndexNode I T))) (k : ℕ) → IsSome (knots_in number c k)
-      → IsSome (ends_in number c k)
-  knot_ends c k some = by (entry_at c k) some
+module _ {T : Type 0} where
+  node_ends : (c : Content (IndexLink (IndexNode T))) (k : ℕ) → IsSome (nodes_in c k)
+      → IsSome (ends_in c k)
+  node_ends c k some = by (entry_at c k) some
     where
-      by : (o : Option (ℕ × IndexLink I (IndexNode I T)))
-          → IsSome (option_map (λ e. knot_of number e.1) (option_map valued o))
-          → IsSome (option_map (entry_ends number) o)
+      by : (o : Option (ℕ × IndexLink (IndexNode T)))
+          → IsSome (option_map (λ e. view_of e.1) (option_map valued o))
+          → IsSome (option_map entry_ends o)
       by None h = absurd (true≢false (sym h))
       by (Some e) h = refl
 
   -- each live index is on the list of an ordered arena
-  pub on_order : (o : Ordered I T) → IsOrdered number o → (i : ℕ)
-      → IsSome (ends_in number o.chains i) → On (order_in number o) i
+  pub on_order : (o : Ordered T) → IsOrdered o → (i : ℕ)
+      → IsSome (ends_in o.chains i) → On (order_in o) i
   on_order o is i some =
-      counted_on (tree_in number o) i (is.all i (live_knot number o.chains i some))
+      counted_on (tree_in o) i (is.all i (live_node o.chains i some))
 
-  module _ (mid : Content (IndexLink I (IndexNode I T))) (w : List ℕ)
-      (linear : IsLinear (ends_in number mid) w)
-      (whole : (k : ℕ) → IsSome (ends_in number mid k) → On w k) (long : length w ≡ live_count mid)
+  module _ (mid : Content (IndexLink (IndexNode T))) (w : List ℕ)
+      (linear : IsLinear (ends_in mid) w)
+      (whole : (k : ℕ) → IsSome (ends_in mid k) → On w k) (long : length w ≡ live_count mid)
     where
       -- what the rebuild leaves
-      pub record IsWritten (new : Ordered I T) : Type 0 where
-        pub ordered : IsOrdered number new
-        pub order : order_in number new ≡ w
-        pub tree : IsHalvingOf (order_in number new) (tree_in number new)
-        pub stays : Rested number mid new.chains
+      pub record IsWritten (new : Ordered T) : Type 0 where
+        pub ordered : IsOrdered new
+        pub order : order_in new ≡ w
+        pub tree : IsHalvingOf (order_in new) (tree_in new)
+        pub stays : Rested mid new.chains
 
-      pub written : (new : Ordered I T) → rest new.chains ≡ rest mid
-          → IsRebuilt w new.root (knots_in number new.chains) → IsWritten new
+      pub written : (new : Ordered T) → rest new.chains ≡ rest mid
+          → IsRebuilt w new.root (nodes_in new.chains) → IsWritten new
       written new keeps b =
-          let r = rested number mid new.chains keeps in
+          let r = rested mid new.chains keeps in
           let ranked : IsRanked b.tree = halving_ranked w b.tree b.halving in
-          let same : tree_in number new ≡ b.tree =
-          tree_is (knots_in number new.chains) new.root b.tree b.hangs ranked in
-          let order : order_in number new ≡ w = ap walk same ∙ b.halving.is_walk in
-          let apart = linear_apart (ends_in number mid) None w linear in
+          let same : tree_in new ≡ b.tree =
+          tree_is (nodes_in new.chains) new.root b.tree b.hangs ranked in
+          let order : order_in new ≡ w = ap walk same ∙ b.halving.is_walk in
+          let apart = linear_apart (ends_in mid) None w linear in
           let distinct = distinct_walk b.tree w b.halving.is_walk apart in
-          let there = chain_where (ends_in number mid) (ends_in number new.chains) (Linear w)
+          let there = chain_where (ends_in mid) (ends_in new.chains) (Linear w)
           (λ i on. r.ends i) linear in
           record {
             ordered = record {
               whole = record {
-                stands = subst (Stands (knots_in number new.chains) new.root) (sym same) b.hangs;
+                stands = subst (RepresentsTree (nodes_in new.chains) new.root) (sym same) b.hangs;
                 distinct = subst IsDistinct (sym same) distinct;
                 ranked = subst IsRanked (sym same) ranked;
               };
-              linear = subst (IsLinear (ends_in number new.chains)) (sym order) there;
+              linear = subst (IsLinear (ends_in new.chains)) (sym order) there;
               all = λ i lives.
-                  let some : IsSome (ends_in number mid i) =
-                  subst IsSome (r.ends i) (knot_ends new.chains i lives) in
+                  let some : IsSome (ends_in mid i) =
+                  subst IsSome (r.ends i) (node_ends new.chains i lives) in
                   subst (λ t. 0 < count i t) (sym same)
                   (on_counted b.tree i (subst (λ l. On l i) (sym b.halving.is_walk)
                   (whole i some)));
               counted = ap length order ∙ long ∙ sym r.kept.live;
             };
             order = order;
-            tree = subst (IsHalvingOf (order_in number new)) (sym same)
+            tree = subst (IsHalvingOf (order_in new)) (sym same)
                 (subst (λ l. IsHalvingOf l b.tree) (sym order) b.halving);
             stays = r;
           }

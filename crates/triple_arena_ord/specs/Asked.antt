@@ -67,5 +67,5 @@ abbrev pub answer_of : {T : Type 0} → (ℕ → ℕ × T → Ordering) → ℕ 
 answer_of side i None = Equal
 answer_of side i (Some e) = side i e
 
-abbrev pub answer_at : {I T : Type 0} → (ℕ → ℕ × T → Ordering) → Ordered I T → ℕ → Ordering
+abbrev pub answer_at : {T : Type 0} → (ℕ → ℕ × T → Ordering) → Ordered T → ℕ → Ordering
 answer_at side o i = answer_of side i (entry_in o i)

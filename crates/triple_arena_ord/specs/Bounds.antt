@@ -22,11 +22,11 @@ first_entry (e ∷ entries) = Some (e.0, e.1.0)
 
 -- the entries of the list for whose items this holds come before all others, and the pointer is to
 -- the first of the others
-pub record IsBound {I T P : Type 0} (number : I → ℕ) (index generation : P → ℕ)
-    (comes_before : T → Type 0) (result : Option P) (o : Ordered I T) : Type 0 where
+pub record IsBound {T P : Type 0} (index generation : P → ℕ)
+    (comes_before : T → Type 0) (result : Option P) (o : Ordered T) : Type 0 where
   pub low : List (ℕ × (ℕ × T))
   pub high : List (ℕ × (ℕ × T))
-  pub is : ordered_entries number o ≡ low ++ high
+  pub is : ordered_entries o ≡ low ++ high
   pub all_before : AllByRecursion (λ e. comes_before e.1.1) low
   pub none_before : AllByRecursion (λ e. comes_before e.1.1 → ⊥) high
   pub first : option_map {U = ℕ × ℕ} (λ p. (index p, generation p)) result ≡ first_entry high

@@ -9,16 +9,15 @@ use Rattle.triple_arena_ord.specs.Indexed.{indexed}
 use Rattle.triple_arena_ord.specs.Ordered.{Ordered, size_in, counter_in, tree_in, order_in}
 use Rattle.triple_arena_ord.specs.Ordered.{ordered_entries}
 
-module _ {Q U P T J I F : Type 0} (old_index old_generation : Q → ℕ) (index generation : P → ℕ)
-    (old_number : J → ℕ) (number : I → ℕ)
+module _ {Q U P T F : Type 0} (old_index old_generation : Q → ℕ) (index generation : P → ℕ)
     (step : F → Q → InvalidationOption U → P → T → F → Type 0) where
   -- a map was called once at each entry, along the list, and what it gave stands at the indexes
   -- from 1 on, which are the new list; the tree is the halving tree of it, and no index is free
-  pub record IsTransferredInOrder (f : F) (last : Option ℕ) (old : Ordered J U) (new : Ordered I T)
+  pub record IsTransferredInOrder (f : F) (last : Option ℕ) (old : Ordered U) (new : Ordered T)
       : Type 0 where
     pub moved : IsTransferred old_index old_generation index generation step f last (counter_in old)
-        (ordered_entries old_number old) (indexed new)
-    pub order : order_in number new ≡ range_with_len 1 (size_in old)
-    pub tree : IsHalvingOf (range_with_len 1 (size_in old)) (tree_in number new)
+        (ordered_entries old) (indexed new)
+    pub order : order_in new ≡ range_with_len 1 (size_in old)
+    pub tree : IsHalvingOf (range_with_len 1 (size_in old)) (tree_in new)
     pub slots : length new.chains.slots ≡ size_in old
     pub free : new.chains.free ≡ []

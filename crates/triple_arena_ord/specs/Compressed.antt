@@ -13,17 +13,17 @@ abbrev pub end_noted : Option ℕ → Option ℕ → ℕ → Option ℕ
 end_noted end None i = Some i
 end_noted end (Some _) i = end
 
-module _ {I T : Type 0} (number : I → ℕ) where
+module _ {T : Type 0} where
   -- the items stand at the indexes from 1 on, in the order of the indexes that they had, with the
   -- generation renewed; the list is the one that was under the new indexes, the tree is the halving
   -- tree of it, and no index is free
   pub record IsCompressedInOrder (last : Option ℕ) (reset : Bool) (given : List T)
-      (old new : Ordered I T) : Type 0 where
-    pub order : order_in number new ≡ map (new_index (entry_in old)) (order_in number old)
+      (old new : Ordered T) : Type 0 where
+    pub order : order_in new ≡ map (new_index (entry_in old)) (order_in old)
     pub entries : (k : ℕ)
         → entry_in new (k + 1) ≡ option_map (λ t. (renewed last reset old.chains.counter, t))
         (slice_get given k)
-    pub tree : IsHalvingOf (order_in number new) (tree_in number new)
+    pub tree : IsHalvingOf (order_in new) (tree_in new)
     pub size : size_in new ≡ size_in old
     pub slots : length new.chains.slots ≡ size_in old
     pub free : new.chains.free ≡ []

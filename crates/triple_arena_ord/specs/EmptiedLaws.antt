@@ -13,8 +13,8 @@ use Rattle.triple_arena_ord.specs.Node.{itemed}
 use Rattle.triple_arena_ord.specs.Ordered.{Ordered, entry_in, size_in, counter_in, room_in}
 use Rattle.triple_arena_ord.specs.States.{drained_in}
 
-module _ {I T : Type 0} (last : Option ℕ) where
-  drained-gives_up : (o : Ordered I T)
+module _ {T : Type 0} (last : Option ℕ) where
+  drained-gives_up : (o : Ordered T)
       → IsGivenUp entry_in size_in counter_in room_in last o (drained_in last o)
   drained-gives_up o =
       let left = chains-given_up last o.chains in
@@ -25,16 +25,16 @@ module _ {I T : Type 0} (last : Option ℕ) where
         room = refl;
       }
 
-  drained-removed : (old new : Ordered I T) (i : ℕ)
+  drained-removed : (old new : Ordered T) (i : ℕ)
       → IsRemoved entry_in size_in counter_in room_in last i old new
       → drained_in last new ≡ drained_in last old
   drained-removed old new i removed =
-      ap (λ (c : Content (IndexLink I (IndexNode I T))).
-      (let o : Ordered I T = record { chains = c; root = None } in o))
+      ap (λ (c : Content (IndexLink (IndexNode T))).
+      (let o : Ordered T = record { chains = c; root = None } in o))
       (drained-same last old.chains new.chains removed.live removed.counter removed.room)
 
-module _ (I T : Type 0) (last : Option ℕ) where
-  pub drained-leaves : LeavesGivenUp {S = Ordered I T} {T = T} entry_in size_in counter_in room_in
+module _ (T : Type 0) (last : Option ℕ) where
+  pub drained-leaves : LeavesGivenUp {S = Ordered T} {T = T} entry_in size_in counter_in room_in
       last (drained_in last)
   unfolding LeavesGivenUp
   drained-leaves = (drained-gives_up last, drained-removed last)

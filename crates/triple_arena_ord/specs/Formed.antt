@@ -6,6 +6,6 @@ use Rattle.triple_arena_ord.specs.Ordered.{Ordered, IsOrdered}
 -- the tree keeps the rank rules and its walk is the list, which has as many indexes as are live;
 -- there are no more slots than the room has, each index that is not live is free once, and the
 -- interlinks agree
-pub record IsFormed {I T : Type 0} (number : I → ℕ) (o : Ordered I T) : Type 0 where
-  pub ordered : IsOrdered number o
-  pub chained : IsChained number o.chains
+pub record IsFormed {T : Type 0} (o : Ordered T) : Type 0 where
+  pub ordered : IsOrdered o
+  pub chained : IsChained o.chains

@@ -5,8 +5,8 @@ use Rattle.triple_arena.specs.Content.{in_room}
 use Rattle.triple_arena_ord.specs.Ordered.{Ordered, order_in, entry_in}
 
 -- another room; the list, the entries and all else are as they were
-pub record IsInRoom {I T : Type 0} (number : I → ℕ) (room : Room) (old new : Ordered I T)
+pub record IsInRoom {T : Type 0} (room : Room) (old new : Ordered T)
     : Type 0 where
   pub exact : new ≡ record { chains = in_room old.chains room; root = old.root }
-  pub order : order_in number new ≡ order_in number old
+  pub order : order_in new ≡ order_in old
   pub entries : (k : ℕ) → entry_in new k ≡ entry_in old k

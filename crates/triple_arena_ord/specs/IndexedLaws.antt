@@ -14,8 +14,8 @@ use Rattle.triple_arena_ord.specs.Indexed.{listed_item, indexed}
 use Rattle.triple_arena_ord.specs.Node.{itemed}
 use Rattle.triple_arena_ord.specs.Ordered.{Ordered, entry_in, size_in}
 
-module _ {I T : Type 0} where
-  look_up-items : (nodes : List (ℕ × (ℕ × IndexNode I T))) (i : ℕ)
+module _ {T : Type 0} where
+  look_up-items : (nodes : List (ℕ × (ℕ × IndexNode T))) (i : ℕ)
       → look_up (map listed_item nodes) i ≡ option_map itemed (look_up nodes i)
   look_up-items [] i = refl
   look_up-items (e ∷ nodes) i =
@@ -24,20 +24,20 @@ module _ {I T : Type 0} where
         | inr other ↦ rw other.0 (look_up-items nodes i)
       ]
 
-  indexes_same : (nodes : List (ℕ × (ℕ × IndexNode I T)))
+  indexes_same : (nodes : List (ℕ × (ℕ × IndexNode T)))
       → map index_of (map listed_item nodes) ≡ map index_of nodes
   indexes_same [] = refl
   indexes_same (e ∷ nodes) = ap (λ l. e.0 ∷ l) (indexes_same nodes)
 
   -- the entry at each index is the one that is listed under it
-  pub entry-indexed : (o : Ordered I T) (i : ℕ) → entry_in o i ≡ look_up (indexed o) i
+  pub entry-indexed : (o : Ordered T) (i : ℕ) → entry_in o i ≡ look_up (indexed o) i
   entry-indexed o i = ap (option_map itemed) (value-listed o.chains i) ∙ sym
       (look_up-items (listed_values o.chains) i)
 
-  pub indexed-increase : (o : Ordered I T) → IsStrictlyIncreasing (map index_of (indexed o))
+  pub indexed-increase : (o : Ordered T) → IsStrictlyIncreasing (map index_of (indexed o))
   indexed-increase o = subst IsStrictlyIncreasing (sym (indexes_same (listed_values o.chains)))
       (listed_values-increase o.chains)
 
   -- so many entries are listed as are live
-  pub indexed-length : (o : Ordered I T) → length (indexed o) ≡ size_in o
+  pub indexed-length : (o : Ordered T) → length (indexed o) ≡ size_in o
   indexed-length o = length-map (listed_values o.chains) listed_item ∙ listed_values-length o.chains

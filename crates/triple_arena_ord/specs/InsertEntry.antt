@@ -26,7 +26,7 @@ kind_at {P} (Some place) p = by place.1
     by Greater = New p
 
 -- the pointer is that of the entry at this place, or of a new one, for which there is room
-pub record IsReadyAt {I T : Type 0} (place : Option (ℕ × Ordering)) (i g : ℕ) (o : Ordered I T)
+pub record IsReadyAt {T : Type 0} (place : Option (ℕ × Ordering)) (i g : ℕ) (o : Ordered T)
     : Type 0 where
   pub live : IfSome place (λ a. IsSome (entry_in o a.0))
   pub empty : place ≡ None → size_in o ≡ 0
@@ -37,7 +37,7 @@ pub record IsReadyAt {I T : Type 0} (place : Option (ℕ × Ordering)) (i g : �
 
 module _ {P T S Inx Gen Word Alloc : Type 0} where
   -- the arena as the entry holds it
-  abbrev pub entry_arena : SimpleOrdArenaInsertEntry P T S Inx Gen Word Alloc → Ordered Inx T
+  abbrev pub entry_arena : SimpleOrdArenaInsertEntry P T S Inx Gen Word Alloc → Ordered T
   entry_arena e = e.arena.now
 
   -- the ghost name of the reference to the arena

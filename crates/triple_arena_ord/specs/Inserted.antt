@@ -1,5 +1,6 @@
 -- What an insertion does.
 use Rattle.std.specs.Prelude.{◌≡◌, ◌≢◌, ℕ, ◌+◌, ◌<◌, ◌≤◌, max, Bool, IsTrue, List, [], ◌∷◌, ◌++◌}
+use Rattle.std.specs.List.{AllByRecursion}
 use Rattle.std.specs.Prelude.{length, drop, Option, Some, None, Result, Ok, Err}
 use Rattle.std.specs.Option.{option_map}
 use Rattle.std.specs.declared.cmp.Ordering.{Ordering}
@@ -16,8 +17,7 @@ use Rattle.triple_arena_chain.specs.Links.{IsKept, ends_in}
 use Rattle.triple_arena_chain.specs.LinkShape.{IndexLink}
 use Rattle.rank_tree.specs.declared.side.Side.TheVariants.{Left, Right}
 use Rattle.triple_arena_ord.specs.NodeShape.{IndexNode}
-use Rattle.triple_arena_ord.specs.Node.{knots_in, items_in}
-use Rattle.rank_tree.specs.Search.{AllIn}
+use Rattle.triple_arena_ord.specs.Node.{nodes_in, items_in}
 use Rattle.triple_arena_ord.specs.Ordered.{Ordered, IsOrdered, IsAscending, StandsBeside}
 use Rattle.triple_arena_ord.specs.Ordered.{order_in, entry_in, size_in, asked_at}
 use Rattle.triple_arena_ord.specs.Found.{Answers}
@@ -94,27 +94,27 @@ room_for (Some place) len room = by place.1
     by Equal = room
     by Greater = room_after len room
 
-module _ {I T : Type 0} (number : I → ℕ) where
+module _ {T : Type 0} where
   -- the node at an index has another item, and all else is as it was
-  pub record IsRenewed (i g : ℕ) (t u : T) (old new : Content (IndexLink I (IndexNode I T)))
+  pub record IsRenewed (i g : ℕ) (t u : T) (old new : Content (IndexLink (IndexNode T)))
       : Type 0 where
     pub was : items_in old i ≡ Some (g, u)
     pub items : (k : ℕ) → items_in new k ≡ with_entry (items_in old) i (g, t) k
-    pub knots : (k : ℕ) → knots_in number new k ≡ knots_in number old k
-    pub ends : (k : ℕ) → ends_in number new k ≡ ends_in number old k
+    pub nodes : (k : ℕ) → nodes_in new k ≡ nodes_in old k
+    pub ends : (k : ℕ) → ends_in new k ≡ ends_in old k
     pub kept : IsKept old new
 
   -- the item at an index is replaced, and all else is as it was
-  pub record IsReplaced (i g : ℕ) (t u : T) (old new : Ordered I T) : Type 0 where
+  pub record IsReplaced (i g : ℕ) (t u : T) (old new : Ordered T) : Type 0 where
     pub was : entry_in old i ≡ Some (g, u)
-    pub order : order_in number new ≡ order_in number old
+    pub order : order_in new ≡ order_in old
     pub entries : (k : ℕ) → entry_in new k ≡ with_entry (entry_in old) i (g, t) k
     pub root : new.root ≡ old.root
-    pub knots : (k : ℕ) → knots_in number new.chains k ≡ knots_in number old.chains k
+    pub nodes : (k : ℕ) → nodes_in new.chains k ≡ nodes_in old.chains k
     pub kept : IsKept old.chains new.chains
 
   -- one more entry, under the next index, which is no longer free, and the counter; all others stay
-  pub record IsAdded (i g : ℕ) (t : T) (old new : Ordered I T) : Type 0 where
+  pub record IsAdded (i g : ℕ) (t : T) (old new : Ordered T) : Type 0 where
     pub index : i ≡ next_index old.chains
     pub generation : g ≡ old.chains.counter
     pub vacant : entry_in old i ≡ None
@@ -124,24 +124,24 @@ module _ {I T : Type 0} (number : I → ℕ) where
     pub slots : length new.chains.slots ≡ max (length old.chains.slots) (next_index old.chains)
 
   -- a new entry where a search ended. The counter and the room stay
-  pub record AddsAt (place : Option (ℕ × Ordering)) (i g : ℕ) (t : T) (old new : Ordered I T)
+  pub record AddsAt (place : Option (ℕ × Ordering)) (i g : ℕ) (t : T) (old new : Ordered T)
       : Type 0 where
-    pub stands : StandsAt place (order_in number old) (order_in number new) i
+    pub stands : StandsAt place (order_in old) (order_in new) i
     pub added : IsAdded i g t old new
     pub counter : new.chains.counter ≡ old.chains.counter
     pub room : new.chains.room ≡ old.chains.room
-    pub ordered : IsOrdered number new
+    pub ordered : IsOrdered new
 
   -- `allows` is what the room says: None lets a new entry in, an error does not
   module _ {P : Type 0} (index generation : P → ℕ) (allows : Option OrdInsertionError
       → Type 0) where
     -- an insertion where a search ended, whose last answer tells whether an item is replaced
     pub record IsInsertedAt (place : Option (ℕ × Ordering)) (t : T)
-        (result : Result (P × Option T) OrdInsertionError) (old new : Ordered I T) : Type 0 where
+        (result : Result (P × Option T) OrdInsertionError) (old new : Ordered T) : Type 0 where
       pub replaced : (p : P) (u : T) → result ≡ Ok (p, Some u) → (place ≡ Some (index p, Equal))
           × IsReplaced (index p) (generation p) t u old new
       pub added : (p : P) → result ≡ Ok (p, None)
-          → StandsAt place (order_in number old) (order_in number new) (index p)
+          → StandsAt place (order_in old) (order_in new) (index p)
           × IsAdded (index p) (generation p) t old new
       pub fits : (p : P) → result ≡ Ok (p, None) → allows None
       pub refused : (error : OrdInsertionError) → result ≡ Err error → (Replaces place → ⊥)
@@ -152,31 +152,32 @@ module _ {I T : Type 0} (number : I → ℕ) where
     -- an insertion where a search ended, by a call that does not grow, or by one that does, over a
     -- stack that may take memory. The counter stays
     pub record InsertsAt (growth : Option Bool) (place : Option (ℕ × Ordering)) (t : T)
-        (result : Result (P × Option T) OrdInsertionError) (old new : Ordered I T) : Type 0 where
+        (result : Result (P × Option T) OrdInsertionError) (old new : Ordered T) : Type 0 where
       pub inserted : IsInsertedAt index generation (either_room growth (size_in old)
           old.chains.room) place t result old new
       pub counter : new.chains.counter ≡ old.chains.counter
       pub room : new.chains.room ≡ room_left growth result (size_in old) old.chains.room
-      pub ordered : IsOrdered number new
+      pub ordered : IsOrdered new
 
   module _ {K : Type 0} (cmp : K → K → Ordering) (key : T → K) where
     -- one more index in the list: where the keys ascend, all before it have lesser keys and all
     -- after it greater ones
-    pub record IsPlacedByKey (k : K) (i : ℕ) (old new : Ordered I T) : Type 0 where
+    pub record IsPlacedByKey (k : K) (i : ℕ) (old new : Ordered T) : Type 0 where
       pub before : List ℕ
       pub after : List ℕ
-      pub was : order_in number old ≡ before ++ after
-      pub is : order_in number new ≡ before ++ i ∷ after
-      pub greater : IsAscending number cmp key old
-          → AllIn (λ j. asked_at cmp key k old j ≡ Greater) before
-      pub less : IsAscending number cmp key old → AllIn (λ j. asked_at cmp key k old j ≡ Less) after
+      pub was : order_in old ≡ before ++ after
+      pub is : order_in new ≡ before ++ i ∷ after
+      pub greater : IsAscending cmp key old
+          → AllByRecursion (λ j. asked_at cmp key k old j ≡ Greater) before
+      pub less : IsAscending cmp key old
+          → AllByRecursion (λ j. asked_at cmp key k old j ≡ Less) after
 
     module _ {P : Type 0} (index generation : P → ℕ) (allows : Option OrdInsertionError
         → Type 0) where
       -- an insertion by key: an item with an equal key is replaced, whether or not there is room;
       -- else there is one more entry, where the room allows it
       pub record IsKeyInserted (t : T) (result : Result (P × Option T) OrdInsertionError)
-          (old new : Ordered I T) : Type 0 where
+          (old new : Ordered T) : Type 0 where
         pub replaced : (p : P) (u : T) → result ≡ Ok (p, Some u) → (cmp (key t) (key u) ≡ Equal)
             × IsReplaced (index p) (generation p) t u old new
         pub added : (p : P) → result ≡ Ok (p, None) → IsPlacedByKey (key t) (index p) old new
@@ -185,26 +186,26 @@ module _ {I T : Type 0} (number : I → ℕ) where
         pub refused : (error : OrdInsertionError) → result ≡ Err error → allows (Some error)
         pub same : (error : OrdInsertionError) → result ≡ Err error → new ≡ old
         pub absent : (error : OrdInsertionError) → result ≡ Err error
-            → IsAscending number cmp key old
+            → IsAscending cmp key old
             → (i : ℕ) → option_map (λ e. cmp (key t) (key e.1)) (entry_in old i) ≢ Some Equal
 
     module _ {P : Type 0} (index generation : P → ℕ) where
       -- the same of a call that does not grow, or of one that does, over a stack that may take
       -- memory. A list whose keys ascend still does, and the counter stays
       pub record InsertsByKey (growth : Option Bool) (t : T)
-          (result : Result (P × Option T) OrdInsertionError) (old new : Ordered I T) : Type 0 where
+          (result : Result (P × Option T) OrdInsertionError) (old new : Ordered T) : Type 0 where
         pub inserted : IsKeyInserted index generation (either_room growth (size_in old)
             old.chains.room) t result old new
-        pub ascending : IsAscending number cmp key old → IsAscending number cmp key new
+        pub ascending : IsAscending cmp key old → IsAscending cmp key new
         pub counter : new.chains.counter ≡ old.chains.counter
         pub room : new.chains.room ≡ room_left growth result (size_in old) old.chains.room
-        pub ordered : IsOrdered number new
+        pub ordered : IsOrdered new
 
       -- the same, but an entry with an equal key stays: then nothing changes, and `t` comes back
       pub record GetsOrInserts (growth : Option Bool) (t : T)
-          (result : Result (P × Option T) OrdInsertionError) (old new : Ordered I T) : Type 0 where
+          (result : Result (P × Option T) OrdInsertionError) (old new : Ordered T) : Type 0 where
         pub found : (p : P) (u : T) → result ≡ Ok (p, Some u) → (u ≡ t) × (new ≡ old)
             × Answers index generation (asked_at cmp key (key t) old) old p Equal
         pub inserted : ((p : P) (u : T) → result ≢ Ok (p, Some u))
             → InsertsByKey growth t result old new
-        pub ordered : IsOrdered number new
+        pub ordered : IsOrdered new

@@ -12,13 +12,13 @@ use Rattle.triple_arena_ord.specs.Node.{itemed}
 use Rattle.triple_arena_ord.specs.Ordered.{Ordered, entry_in, size_in, counter_in, room_in}
 use Rattle.triple_arena_ord.specs.States.{with_item}
 
-module _ {I T : Type 0} where
+module _ {T : Type 0} where
   -- a link whose node has another item
-  abbrev with_node_item : T → IndexLink I (IndexNode I T) → IndexLink I (IndexNode I T)
+  abbrev with_node_item : T → IndexLink (IndexNode T) → IndexLink (IndexNode T)
   with_node_item t link = record link { t = record link.t { t = t } }
 
   -- the item is what it was written
-  pub entry-with_item : (o : Ordered I T) (i : ℕ) (t : T) (k : ℕ)
+  pub entry-with_item : (o : Ordered T) (i : ℕ) (t : T) (k : ℕ)
       → entry_in (with_item o i t) k ≡ with_value_at (entry_in o) i t k
   entry-with_item o i t k =
       ap (λ e. option_map itemed (option_map valued e))
@@ -28,24 +28,24 @@ module _ {I T : Type 0} where
         | inr other ↦ rw other.0 refl
       ]
     where
-      by_entry : (e : Option (ℕ × IndexLink I (IndexNode I T)))
+      by_entry : (e : Option (ℕ × IndexLink (IndexNode T)))
           → option_map itemed (option_map valued
-          (option_map (λ (l : ℕ × IndexLink I (IndexNode I T)).
-          (let v : ℕ × IndexLink I (IndexNode I T) = (l.0, with_node_item t l.1) in v)) e))
+          (option_map (λ (l : ℕ × IndexLink (IndexNode T)).
+          (let v : ℕ × IndexLink (IndexNode T) = (l.0, with_node_item t l.1) in v)) e))
           ≡ option_map (λ (l : ℕ × T). (let v : ℕ × T = (l.0, t) in v))
           (option_map itemed (option_map valued e))
       by_entry None = refl
       by_entry (Some e) = refl
 
-  kept-with_item : (o : Ordered I T) (i : ℕ) (t : T) → IsKept o.chains (with_item o i t).chains
+  kept-with_item : (o : Ordered T) (i : ℕ) (t : T) → IsKept o.chains (with_item o i t).chains
   kept-with_item o i t = kept-with_link o.chains i (with_node_item t)
 
-  pub size-with_item : (o : Ordered I T) (i : ℕ) (t : T) → size_in (with_item o i t) ≡ size_in o
+  pub size-with_item : (o : Ordered T) (i : ℕ) (t : T) → size_in (with_item o i t) ≡ size_in o
   size-with_item o i t = (kept-with_item o i t).live
 
-  pub counter-with_item : (o : Ordered I T) (i : ℕ) (t : T)
+  pub counter-with_item : (o : Ordered T) (i : ℕ) (t : T)
       → counter_in (with_item o i t) ≡ counter_in o
   counter-with_item o i t = ap Some (kept-with_item o i t).counter
 
-  pub room-with_item : (o : Ordered I T) (i : ℕ) (t : T) → room_in (with_item o i t) ≡ room_in o
+  pub room-with_item : (o : Ordered T) (i : ℕ) (t : T) → room_in (with_item o i t) ≡ room_in o
   room-with_item o i t = (kept-with_item o i t).room

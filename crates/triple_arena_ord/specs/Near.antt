@@ -1,10 +1,11 @@
 -- What a search along the list comes to.
 use Rattle.std.specs.Prelude.{◌≡◌, ℕ, ◌+◌, ◌<◌, ◌≤◌, List, [], ◌∷◌, ◌++◌, length, reverse, take}
+use Rattle.std.specs.List.{AllByRecursion}
 use Rattle.std.specs.Prelude.{◌⊎◌, slice_get, Option, Some, None}
 use Rattle.std.specs.declared.cmp.Ordering.{Ordering}
 use Rattle.std.specs.declared.cmp.Ordering.TheVariants.{Less, Equal, Greater}
 use Rattle.triple_arena_chain.specs.Chains.{Ends, On, first_or, last_or}
-use Rattle.rank_tree.specs.Search.{AllIn, IsParted, Places}
+use Rattle.rank_tree.specs.Search.{IsParted, EndsAt}
 use Rattle.triple_arena_ord.specs.Ordered.{asked_of}
 
 -- how a key compares with that of the entry at an index
@@ -32,8 +33,8 @@ pub record IsGapNear (num : ℕ) (f : ℕ → Ordering) (w : List ℕ) (i : ℕ)
   pub low : List ℕ
   pub high : List ℕ
   pub is : w ≡ low ++ high
-  pub greater : AllIn (λ j. f j ≡ Greater) low
-  pub less : AllIn (λ j. f j ≡ Less) high
+  pub greater : AllByRecursion (λ j. f j ≡ Greater) low
+  pub less : AllByRecursion (λ j. f j ≡ Less) high
   pub last : (j : ℕ) → last_or None low ≡ Some j → IsNear num w i j
   pub first : (j : ℕ) → first_or high None ≡ Some j → IsNear num w i j
 
@@ -46,7 +47,7 @@ IsAtHand num f w i = IsEndNear num f w i ⊎ IsGapNear num f w i
 pub record IsStop (f : ℕ → Ordering) (w : List ℕ) (i : ℕ) (d : Ordering) : Type 0 where
   pub on : On w i
   pub way : f i ≡ d
-  pub places : IsParted f w → Places f w i d
+  pub places : IsParted f w → EndsAt f w i d
 
 -- where a walk goes from an index with this answer, after it went this way, if at all. It goes on
 -- in one direction, up to the gap, an end of the list, or an index that ends the search

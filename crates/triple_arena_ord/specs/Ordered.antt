@@ -11,7 +11,7 @@ use Rattle.triple_arena_chain.specs.LinkShape.{IndexLink}
 use Rattle.rank_tree.specs.declared.side.Side.{Side}
 use Rattle.rank_tree.specs.declared.side.Side.TheVariants.{Left, Right}
 use Rattle.triple_arena_ord.specs.NodeShape.{IndexNode}
-use Rattle.triple_arena_ord.specs.Node.{knots_in, items_in}
+use Rattle.triple_arena_ord.specs.Node.{nodes_in, items_in}
 use Rattle.triple_arena_ord.specs.Ascending.{entries_along, AscendsAlong}
 use Rattle.rank_tree.specs.Tree.{Tree, walk}
 use Rattle.rank_tree.specs.Shape.{count}
@@ -42,8 +42,8 @@ moved Left Right o h n = o
 moved Right Left o h n = o
 
 -- the links with their nodes, and the root of the tree
-pub record Ordered (I T : Type 0) : Type 0 where
-  pub chains : Content (IndexLink I (IndexNode I T))
+pub record Ordered (T : Type 0) : Type 0 where
+  pub chains : Content (IndexLink (IndexNode T))
   pub root : Option ℕ
 
 -- how a key compares with that of an entry
@@ -51,52 +51,52 @@ abbrev pub asked_of : {K T : Type 0} → (K → K → Ordering) → (T → K) �
 asked_of cmp key k None = Equal
 asked_of cmp key k (Some e) = cmp k (key e.1)
 
-module _ {I T : Type 0} where
+module _ {T : Type 0} where
   -- the generation and the item at each index
-  abbrev pub entry_in : Ordered I T → ℕ → Option (ℕ × T)
+  abbrev pub entry_in : Ordered T → ℕ → Option (ℕ × T)
   entry_in o = items_in o.chains
 
   -- how a key compares with that of the entry at an index
-  abbrev pub asked_at : {K : Type 0} → (K → K → Ordering) → (T → K) → K → Ordered I T → ℕ → Ordering
+  abbrev pub asked_at : {K : Type 0} → (K → K → Ordering) → (T → K) → K → Ordered T → ℕ → Ordering
   asked_at cmp key k o i = asked_of cmp key k (entry_in o i)
 
   -- the entries at these indexes, each beside its index
-  abbrev pub entries_at : Ordered I T → List ℕ → List (ℕ × (ℕ × T))
+  abbrev pub entries_at : Ordered T → List ℕ → List (ℕ × (ℕ × T))
   entries_at o w = entries_along (entry_in o) w
 
   -- how many entries
-  abbrev pub size_in : Ordered I T → ℕ
+  abbrev pub size_in : Ordered T → ℕ
   size_in o = live_count o.chains
 
   -- the generation of the next entry, which each ordered arena has
-  abbrev pub counter_in : Ordered I T → Option ℕ
+  abbrev pub counter_in : Ordered T → Option ℕ
   counter_in o = some_counter o.chains
 
   -- the reserved slots and the greatest capacity
-  abbrev pub room_in : Ordered I T → Room
+  abbrev pub room_in : Ordered T → Room
   room_in o = o.chains.room
 
-module _ {I T : Type 0} (number : I → ℕ) where
+module _ {T : Type 0} where
   -- the tree of the nodes
-  abbrev pub tree_in : Ordered I T → Tree
-  tree_in o = tree_of (knots_in number o.chains) o.root
+  abbrev pub tree_in : Ordered T → Tree
+  tree_in o = tree_of (nodes_in o.chains) o.root
 
   -- the indexes in order
-  abbrev pub order_in : Ordered I T → List ℕ
+  abbrev pub order_in : Ordered T → List ℕ
   order_in o = walk (tree_in o)
 
   -- the index, generation and item of each entry, in order
-  abbrev pub ordered_entries : Ordered I T → List (ℕ × (ℕ × T))
+  abbrev pub ordered_entries : Ordered T → List (ℕ × (ℕ × T))
   ordered_entries o = entries_at o (order_in o)
 
   -- the tree keeps the rank rules and has each live index once; its walk is the one chain
-  pub record IsOrdered (o : Ordered I T) : Type 0 where
-    pub whole : IsWhole (knots_in number o.chains) o.root
-    pub linear : IsLinear (ends_in number o.chains) (order_in o)
-    pub all : (i : ℕ) → IsSome (knots_in number o.chains i) → 0 < count i (tree_in o)
+  pub record IsOrdered (o : Ordered T) : Type 0 where
+    pub whole : IsWhole (nodes_in o.chains) o.root
+    pub linear : IsLinear (ends_in o.chains) (order_in o)
+    pub all : (i : ℕ) → IsSome (nodes_in o.chains i) → 0 < count i (tree_in o)
     pub counted : length (order_in o) ≡ live_count o.chains
 
   module _ {K : Type 0} (cmp : K → K → Ordering) (key : T → K) where
     -- no key is greater than the next one
-    abbrev pub IsAscending : Ordered I T → Type 0
+    abbrev pub IsAscending : Ordered T → Type 0
     IsAscending o = AscendsAlong cmp key (entry_in o) (order_in o)

@@ -37,43 +37,42 @@ pub record IsFrom (w : List ℕ) (i : ℕ) (back : Bool) (left : List ℕ) : Typ
   pub is : w ≡ before ++ i ∷ after
   pub left_is : left ≡ i ∷ (if back then reverse before else after)
 
-module _ {I T : Type 0} where
+module _ {T : Type 0} where
   -- a link with the value that it lends
-  abbrev pub read_link : IndexLink I (Bor T) → IndexLink I T
+  abbrev pub read_link : IndexLink (Bor T) → IndexLink T
   read_link link = record { prev = link.prev; next = link.next; t = link.t.now }
 
   module _ {P : Type 0} (index generation : P → ℕ) where
     -- the pointer to the entry at an end of the list, exactly where there is an entry
-    pub record IsEnd (end : Option ℕ) (result : Option P) (o : Ordered I T) : Type 0 where
+    pub record IsEnd (end : Option ℕ) (result : Option P) (o : Ordered T) : Type 0 where
       pub at : option_map index result ≡ end
       pub live : IfSome result (λ p. generation_at (entry_in o) (index p) ≡ Some (generation p))
       pub none : (result ≡ None) ↔ (size_in o ≡ 0)
 
-  module _ (number : I → ℕ) where
-    -- the indexes that are left to a walk over an arena that stays: a loop over them is measured by
-    -- their number
-    abbrev pub left_over : Ordered I T → OrderedWalk → List ℕ
-    left_over o w = from_where (along w.back (order_in number o)) w.at
+  -- the indexes that are left to a walk over an arena that stays: a loop over them is measured by
+  -- their number
+  abbrev pub left_over : Ordered T → OrderedWalk → List ℕ
+  left_over o w = from_where (along w.back (order_in o)) w.at
 
-    -- the entries that are left to it
-    abbrev pub entries_left : Ordered I T → OrderedWalk → List (ℕ × (ℕ × T))
-    entries_left o w = entries_at o (left_over o w)
+  -- the entries that are left to it
+  abbrev pub entries_left : Ordered T → OrderedWalk → List (ℕ × (ℕ × T))
+  entries_left o w = entries_at o (left_over o w)
 
-    -- a step gives the entry where the walk is, and notes the index that comes next
-    pub record IsGiven (i g : ℕ) (o : Ordered I T) (before after : OrderedWalk) : Type 0 where
-      pub at : before.at ≡ Some i
-      pub live : generation_at (entry_in o) i ≡ Some g
-      pub left : left_over o before ≡ i ∷ left_over o after
-      pub next : after.at ≡ first_or (left_over o after) None
-      pub same : after.back ≡ before.back
+  -- a step gives the entry where the walk is, and notes the index that comes next
+  pub record IsGiven (i g : ℕ) (o : Ordered T) (before after : OrderedWalk) : Type 0 where
+    pub at : before.at ≡ Some i
+    pub live : generation_at (entry_in o) i ≡ Some g
+    pub left : left_over o before ≡ i ∷ left_over o after
+    pub next : after.at ≡ first_or (left_over o after) None
+    pub same : after.back ≡ before.back
 
-    -- a step where no entry lives ends the walk
-    pub record IsOver (o : Ordered I T) (before after : OrderedWalk) : Type 0 where
-      pub vacant : IfSome before.at (λ i. entry_in o i ≡ None)
-      pub left : left_over o before ≡ []
-      pub ended : after.at ≡ None
-      pub same : after.back ≡ before.back
+  -- a step where no entry lives ends the walk
+  pub record IsOver (o : Ordered T) (before after : OrderedWalk) : Type 0 where
+    pub vacant : IfSome before.at (λ i. entry_in o i ≡ None)
+    pub left : left_over o before ≡ []
+    pub ended : after.at ≡ None
+    pub same : after.back ≡ before.back
 
-    abbrev pub OrderedSteps : Ordered I T → OrderedWalk → Option (ℕ × ℕ) → OrderedWalk → Type 0
-    OrderedSteps o before None after = IsOver o before after
-    OrderedSteps o before (Some p) after = IsGiven p.0 p.1 o before after
+  abbrev pub OrderedSteps : Ordered T → OrderedWalk → Option (ℕ × ℕ) → OrderedWalk → Type 0
+  OrderedSteps o before None after = IsOver o before after
+  OrderedSteps o before (Some p) after = IsGiven p.0 p.1 o before after

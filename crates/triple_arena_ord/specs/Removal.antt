@@ -4,7 +4,7 @@ use Rattle.std.specs.Prelude.{Some, None}
 use Rattle.triple_arena_ptr.specs.Generation.{next_generation}
 use Rattle.triple_arena.specs.Content.{removed}
 use Rattle.triple_arena.specs.Entries.{without}
-use Rattle.triple_arena_ord.specs.Node.{knots_in}
+use Rattle.triple_arena_ord.specs.Node.{nodes_in}
 use Rattle.rank_tree.specs.Repair.{Restored}
 use Rattle.triple_arena_ord.specs.Ordered.{Ordered, order_in, entry_in, size_in}
 
@@ -21,18 +21,18 @@ ended None h neighbor = None
 ended (Some i) h neighbor = if i == h then neighbor else Some i
 
 -- the tree without one index of the list, which is still in the chain
-pub record IsUprooted {I T : Type 0} (number : I → ℕ) (old new : Ordered I T) (h : ℕ) : Type 0 where
+pub record IsUprooted {T : Type 0} (old new : Ordered T) (h : ℕ) : Type 0 where
   pub before : List ℕ
   pub after : List ℕ
-  pub was : order_in number old ≡ before ++ h ∷ after
-  pub restored : Restored (knots_in number new.chains) new.root (before ++ after)
+  pub was : order_in old ≡ before ++ h ∷ after
+  pub restored : Restored (nodes_in new.chains) new.root (before ++ after)
 
 -- one entry less: the list is without its index, every other pointer finds the item that it found,
 -- the counter steps, and the slot is popped where it is the last one, and else is the next one to
 -- be taken
-pub record IsEntryRemoved {I T : Type 0} (number : I → ℕ) (last : Option ℕ) (h : ℕ)
-    (old new : Ordered I T) : Type 0 where
-  pub order : Loses (order_in number old) (order_in number new) h
+pub record IsEntryRemoved {T : Type 0} (last : Option ℕ) (h : ℕ)
+    (old new : Ordered T) : Type 0 where
+  pub order : Loses (order_in old) (order_in new) h
   pub entries : (k : ℕ) → entry_in new k ≡ without (entry_in old) h k
   pub size : size_in new + 1 ≡ size_in old
   pub counter : new.chains.counter ≡ next_generation last old.chains.counter

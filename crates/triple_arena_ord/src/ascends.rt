@@ -9,10 +9,10 @@ ghost use Rattle.triple_arena_ord.specs.Ascending.{AscendsAlong};
 
 use crate::links::Links;
 use crate::{SimpleOrdArenaNode, SimpleOrdItem};
+use proof_marks::unreached;
 use std::cmp::Ordering;
 use triple_arena::{PtrCore, PtrInxCore};
 use triple_arena_chain::LinkNoGen;
-use unreached::unreached;
 
 // The link at an index that is live.
 fn link_at<P, T, A>(arena: &A, i: P::Inx) -> &LinkNoGen<P, SimpleOrdArenaNode<P, T>>
@@ -38,9 +38,9 @@ where
     P: PtrCore,
     T: SimpleOrdItem + Drop,
     A: Links<P, T>,
-    requires { (w : List ℕ) × IsLinear (ends_in P.Inx.number (A.links arena.now)) w
+    requires { (w : List ℕ) × IsLinear (ends_in (A.links arena.now)) w
         × (first_or w None ≡ Some (P.Inx.number first)) × (length w ≤ most) }
-    ensures { (w : List ℕ) → IsLinear (ends_in P.Inx.number (A.links arena.now)) w
+    ensures { (w : List ℕ) → IsLinear (ends_in (A.links arena.now)) w
         → first_or w None ≡ Some (P.Inx.number first)
         → length w ≤ most → IsTrue result
         ↔ AscendsAlong T.Key.cmp T.key_of (items_in (A.links arena.now)) w }

@@ -5,13 +5,13 @@ ghost use Rattle.std.specs.Option.{option_map};
 ghost use Rattle.rank_tree.specs.Tree.{walk, rank_of};
 ghost use Rattle.rank_tree.specs.Whole.{tree_of, IsWhole};
 ghost use Rattle.triple_arena_ord.specs.Asked.{IsAsked};
-ghost use Rattle.triple_arena_ord.specs.Node.{knots_among, items_among};
+ghost use Rattle.triple_arena_ord.specs.Node.{nodes_among, items_among};
 
 use crate::SimpleOrdArenaNode;
+use proof_marks::unreached;
 use std::cmp::Ordering;
 use triple_arena::{ArenaTrait, PtrCore};
 use triple_arena_ptr::{OptionalInx, Probes};
-use unreached::unreached;
 
 /// Asks `f` on the way down from the root, and says what it answered last, and where. It is left in
 /// the state that its last answer left.
@@ -26,17 +26,14 @@ where
     T: Drop,
     A: ArenaTrait<P, SimpleOrdArenaNode<P, T>>,
     F: FnMut(P, &T) -> Ordering,
-    requires whole { IsWhole (knots_among P.Inx.number (A.entry_at arena.now))
-        (option_map P.Inx.number root) }
+    requires whole { IsWhole (nodes_among (A.entry_at arena.now)) (option_map P.Inx.number root) }
     requires callable { F.IsAlwaysCallable f.old }
     ensures asked { (asked : IsAsked P.index P.generation F.step
         (items_among (A.entry_at arena.now))
-        (walk (tree_of (knots_among P.Inx.number (A.entry_at arena.now))
-        (option_map P.Inx.number root)))
+        (walk (tree_of (nodes_among (A.entry_at arena.now)) (option_map P.Inx.number root)))
         f.old result probes.old probes.new) × (asked.last ≡ f.new) }
     ensures bound { probes.new ≤ probes.old
-        + rank_of (tree_of (knots_among P.Inx.number (A.entry_at arena.now))
-        (option_map P.Inx.number root)) }
+        + rank_of (tree_of (nodes_among (A.entry_at arena.now)) (option_map P.Inx.number root)) }
 {
     let mut link = OptionalInx::of(root);
     let mut place = None;

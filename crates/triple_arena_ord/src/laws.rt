@@ -20,7 +20,6 @@ ghost use Rattle.triple_arena_ord.specs.Ordered.{order_in, ordered_entries, entr
 ghost use Rattle.triple_arena_ord.specs.Ordered.{counter_in, room_in, asked_at};
 ghost use Rattle.triple_arena_ord.specs.Placing.{IsPlaceByKey, IsPlaceBeforeEqual};
 ghost use Rattle.triple_arena_ord.specs.Removal.{IsEntryRemoved};
-ghost use Rattle.rank_tree.specs.Search.{AllIn};
 ghost use Rattle.triple_arena_ord.specs.States.{invalidated_in, with_item};
 ghost use Rattle.rank_tree.specs.Tree.{height, rank_of};
 
@@ -29,96 +28,94 @@ use triple_arena::{PtrCore, Recast};
 
 /// Each live index stands in the list.
 pub fn entries_stand_in_the_list<P: PtrCore, T>()
-    ensures { (o : Ordered P.Inx T) (i : ℕ) → IsOrdered P.Inx.number o → IsSome (entry_in o i)
-        → On (order_in P.Inx.number o) i }
+    ensures { (o : Ordered T) (i : ℕ) → IsOrdered o → IsSome (entry_in o i) → On (order_in o) i }
 {}
 
 /// The list has as many entries as are live.
 pub fn the_list_has_as_many_entries_as_are_live<P: PtrCore, T>()
-    ensures { (o : Ordered P.Inx T) → IsOrdered P.Inx.number o
-        → length (ordered_entries P.Inx.number o) ≡ size_in o }
+    ensures { (o : Ordered T) → IsOrdered o → length (ordered_entries o) ≡ size_in o }
 {}
 
 /// No path in the tree has more nodes than the rank r of the root, and among n entries, if there is
 /// one, `2^(r+1) <= (n+1)^2`.
 pub fn paths_are_short<P: PtrCore, T>()
-    ensures high { (o : Ordered P.Inx T) → IsOrdered P.Inx.number o
-        → height (tree_in P.Inx.number o) ≤ rank_of (tree_in P.Inx.number o) }
-    ensures low { (o : Ordered P.Inx T) → IsOrdered P.Inx.number o → 0 < size_in o
-        → 2 ^ (rank_of (tree_in P.Inx.number o) + 1) ≤ (size_in o + 1) * (size_in o + 1) }
+    ensures high { (o : Ordered T) → IsOrdered o → height (tree_in o) ≤ rank_of (tree_in o) }
+    ensures low { (o : Ordered T) → IsOrdered o → 0 < size_in o
+        → 2 ^ (rank_of (tree_in o) + 1) ≤ (size_in o + 1) * (size_in o + 1) }
 {}
 
 /// If the keys ascend, none before an entry is greater than its key, and none after it less.
 pub fn keys_ascend_along_the_list<P: PtrCore, T: SimpleOrdItem>()
-    ensures before { (o : Ordered P.Inx T) (front back : List ℕ) (i : ℕ) (entry : ℕ × T)
-        → IsOrdered P.Inx.number o
-        → IsAscending P.Inx.number T.Key.cmp T.key_of o
-        → order_in P.Inx.number o ≡ front ++ i ∷ back
+    ensures before { (o : Ordered T) (front back : List ℕ) (i : ℕ) (entry : ℕ × T)
+        → IsOrdered o
+        → IsAscending T.Key.cmp T.key_of o
+        → order_in o ≡ front ++ i ∷ back
         → entry_in o i ≡ Some entry
-        → AllIn (λ j. asked_at T.Key.cmp T.key_of (T.key_of entry.1) o j ≢ Way.Less) front }
-    ensures after { (o : Ordered P.Inx T) (front back : List ℕ) (i : ℕ) (entry : ℕ × T)
-        → IsOrdered P.Inx.number o
-        → IsAscending P.Inx.number T.Key.cmp T.key_of o
-        → order_in P.Inx.number o ≡ front ++ i ∷ back
+        → AllByRecursion (λ j. asked_at T.Key.cmp T.key_of (T.key_of entry.1) o j ≢ Way.Less)
+        front }
+    ensures after { (o : Ordered T) (front back : List ℕ) (i : ℕ) (entry : ℕ × T)
+        → IsOrdered o
+        → IsAscending T.Key.cmp T.key_of o
+        → order_in o ≡ front ++ i ∷ back
         → entry_in o i ≡ Some entry
-        → AllIn (λ j. asked_at T.Key.cmp T.key_of (T.key_of entry.1) o j ≢ Way.Greater) back }
+        → AllByRecursion (λ j. asked_at T.Key.cmp T.key_of (T.key_of entry.1) o j ≢ Way.Greater)
+        back }
 {}
 
 /// A list whose keys ascend still does if the list and the keys stay, and if an item is replaced by
 /// one with an equal key.
 pub fn keys_that_stay_ascend<P: PtrCore, T: SimpleOrdItem>()
-    ensures same { (old new : Ordered P.Inx T)
-        → order_in P.Inx.number new ≡ order_in P.Inx.number old
+    ensures same { (old new : Ordered T)
+        → order_in new ≡ order_in old
         → ((i : ℕ) → option_map (λ e. T.key_of e.1) (entry_in new i)
         ≡ option_map (λ e. T.key_of e.1) (entry_in old i))
-        → IsAscending P.Inx.number T.Key.cmp T.key_of old
-        → IsAscending P.Inx.number T.Key.cmp T.key_of new }
-    ensures replaced { (i g : ℕ) (t u : T) (old new : Ordered P.Inx T)
-        → IsReplaced P.Inx.number i g t u old new
+        → IsAscending T.Key.cmp T.key_of old
+        → IsAscending T.Key.cmp T.key_of new }
+    ensures replaced { (i g : ℕ) (t u : T) (old new : Ordered T)
+        → IsReplaced i g t u old new
         → T.Key.cmp (T.key_of t) (T.key_of u) ≡ Way.Equal
-        → IsAscending P.Inx.number T.Key.cmp T.key_of old
-        → IsAscending P.Inx.number T.Key.cmp T.key_of new }
+        → IsAscending T.Key.cmp T.key_of old
+        → IsAscending T.Key.cmp T.key_of new }
 {}
 
 /// A list whose keys ascend still does after a removal.
 pub fn removals_keep_keys_ascending<P: PtrCore, T: SimpleOrdItem>()
-    ensures { (last : Option ℕ) (i : ℕ) (old new : Ordered P.Inx T)
-        → IsEntryRemoved P.Inx.number last i old new
-        → IsAscending P.Inx.number T.Key.cmp T.key_of old
-        → IsAscending P.Inx.number T.Key.cmp T.key_of new }
+    ensures { (last : Option ℕ) (i : ℕ) (old new : Ordered T)
+        → IsEntryRemoved last i old new
+        → IsAscending T.Key.cmp T.key_of old
+        → IsAscending T.Key.cmp T.key_of new }
 {}
 
 /// If an invalidation ended a pointer, the list stays.
 pub fn invalidations_keep_the_list<P: PtrCore, T>()
-    ensures { (last : Option ℕ) (o : Ordered P.Inx T) (i : ℕ)
-        → order_in P.Inx.number (invalidated_in last o i) ≡ order_in P.Inx.number o }
+    ensures { (last : Option ℕ) (o : Ordered T) (i : ℕ)
+        → order_in (invalidated_in last o i) ≡ order_in o }
 {}
 
 /// Whatever is written in place of an item, the list, the tree and all else stay.
 pub fn writes_keep_the_list<P: PtrCore, T>()
-    ensures replaced { (o : Ordered P.Inx T) (i g : ℕ) (t u : T) → IsOrdered P.Inx.number o
+    ensures replaced { (o : Ordered T) (i g : ℕ) (t u : T) → IsOrdered o
         → entry_in o i ≡ Some (g, u)
-        → IsReplaced P.Inx.number i g t u o (with_item o i t) }
-    ensures ordered { (o : Ordered P.Inx T) (i : ℕ) (t : T) → IsOrdered P.Inx.number o
+        → IsReplaced i g t u o (with_item o i t) }
+    ensures ordered { (o : Ordered T) (i : ℕ) (t : T) → IsOrdered o
         → IsSome (entry_in o i)
-        → IsOrdered P.Inx.number (with_item o i t) }
+        → IsOrdered (with_item o i t) }
 {}
 
 /// If what the items hold is recast, the list and the tree stay.
 pub fn recasts_keep_the_list<N, P: PtrCore, T: Recast<N>>()
-    ensures ordered { (f : N → Option N) (o : Ordered P.Inx T) → IsOrdered P.Inx.number o
-        → IsOrdered P.Inx.number (recasted_in T.items f (T.recasted f) o) }
-    ensures tree { (f : N → Option N) (o : Ordered P.Inx T) → IsOrdered P.Inx.number o
-        → tree_in P.Inx.number (recasted_in T.items f (T.recasted f) o) ≡ tree_in P.Inx.number o }
+    ensures ordered { (f : N → Option N) (o : Ordered T) → IsOrdered o
+        → IsOrdered (recasted_in T.items f (T.recasted f) o) }
+    ensures tree { (f : N → Option N) (o : Ordered T) → IsOrdered o
+        → tree_in (recasted_in T.items f (T.recasted f) o) ≡ tree_in o }
 {}
 
 /// If a limit is set, the list and the tree stay.
 pub fn limits_keep_the_list<P: PtrCore, T>()
-    ensures ordered { (o : Ordered P.Inx T) (max : ℕ) → IsOrdered P.Inx.number o
-        → IsOrdered P.Inx.number (record o { chains = with_limit P.Inx.greatest o.chains max }) }
-    ensures tree { (o : Ordered P.Inx T) (max : ℕ) → IsOrdered P.Inx.number o
-        → tree_in P.Inx.number (record o { chains = with_limit P.Inx.greatest o.chains max })
-        ≡ tree_in P.Inx.number o }
+    ensures ordered { (o : Ordered T) (max : ℕ) → IsOrdered o
+        → IsOrdered (record o { chains = with_limit P.Inx.greatest o.chains max }) }
+    ensures tree { (o : Ordered T) (max : ℕ) → IsOrdered o
+        → tree_in (record o { chains = with_limit P.Inx.greatest o.chains max }) ≡ tree_in o }
 {}
 
 /// A list whose keys ascend still does after an insertion at the place that was found for the
@@ -126,27 +123,27 @@ pub fn limits_keep_the_list<P: PtrCore, T>()
 /// that goes between keys that are not greater and keys that are not less.
 pub fn insertions_keep_keys_ascending<P: PtrCore, T: SimpleOrdItem>()
     ensures by_key { (place : Option (ℕ × Way)) (t : T) (result : Result (P × Option T) Refused)
-        (old new : Ordered P.Inx T)
-        → (growth : Option Bool) → IsOrdered P.Inx.number old
-        → IsPlaceByKey P.Inx.number T.Key.cmp T.key_of (T.key_of t) old place
-        → InsertsAt P.Inx.number P.index P.generation growth place t result old new
-        → IsAscending P.Inx.number T.Key.cmp T.key_of old
-        → IsAscending P.Inx.number T.Key.cmp T.key_of new }
+        (old new : Ordered T)
+        → (growth : Option Bool) → IsOrdered old
+        → IsPlaceByKey T.Key.cmp T.key_of (T.key_of t) old place
+        → InsertsAt P.index P.generation growth place t result old new
+        → IsAscending T.Key.cmp T.key_of old
+        → IsAscending T.Key.cmp T.key_of new }
     ensures before_equal { (place : Option (ℕ × Way)) (t : T)
-        (result : Result (P × Option T) Refused) (old new : Ordered P.Inx T)
-        → (growth : Option Bool) → IsOrdered P.Inx.number old
-        → IsPlaceBeforeEqual P.Inx.number T.Key.cmp T.key_of (T.key_of t) old place
-        → InsertsAt P.Inx.number P.index P.generation growth place t result old new
-        → IsAscending P.Inx.number T.Key.cmp T.key_of old
-        → IsAscending P.Inx.number T.Key.cmp T.key_of new }
-    ensures between { (before after : List ℕ) (i g : ℕ) (t : T) (old new : Ordered P.Inx T)
-        → IsOrdered P.Inx.number new → IsAdded P.Inx.number i g t old new
-        → order_in P.Inx.number old ≡ before ++ after
-        → order_in P.Inx.number new ≡ before ++ i ∷ after
-        → AllIn (λ j. asked_at T.Key.cmp T.key_of (T.key_of t) old j ≢ Way.Less) before
-        → AllIn (λ j. asked_at T.Key.cmp T.key_of (T.key_of t) old j ≢ Way.Greater) after
-        → IsAscending P.Inx.number T.Key.cmp T.key_of old
-        → IsAscending P.Inx.number T.Key.cmp T.key_of new }
+        (result : Result (P × Option T) Refused) (old new : Ordered T)
+        → (growth : Option Bool) → IsOrdered old
+        → IsPlaceBeforeEqual T.Key.cmp T.key_of (T.key_of t) old place
+        → InsertsAt P.index P.generation growth place t result old new
+        → IsAscending T.Key.cmp T.key_of old
+        → IsAscending T.Key.cmp T.key_of new }
+    ensures between { (before after : List ℕ) (i g : ℕ) (t : T) (old new : Ordered T)
+        → IsOrdered new → IsAdded i g t old new
+        → order_in old ≡ before ++ after
+        → order_in new ≡ before ++ i ∷ after
+        → AllByRecursion (λ j. asked_at T.Key.cmp T.key_of (T.key_of t) old j ≢ Way.Less) before
+        → AllByRecursion (λ j. asked_at T.Key.cmp T.key_of (T.key_of t) old j ≢ Way.Greater) after
+        → IsAscending T.Key.cmp T.key_of old
+        → IsAscending T.Key.cmp T.key_of new }
 {}
 
 /// If no answer of a closure that a search asks is `Equal`, the last entry that answered `Greater`
@@ -159,16 +156,16 @@ pub fn questions_end_at_the_gap()
 
 /// After a canonical transfer the entries along the list are those in the order of their indexes.
 pub fn canonical_transfers_list_by_index<P: PtrCore, T>()
-    ensures { (n g : ℕ) (own : Room) (old new : Ordered P.Inx T)
+    ensures { (n g : ℕ) (own : Room) (old new : Ordered T)
         → IsFilled entry_in size_in counter_in room_in indexed n g own old new
-        → order_in P.Inx.number new ≡ range_with_len 1 n
-        → ordered_entries P.Inx.number new ≡ indexed new }
+        → order_in new ≡ range_with_len 1 n
+        → ordered_entries new ≡ indexed new }
 {}
 
 /// A second `compress_canonical` changes no index.
 pub fn compress_canonical_stays<P: PtrCore, T>()
-    ensures { (before between after : Ordered P.Inx T) (reset again : Bool)
-        → IsLaidInOrder P.Inx.number P.Gen.last reset before between
-        → (second : IsLaidInOrder P.Inx.number P.Gen.last again between after)
-        → (i : ℕ) → On (order_in P.Inx.number between) i → second.to i ≡ i }
+    ensures { (before between after : Ordered T) (reset again : Bool)
+        → IsLaidInOrder P.Gen.last reset before between
+        → (second : IsLaidInOrder P.Gen.last again between after)
+        → (i : ℕ) → On (order_in between) i → second.to i ≡ i }
 {}

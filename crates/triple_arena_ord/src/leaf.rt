@@ -6,16 +6,16 @@ ghost use Rattle.rank_tree.specs.Store.{child_of};
 ghost use Rattle.triple_arena_chain.specs.Chains.{IsBetween};
 ghost use Rattle.triple_arena_chain.specs.Kinds.{ends_by};
 ghost use Rattle.triple_arena_chain.specs.Links.{ends_in};
-ghost use Rattle.triple_arena_ord.specs.Node.{knots_in, prev_for, next_for};
+ghost use Rattle.triple_arena_ord.specs.Node.{nodes_in, prev_for, next_for};
 ghost use Rattle.triple_arena_ord.specs.Inserted.{IsAdded};
 ghost use Rattle.triple_arena_ord.specs.Ordered.{IsOrdered, StandsBeside, order_in, moved};
 ghost use Rattle.triple_arena_ord.specs.Ordered.{replaced};
 
 use crate::{IndexNode, OrdSlots, SimpleOrdArenaNode};
+use proof_marks::unreached;
 use rank_tree::{Side, bring_in};
 use triple_arena::{ArenaTrait, PtrCore, PtrInxCore};
 use triple_arena_chain::{ChainArena, ChainArenaTrait};
-use unreached::unreached;
 
 // A new entry directly before or after that of `holder`, which has no child on this side.
 #[inline(always)]
@@ -26,21 +26,19 @@ pub(crate) fn insert_leaf<P: PtrCore, T: Drop, S: OrdSlots<P, T>>(
     side: Side,
     t: T,
 ) -> P
-    requires ordered { IsOrdered P.Inx.number
+    requires ordered { IsOrdered
         (record { chains = chains.old; root = option_map P.Inx.number root.old }) }
     requires room { live_count chains.old < arena_capacity chains.old }
-    requires lives { IsSome (knots_in P.Inx.number chains.old (P.Inx.number holder)) }
+    requires lives { IsSome (nodes_in chains.old (P.Inx.number holder)) }
     requires free { option_map (λ v. child_of side v)
-        (knots_in P.Inx.number chains.old (P.Inx.number holder)) ≡ Some None }
-    ensures ordered { IsOrdered P.Inx.number
+        (nodes_in chains.old (P.Inx.number holder)) ≡ Some None }
+    ensures ordered { IsOrdered
         (record { chains = chains.new; root = option_map P.Inx.number root.new }) }
     ensures order { StandsBeside side
-        (order_in P.Inx.number
-        (record { chains = chains.old; root = option_map P.Inx.number root.old }))
-        (order_in P.Inx.number
-        (record { chains = chains.new; root = option_map P.Inx.number root.new }))
+        (order_in (record { chains = chains.old; root = option_map P.Inx.number root.old }))
+        (order_in (record { chains = chains.new; root = option_map P.Inx.number root.new }))
         (P.Inx.number holder) (P.index result) }
-    ensures added { IsAdded P.Inx.number (P.index result) (P.generation result) t
+    ensures added { IsAdded (P.index result) (P.generation result) t
         (record { chains = chains.old; root = option_map P.Inx.number root.old })
         (record { chains = chains.new; root = option_map P.Inx.number root.new }) }
     ensures counter { chains.new.counter ≡ chains.old.counter }
@@ -60,11 +58,11 @@ pub(crate) fn neighbors_beside<P: PtrCore, T: Drop, S: OrdSlots<P, T>>(
     holder: P::Inx,
     side: Side,
 ) -> (Option<P::Inx>, Option<P::Inx>)
-    requires { IsSome (knots_in P.Inx.number chains.now (P.Inx.number holder)) }
-    ensures prev { option_map (λ e. prev_for P.Inx.number side e.1 (P.Inx.number holder))
+    requires { IsSome (nodes_in chains.now (P.Inx.number holder)) }
+    ensures prev { option_map (λ e. prev_for side e.1 (P.Inx.number holder))
         (entry_at chains.now (P.Inx.number holder))
         ≡ Some (option_map P.Inx.number result.0) }
-    ensures next { option_map (λ e. next_for P.Inx.number side e.1 (P.Inx.number holder))
+    ensures next { option_map (λ e. next_for side e.1 (P.Inx.number holder))
         (entry_at chains.now (P.Inx.number holder))
         ≡ Some (option_map P.Inx.number result.1) }
 {
@@ -85,19 +83,18 @@ fn gap_beside<P: PtrCore, T: Drop, S: OrdSlots<P, T>>(
     holder: P::Inx,
     side: Side,
 ) -> (Option<P::Inx>, Option<P::Inx>)
-    requires ordered { IsOrdered P.Inx.number
+    requires ordered { IsOrdered
         (record { chains = chains.now; root = option_map P.Inx.number root }) }
-    requires lives { IsSome (knots_in P.Inx.number chains.now (P.Inx.number holder)) }
+    requires lives { IsSome (nodes_in chains.now (P.Inx.number holder)) }
     requires free { option_map (λ v. child_of side v)
-        (knots_in P.Inx.number chains.now (P.Inx.number holder)) ≡ Some None }
-    ensures prev { option_map (λ e. prev_for P.Inx.number side e.1 (P.Inx.number holder))
+        (nodes_in chains.now (P.Inx.number holder)) ≡ Some None }
+    ensures prev { option_map (λ e. prev_for side e.1 (P.Inx.number holder))
         (entry_at chains.now (P.Inx.number holder))
         ≡ Some (option_map P.Inx.number result.0) }
-    ensures next { option_map (λ e. next_for P.Inx.number side e.1 (P.Inx.number holder))
+    ensures next { option_map (λ e. next_for side e.1 (P.Inx.number holder))
         (entry_at chains.now (P.Inx.number holder))
         ≡ Some (option_map P.Inx.number result.1) }
-    ensures gap { IsBetween (ends_in P.Inx.number chains.now)
-        (ends_by P.Inx.number (result.0, result.1)) }
+    ensures gap { IsBetween (ends_in chains.now) (ends_by P.Inx.number (result.0, result.1)) }
 {
     neighbors_beside(chains, holder, side)
 }

@@ -12,7 +12,7 @@ use triple_arena_chain::{ChainArena, ChainArenaTrait, LinkNoGen};
 
 /// What has the links of a list.
 pub(crate) trait Links<P: PtrCore, T> {
-    ghost links: { Self → Content (Link P.Inx (Node P.Inx T)) };
+    ghost links: { Self → Content (Link (Node T)) };
 
     /// The generation and the link at an index, if it is live.
     fn link_entry(&self, i: P::Inx) -> Option<(P::Gen, &LinkNoGen<P, SimpleOrdArenaNode<P, T>>)>

@@ -10,11 +10,11 @@ ghost use Rattle.triple_arena_ord.specs.Near.{onward as onward_of};
 
 use crate::SimpleOrdItem;
 use crate::links::Links;
+use proof_marks::unreached;
 use std::cmp::Ordering;
 use triple_arena::{PtrCore, PtrInxCore};
 use triple_arena_chain::IndexLink;
 use triple_arena_ptr::{OptionalInx, Probes};
-use unreached::unreached;
 
 // Where a search along the list goes from a link that answered so, after it went `way`: nowhere, if
 // it ends.
@@ -23,7 +23,7 @@ fn onward<I: PtrInxCore<Word = W>, W: Copy, N>(
     way: Ordering,
     answer: Ordering,
 ) -> Option<I>
-    ensures { option_map I.number result ≡ onward_of way answer (link_ends I.number link.now) }
+    ensures { option_map I.number result ≡ onward_of way answer (link_ends link.now) }
 {
     match answer {
         Ordering::Less => match way {
@@ -52,21 +52,21 @@ where
     P: PtrCore,
     T: SimpleOrdItem + Drop,
     A: Links<P, T>,
-    requires place { (w : List ℕ) × IsLinear (ends_in P.Inx.number (A.links arena.now)) w
+    requires place { (w : List ℕ) × IsLinear (ends_in (A.links arena.now)) w
         × On w (P.Inx.number start) }
     requires no_more { ⊤ }
-    ensures stops { (w : List ℕ) → IsLinear (ends_in P.Inx.number (A.links arena.now)) w
+    ensures stops { (w : List ℕ) → IsLinear (ends_in (A.links arena.now)) w
         → On w (P.Inx.number start)
         → IfSome result (λ a. IsStop
         (asked_in T.Key.cmp T.key_of k.now (items_in (A.links arena.now))) w
         (P.Inx.number a.0) a.1) }
-    ensures near { (w : List ℕ) → IsLinear (ends_in P.Inx.number (A.links arena.now)) w
+    ensures near { (w : List ℕ) → IsLinear (ends_in (A.links arena.now)) w
         → On w (P.Inx.number start)
         → IsParted (asked_in T.Key.cmp T.key_of k.now (items_in (A.links arena.now))) w
         → IsAtHand num (asked_in T.Key.cmp T.key_of k.now (items_in (A.links arena.now))) w
         (P.Inx.number start)
         → result ≢ None }
-    ensures walked { (w : List ℕ) → IsLinear (ends_in P.Inx.number (A.links arena.now)) w
+    ensures walked { (w : List ℕ) → IsLinear (ends_in (A.links arena.now)) w
         → (on : On w (P.Inx.number start))
         → IsWalked num (path_from
         (asked_in T.Key.cmp T.key_of k.now (items_in (A.links arena.now))) on)

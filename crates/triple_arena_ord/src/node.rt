@@ -1,5 +1,6 @@
 //! A node of the tree, which holds its item.
 ghost use Rattle.std.specs.Prelude.{◌≡◌, None};
+ghost use Rattle.std.specs.Option.{option_map};
 
 use triple_arena::{Part, PtrCore, PtrInxCore};
 use triple_arena_chain::IndexLink;
@@ -29,7 +30,13 @@ impl<I: PtrInxCore<Word = W>, W: Copy, T> IndexNode<OptionalInx<I, W>, T> {
     // A node without children, under this parent if there is one.
     pub(crate) fn under(parent: Option<I>, t: T) -> Self
         ensures { result
-            ≡ record { p_back = parent; rank = 1; p_tree0 = None; p_tree1 = None; t = t } }
+            ≡ record {
+              p_back = option_map I.number parent;
+              rank = 1;
+              p_tree0 = None;
+              p_tree1 = None;
+              t = t;
+            } }
     {
         IndexNode {
             p_back: OptionalInx::of(parent),
@@ -42,21 +49,21 @@ impl<I: PtrInxCore<Word = W>, W: Copy, T> IndexNode<OptionalInx<I, W>, T> {
 
     /// The index of the parent.
     pub fn p_back(&self) -> Option<I>
-        ensures { result ≡ self.now.p_back }
+        ensures { option_map I.number result ≡ self.now.p_back }
     {
         self.p_back.get()
     }
 
     /// The index of the left child.
     pub fn p_tree0(&self) -> Option<I>
-        ensures { result ≡ self.now.p_tree0 }
+        ensures { option_map I.number result ≡ self.now.p_tree0 }
     {
         self.p_tree0.get()
     }
 
     /// The index of the right child.
     pub fn p_tree1(&self) -> Option<I>
-        ensures { result ≡ self.now.p_tree1 }
+        ensures { option_map I.number result ≡ self.now.p_tree1 }
     {
         self.p_tree1.get()
     }

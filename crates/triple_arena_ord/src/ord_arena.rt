@@ -5,7 +5,7 @@ ghost use Rattle.triple_arena.specs.Content.{live_count, arena_capacity};
 ghost use Rattle.triple_arena_ord.specs.Ordered.{IsOrdered, StandsBeside, order_in};
 ghost use Rattle.triple_arena_ord.specs.Inserted.{AddsAt, IsAdded};
 ghost use Rattle.rank_tree.specs.Store.{child_of};
-ghost use Rattle.triple_arena_ord.specs.Node.{knots_in};
+ghost use Rattle.triple_arena_ord.specs.Node.{nodes_in};
 
 mod advancer;
 mod arena_calls;
@@ -38,6 +38,7 @@ pub(crate) mod walk;
 
 use crate::leaf::{insert_leaf, move_end};
 use crate::{IndexNode, OrdSlots, SimpleOrdArenaNode};
+use proof_marks::unreached;
 use rank_tree::Side;
 use std::marker::Model;
 use triple_arena::{
@@ -45,7 +46,6 @@ use triple_arena::{
     NonZeroInxVec, PtrCore,
 };
 use triple_arena_chain::{ChainArena, LinkNoGen};
-use unreached::unreached;
 
 /// Items in one list, each with a pointer, and a search tree over them. An insertion that searches
 /// puts an item where its key belongs.
@@ -91,17 +91,17 @@ impl<P: PtrCore, T: Drop, S: OrdSlots<P, T>> Model for SimpleOrdArena<P, T, S> {
     ghost use Rattle.triple_arena_chain.specs.Chains.{first_or, last_or};
     ghost use Rattle.triple_arena_ord.specs.Ordered.{Ordered, IsOrdered, order_in};
 
-    ghost Value = { Ordered P.Inx T };
+    ghost Value = { Ordered T };
 
     ghost view = { λ a. record { chains = a.chains; root = option_map P.Inx.number a.root } };
 
-    ghost invariant = { λ a. IsOrdered P.Inx.number
+    ghost invariant = { λ a. IsOrdered
         (record { chains = a.chains; root = option_map P.Inx.number a.root })
         × (option_map P.Inx.number a.first
-        ≡ first_or (order_in P.Inx.number
+        ≡ first_or (order_in
         (record { chains = a.chains; root = option_map P.Inx.number a.root })) None)
         × (option_map P.Inx.number a.last
-        ≡ last_or None (order_in P.Inx.number
+        ≡ last_or None (order_in
         (record { chains = a.chains; root = option_map P.Inx.number a.root }))) };
 }
 
@@ -110,17 +110,16 @@ impl<P: PtrCore, T: Drop, S: OrdSlots<P, T>> SimpleOrdArena<P, T, S> {
     // is room for it. The call is inlined, since the side is known at each.
     #[inline(always)]
     pub(crate) fn put_beside(&mut self, holder: P::Inx, side: Side, t: T) -> P
-        requires lives { IsSome (knots_in P.Inx.number self.old.chains (P.Inx.number holder)) }
+        requires lives { IsSome (nodes_in self.old.chains (P.Inx.number holder)) }
         requires free { option_map (λ v. child_of side v)
-            (knots_in P.Inx.number self.old.chains (P.Inx.number holder)) ≡ Some None }
+            (nodes_in self.old.chains (P.Inx.number holder)) ≡ Some None }
         requires room { live_count self.old.chains < arena_capacity self.old.chains }
-        ensures order { StandsBeside side (order_in P.Inx.number self.old)
-            (order_in P.Inx.number self.new) (P.Inx.number holder) (P.index result) }
-        ensures added { IsAdded P.Inx.number (P.index result) (P.generation result) t
-            self.old self.new }
+        ensures order { StandsBeside side (order_in self.old)
+            (order_in self.new) (P.Inx.number holder) (P.index result) }
+        ensures added { IsAdded (P.index result) (P.generation result) t self.old self.new }
         ensures counter { self.new.chains.counter ≡ self.old.chains.counter }
         ensures room { self.new.chains.room ≡ self.old.chains.room }
-        ensures ordered { IsOrdered P.Inx.number self.new }
+        ensures ordered { IsOrdered self.new }
     {
         let p = insert_leaf(&mut self.chains, &mut self.root, holder, side, t);
         let inx = p.inx();
@@ -133,8 +132,7 @@ impl<P: PtrCore, T: Drop, S: OrdSlots<P, T>> SimpleOrdArena<P, T, S> {
     pub(crate) fn put_first(&mut self, t: T) -> P
         requires first { self.old.root ≡ None }
         requires room { live_count self.old.chains < arena_capacity self.old.chains }
-        ensures { AddsAt P.Inx.number None (P.index result) (P.generation result) t
-            self.old self.new }
+        ensures { AddsAt None (P.index result) (P.generation result) t self.old self.new }
     {
         let node: SimpleOrdArenaNode<P, T> = IndexNode::under(None, t);
         match self.chains.insert_in_gap_within_capacity(None, None, node) {

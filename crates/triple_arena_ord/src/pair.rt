@@ -7,8 +7,8 @@ use crate::SimpleOrdItem;
 use std::fmt;
 use triple_arena::{Recast, Recaster};
 
-/// An item with a key `k`, by which it is ordered in an arena, and a value `v`. There is no call
-/// that lends the key for writing, so that no key of a stored item is changed by mistake.
+/// An item with a key `k`, by which it is ordered in an arena, and a value `v`. No call borrows the
+/// key for writing, so that no key of a stored item is changed by mistake.
 #[derive(Clone, Copy, PartialEq, Eq, PartialOrd, Ord, Hash)]
 pub struct OrdPair<K, V> {
     k: K,

@@ -4,15 +4,15 @@ ghost use Rattle.std.specs.Option.{option_map};
 ghost use Rattle.triple_arena.specs.Content.{live_count};
 ghost use Rattle.triple_arena_chain.specs.Chains.{IsLinear, next_at, first_or};
 ghost use Rattle.triple_arena_chain.specs.Links.{ends_in};
-ghost use Rattle.triple_arena_ord.specs.Node.{knots_in, rest};
+ghost use Rattle.triple_arena_ord.specs.Node.{nodes_in, rest};
 ghost use Rattle.triple_arena_ord.specs.Rebuilt.{IsAhead, IsRebuilt};
 ghost use Rattle.rank_tree.specs.Halving.{part_rank, IsTopRank, IsBuilt};
 
 use crate::{OrdSlots, SimpleOrdArenaNode};
-use rank_tree::{Knots, TreeLinks, reparent};
+use proof_marks::unreached;
+use rank_tree::{NodeLinks, NodeStore, reparent};
 use triple_arena::{ArenaTrait, PtrCore};
 use triple_arena_chain::{ChainArena, ChainArenaTrait};
-use unreached::unreached;
 
 // The rank of the root of a part of so many entries, if that of a greater one is `top`.
 pub(crate) fn rank_of_part(count: usize, top: u8) -> u8
@@ -39,8 +39,7 @@ fn next_of<P: PtrCore, T: Drop, S: OrdSlots<P, T>>(
     chains: &ChainArena<P, SimpleOrdArenaNode<P, T>, S>,
     i: P::Inx,
 ) -> Option<P::Inx>
-    ensures { option_map P.Inx.number result ≡ next_at (ends_in P.Inx.number chains.now)
-        (P.Inx.number i) }
+    ensures { option_map P.Inx.number result ≡ next_at (ends_in chains.now) (P.Inx.number i) }
 {
     match chains.get_inx_link_no_gen(i) {
         Some((_, link)) => link.next(),
@@ -57,14 +56,13 @@ fn build<P: PtrCore, T: Drop, S: OrdSlots<P, T>>(
     top: u8,
 ) -> Option<P::Inx>
     requires { (w : List ℕ)
-        × IsAhead (ends_in P.Inx.number chains.old) (option_map P.Inx.number cursor.old) count w }
+        × IsAhead (ends_in chains.old) (option_map P.Inx.number cursor.old) count w }
     ensures built { (w : List ℕ)
-        → IsAhead (ends_in P.Inx.number chains.old) (option_map P.Inx.number cursor.old) count w
-        → IsBuilt top w (option_map P.Inx.number result) (knots_in P.Inx.number chains.old)
-        (knots_in P.Inx.number chains.new) }
+        → IsAhead (ends_in chains.old) (option_map P.Inx.number cursor.old) count w
+        → IsBuilt top w (option_map P.Inx.number result) (nodes_in chains.old)
+        (nodes_in chains.new) }
     ensures goes_on { (w : List ℕ)
-        → (a : IsAhead (ends_in P.Inx.number chains.old)
-        (option_map P.Inx.number cursor.old) count w)
+        → (a : IsAhead (ends_in chains.old) (option_map P.Inx.number cursor.old) count w)
         → option_map P.Inx.number cursor.new ≡ a.after }
     ensures keeps { rest chains.new ≡ rest chains.old }
 {
@@ -82,7 +80,7 @@ fn build<P: PtrCore, T: Drop, S: OrdSlots<P, T>>(
     let rank = rank_of_part(count, top);
     chains.write(
         root,
-        &TreeLinks {
+        &NodeLinks {
             parent: None,
             left,
             right,
@@ -97,13 +95,13 @@ pub(crate) fn rebuild<P: PtrCore, T: Drop, S: OrdSlots<P, T>>(
     chains: &mut ChainArena<P, SimpleOrdArenaNode<P, T>, S>,
     first: Option<P::Inx>,
 ) -> Option<P::Inx>
-    requires { (w : List ℕ) × IsLinear (ends_in P.Inx.number chains.old) w
+    requires { (w : List ℕ) × IsLinear (ends_in chains.old) w
         × (length w ≡ live_count chains.old)
         × (option_map P.Inx.number first ≡ first_or w None) }
-    ensures rebuilt { (w : List ℕ) → IsLinear (ends_in P.Inx.number chains.old) w
+    ensures rebuilt { (w : List ℕ) → IsLinear (ends_in chains.old) w
         → length w ≡ live_count chains.old
         → option_map P.Inx.number first ≡ first_or w None
-        → IsRebuilt w (option_map P.Inx.number result) (knots_in P.Inx.number chains.new) }
+        → IsRebuilt w (option_map P.Inx.number result) (nodes_in chains.new) }
     ensures keeps { rest chains.new ≡ rest chains.old }
 {
     let count = chains.len();

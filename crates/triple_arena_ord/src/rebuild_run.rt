@@ -6,17 +6,17 @@ ghost use Rattle.triple_arena_ptr.specs.Index.{max_index_of};
 ghost use Rattle.triple_arena.specs.Content.{live_count};
 ghost use Rattle.triple_arena_chain.specs.Chains.{IsLinear};
 ghost use Rattle.triple_arena_chain.specs.Links.{ends_in};
-ghost use Rattle.triple_arena_ord.specs.Node.{knots_in, rest};
+ghost use Rattle.triple_arena_ord.specs.Node.{nodes_in, rest};
 ghost use Rattle.triple_arena_ord.specs.Rebuilt.{IsRebuilt};
 ghost use Rattle.triple_arena_ord.specs.RebuiltRun.{IsRunBuilt, middle};
 
 use crate::rebuild::{rank_of_part, top_rank};
 use crate::{OrdSlots, SimpleOrdArenaNode};
-use rank_tree::{Knots, TreeLinks};
+use proof_marks::{recall, unreached};
+use rank_tree::{NodeLinks, NodeStore};
 use std::num::NonZeroUsize;
 use triple_arena::{ArenaTrait, PtrCore, PtrInxCore};
 use triple_arena_chain::ChainArena;
-use unreached::unreached;
 
 // The index with a number.
 fn index_of<P: PtrCore>(number: usize) -> P::Inx
@@ -56,10 +56,9 @@ fn build_run<P: PtrCore, T: Drop, S: OrdSlots<P, T>>(
 )
     requires some { 1 ≤ count }
     requires within { before + count ≤ max_index_of P.Inx.greatest }
-    requires live { (k : ℕ) → before < k → k ≤ before + count
-        → IsSome (knots_in P.Inx.number chains.old k) }
+    requires live { (k : ℕ) → before < k → k ≤ before + count → IsSome (nodes_in chains.old k) }
     ensures built { IsRunBuilt top (option_map P.Inx.number parent) before count
-        (knots_in P.Inx.number chains.old) (knots_in P.Inx.number chains.new) }
+        (nodes_in chains.old) (nodes_in chains.new) }
     ensures keeps { rest chains.new ≡ rest chains.old }
 {
     let half = count / 2;
@@ -68,7 +67,7 @@ fn build_run<P: PtrCore, T: Drop, S: OrdSlots<P, T>>(
     let root = index_of::<P>(passed);
     chains.write(
         root,
-        &TreeLinks {
+        &NodeLinks {
             parent,
             left: root_of::<P>(before, half),
             right: root_of::<P>(passed, more),
@@ -89,15 +88,14 @@ fn build_run<P: PtrCore, T: Drop, S: OrdSlots<P, T>>(
 pub(crate) fn rebuild_run<P: PtrCore, T: Drop, S: OrdSlots<P, T>>(
     chains: &mut ChainArena<P, SimpleOrdArenaNode<P, T>, S>,
 ) -> Option<P::Inx>
-    requires linear { IsLinear (ends_in P.Inx.number chains.old)
-        (range_with_len 1 (live_count chains.old)) }
+    requires linear { IsLinear (ends_in chains.old) (range_with_len 1 (live_count chains.old)) }
     requires no_more { ⊤ }
     ensures rebuilt { IsRebuilt (range_with_len 1 (live_count chains.old))
-        (option_map P.Inx.number result) (knots_in P.Inx.number chains.new) }
+        (option_map P.Inx.number result) (nodes_in chains.new) }
     ensures keeps { rest chains.new ≡ rest chains.old }
 {
     // So many indexes are the pointers'.
-    let _ = chains.capacity();
+    recall!(chains.capacity());
     let count = chains.len();
     if count > 0 {
         build_run(chains, None, 0, count, top_rank(count));

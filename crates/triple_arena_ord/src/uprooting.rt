@@ -6,12 +6,12 @@ ghost use Rattle.triple_arena.specs.Content.{removed};
 ghost use Rattle.triple_arena.specs.Entries.{without};
 ghost use Rattle.triple_arena_chain.specs.Chains.{next_at};
 ghost use Rattle.triple_arena_chain.specs.Links.{ends_in};
-ghost use Rattle.triple_arena_ord.specs.Node.{knots_in, items_in, rest};
+ghost use Rattle.triple_arena_ord.specs.Node.{nodes_in, items_in, rest};
 ghost use Rattle.triple_arena_ord.specs.Ordered.{IsOrdered, order_in};
 ghost use Rattle.triple_arena_ord.specs.Removal.{Loses, IsUprooted};
 
 use crate::{OrdSlots, SimpleOrdArenaNode};
-use rank_tree::{Knots, bring_out, replace};
+use rank_tree::{NodeStore, bring_out, replace};
 use triple_arena::{ArenaTrait, PtrCore, PtrInxCore};
 use triple_arena_chain::ChainArena;
 
@@ -35,20 +35,20 @@ fn uproot<P: PtrCore, T: Drop, S: OrdSlots<P, T>>(
     gone: P::Inx,
     next: Option<P::Inx>,
 )
-    requires ordered { IsOrdered P.Inx.number
+    requires ordered { IsOrdered
         (record { chains = chains.old; root = option_map P.Inx.number root.old }) }
-    requires lives { IsSome (knots_in P.Inx.number chains.old (P.Inx.number gone)) }
-    requires next { next_at (ends_in P.Inx.number chains.old) (P.Inx.number gone)
+    requires lives { IsSome (nodes_in chains.old (P.Inx.number gone)) }
+    requires next { next_at (ends_in chains.old) (P.Inx.number gone)
         ≡ option_map P.Inx.number next }
-    ensures uprooted { IsUprooted P.Inx.number
+    ensures uprooted { IsUprooted
         (record { chains = chains.old; root = option_map P.Inx.number root.old })
         (record { chains = chains.new; root = option_map P.Inx.number root.new })
         (P.Inx.number gone) }
     ensures keeps { rest chains.new ≡ rest chains.old }
 {
     let _count = chains.len();
-    let knot = chains.read(gone);
-    let moved = moved_up(knot.right, next);
+    let links = chains.read(gone);
+    let moved = moved_up(links.right, next);
     // There is one call of it, so that it is inlined.
     let out = moved.unwrap_or(gone);
     bring_out(chains, root, out);
@@ -59,7 +59,7 @@ fn uproot<P: PtrCore, T: Drop, S: OrdSlots<P, T>>(
 }
 
 // The entry at an index, which has this one after it, leaves the tree and the list. Its generation
-// and its item are given back, and whether the generations started again.
+// and its item are given back, and whether the generations wrapped.
 #[inline(always)]
 pub(crate) fn take_entry<P: PtrCore, T: Drop, S: OrdSlots<P, T>>(
     chains: &mut ChainArena<P, SimpleOrdArenaNode<P, T>, S>,
@@ -67,18 +67,16 @@ pub(crate) fn take_entry<P: PtrCore, T: Drop, S: OrdSlots<P, T>>(
     gone: P::Inx,
     next: Option<P::Inx>,
 ) -> ((P::Gen, T), bool)
-    requires ordered { IsOrdered P.Inx.number
+    requires ordered { IsOrdered
         (record { chains = chains.old; root = option_map P.Inx.number root.old }) }
-    requires lives { IsSome (knots_in P.Inx.number chains.old (P.Inx.number gone)) }
-    requires next { next_at (ends_in P.Inx.number chains.old) (P.Inx.number gone)
+    requires lives { IsSome (nodes_in chains.old (P.Inx.number gone)) }
+    requires next { next_at (ends_in chains.old) (P.Inx.number gone)
         ≡ option_map P.Inx.number next }
-    ensures ordered { IsOrdered P.Inx.number
+    ensures ordered { IsOrdered
         (record { chains = chains.new; root = option_map P.Inx.number root.new }) }
     ensures order { Loses
-        (order_in P.Inx.number
-        (record { chains = chains.old; root = option_map P.Inx.number root.old }))
-        (order_in P.Inx.number
-        (record { chains = chains.new; root = option_map P.Inx.number root.new }))
+        (order_in (record { chains = chains.old; root = option_map P.Inx.number root.old }))
+        (order_in (record { chains = chains.new; root = option_map P.Inx.number root.new }))
         (P.Inx.number gone) }
     ensures entries { (k : ℕ)
         → items_in chains.new k ≡ without (items_in chains.old) (P.Inx.number gone) k }

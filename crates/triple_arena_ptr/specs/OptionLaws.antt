@@ -1,6 +1,6 @@
 -- The laws of comparisons and of hashing, at options.
 use Rattle.std.specs.Prelude.{◌≡◌, List, ℕ, ◌∷◌, Bool, true, Option, Some, None, IsTrue, refl}
-use Rattle.std.specs.Cmp.{IsPartialEquivalence, IsPartialOrder}
+use Rattle.std.specs.Cmp.{IsPartialEquivalence, IsPartialOrder, IsTotalOrder}
 use Rattle.std.specs.Hash.{le_bytes, option as option_fed}
 use Rattle.std.specs.Option.{option_map, option_eq, option_cmp, option_partial_cmp}
 use Rattle.std.specs.Ordering.{ordering_reverse}
@@ -88,3 +88,29 @@ module _ {K : Type 0} where
   options_agree C R same None (Some y) = refl
   options_agree C R same (Some x) None = refl
   options_agree C R same (Some x) (Some y) = same x y
+
+-- the laws of a comparison hold of what a function makes of two things
+module _ {K V : Type 0} (E : K → K → Bool) where
+  pub per_by : (f : V → K) → IsPartialEquivalence E
+      → IsPartialEquivalence (λ (x : V) (y : V). E (f x) (f y))
+  per_by f e = record {
+    symm = λ p q. e.symm (f p) (f q);
+    trans = λ p q s. e.trans (f p) (f q) (f s);
+  }
+
+  pub po_by : (C : K → K → Option Ordering) (f : V → K) → IsPartialOrder E C
+      → IsPartialOrder (λ (x : V) (y : V). E (f x) (f y)) (λ (x : V) (y : V). C (f x) (f y))
+  po_by C f o = record {
+    antisymm = λ p q. o.antisymm (f p) (f q);
+    trans = λ p q s. o.trans (f p) (f q) (f s);
+    matches_eq = λ p q. o.matches_eq (f p) (f q);
+    congr = λ p q s. o.congr (f p) (f q) (f s);
+  }
+
+pub total_by : {K V : Type 0} (R : K → K → Ordering) (f : V → K) → IsTotalOrder R
+    → IsTotalOrder (λ (x : V) (y : V). R (f x) (f y))
+total_by R f o = record {
+  antisymm = λ p q. o.antisymm (f p) (f q);
+  trans = λ p q s. o.trans (f p) (f q) (f s);
+  congr = λ p q s. o.congr (f p) (f q) (f s);
+}

@@ -69,7 +69,7 @@ pub enum OrdInsertionError {
     AllocError,
 }
 
-/// Two elements cannot be lent for writing at once.
+/// Two elements cannot be borrowed for writing at once.
 #[derive(Clone, Copy, Debug, PartialEq, Eq, Error)]
 pub enum GetDisjointMutError {
     /// No element lives at one of the two places. This is tested first.

@@ -11,9 +11,9 @@ ghost use Rattle.triple_arena_ptr.specs.Words.{held_in, word_for, word-held, hel
 
 use crate::hexadecimal;
 use crate::ptr::{PtrInx, PtrInxCore};
+use proof_marks::unreached;
 use std::fmt;
 use std::num::{NonZeroU8, NonZeroU16, NonZeroU32, NonZeroU64, NonZeroU128, NonZeroUsize};
-use unreached::unreached;
 
 impl PtrInxCore for NonZeroU8 {
     type Word = u8;
@@ -56,12 +56,14 @@ impl PtrInxCore for NonZeroU8 {
 
     ghost held = { held_in (λ n ok. record { value = n; ok = ok }) non_zero_u8_get };
 
-    ghost word = { word_for (λ n ok. record { value = n; ok = ok }) non_zero_u8_get };
+    ghost word = { word_for };
 
     ghost word_held = { word-held (λ n ok. record { value = n; ok = ok }) non_zero_u8_get
         (λ n ok. refl) };
 
-    ghost held_word = { held-word (λ n ok. record { value = n; ok = ok }) non_zero_u8_get
+    ghost held_none = { refl };
+
+    ghost held_some = { held-word (λ n ok. record { value = n; ok = ok }) non_zero_u8_get
         (λ n ok. refl) u8_determined (λ i. i.ok) };
 
     fn no_word() -> u8 {
@@ -127,12 +129,14 @@ impl PtrInxCore for NonZeroU16 {
 
     ghost held = { held_in (λ n ok. record { value = n; ok = ok }) non_zero_u16_get };
 
-    ghost word = { word_for (λ n ok. record { value = n; ok = ok }) non_zero_u16_get };
+    ghost word = { word_for };
 
     ghost word_held = { word-held (λ n ok. record { value = n; ok = ok }) non_zero_u16_get
         (λ n ok. refl) };
 
-    ghost held_word = { held-word (λ n ok. record { value = n; ok = ok }) non_zero_u16_get
+    ghost held_none = { refl };
+
+    ghost held_some = { held-word (λ n ok. record { value = n; ok = ok }) non_zero_u16_get
         (λ n ok. refl) u16_determined (λ i. i.ok) };
 
     fn no_word() -> u16 {
@@ -198,12 +202,14 @@ impl PtrInxCore for NonZeroU32 {
 
     ghost held = { held_in (λ n ok. record { value = n; ok = ok }) non_zero_u32_get };
 
-    ghost word = { word_for (λ n ok. record { value = n; ok = ok }) non_zero_u32_get };
+    ghost word = { word_for };
 
     ghost word_held = { word-held (λ n ok. record { value = n; ok = ok }) non_zero_u32_get
         (λ n ok. refl) };
 
-    ghost held_word = { held-word (λ n ok. record { value = n; ok = ok }) non_zero_u32_get
+    ghost held_none = { refl };
+
+    ghost held_some = { held-word (λ n ok. record { value = n; ok = ok }) non_zero_u32_get
         (λ n ok. refl) u32_determined (λ i. i.ok) };
 
     fn no_word() -> u32 {
@@ -274,16 +280,15 @@ impl PtrInxCore for NonZeroU64 {
     ghost held = { λ w. held_in (λ n ok. record { value = n; ok = ok }) non_zero_u64_get
         w.word };
 
-    ghost word = { λ o. record {
-      word = word_for (λ n ok. record { value = n; ok = ok })
-          non_zero_u64_get o;
-    } };
+    ghost word = { λ o. record { word = word_for o } };
 
     ghost word_held = { λ w. ap (λ n. record { word = n })
         (word-held (λ n ok. record { value = n; ok = ok }) non_zero_u64_get (λ n ok. refl)
         w.word) };
 
-    ghost held_word = { held-word (λ n ok. record { value = n; ok = ok }) non_zero_u64_get
+    ghost held_none = { refl };
+
+    ghost held_some = { held-word (λ n ok. record { value = n; ok = ok }) non_zero_u64_get
         (λ n ok. refl) u64_determined (λ i. i.ok) };
 
     fn no_word() -> U64Word {
@@ -347,12 +352,14 @@ impl PtrInxCore for NonZeroU128 {
 
     ghost held = { held_in (λ n ok. record { value = n; ok = ok }) non_zero_u128_get };
 
-    ghost word = { word_for (λ n ok. record { value = n; ok = ok }) non_zero_u128_get };
+    ghost word = { word_for };
 
     ghost word_held = { word-held (λ n ok. record { value = n; ok = ok }) non_zero_u128_get
         (λ n ok. refl) };
 
-    ghost held_word = { held-word (λ n ok. record { value = n; ok = ok }) non_zero_u128_get
+    ghost held_none = { refl };
+
+    ghost held_some = { held-word (λ n ok. record { value = n; ok = ok }) non_zero_u128_get
         (λ n ok. refl) u128_determined (λ i. i.ok) };
 
     fn no_word() -> u128 {
@@ -418,16 +425,15 @@ impl PtrInxCore for NonZeroUsize {
     ghost held = { λ w. held_in (λ n ok. record { value = n; ok = ok }) non_zero_usize_get
         w.word };
 
-    ghost word = { λ o. record {
-      word = word_for (λ n ok. record { value = n; ok = ok })
-          non_zero_usize_get o;
-    } };
+    ghost word = { λ o. record { word = word_for o } };
 
     ghost word_held = { λ w. ap (λ n. record { word = n })
         (word-held (λ n ok. record { value = n; ok = ok }) non_zero_usize_get (λ n ok. refl)
         w.word) };
 
-    ghost held_word = { held-word (λ n ok. record { value = n; ok = ok }) non_zero_usize_get
+    ghost held_none = { refl };
+
+    ghost held_some = { held-word (λ n ok. record { value = n; ok = ok }) non_zero_usize_get
         (λ n ok. refl) usize_determined (λ i. i.ok) };
 
     fn no_word() -> UsizeWord {

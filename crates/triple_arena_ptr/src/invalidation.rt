@@ -3,13 +3,12 @@ ghost use Rattle.std.specs.Prelude.{◌≡◌, MatchOption, IsSome, IfSome, IsSo
 ghost use Rattle.std.specs.Prelude.{not, false, option_and_then};
 ghost use Rattle.std.specs.Option.{option_map, option_map_or};
 
-/// The answer of a call that may step generations: its value, and whether a generation started
-/// again.
+/// The answer of a call that may step generations: its value, and whether a generation wrapped.
 #[derive(Debug, PartialEq, Eq, Drop)]
 pub enum InvalidationOption<T> {
-    /// No generation started again.
+    /// No generation wrapped.
     Success(T),
-    /// A generation started again at 2: a pointer that ended long ago may be given again.
+    /// A generation wrapped to 2: a pointer that ended long ago may be given again.
     GenerationOverflow(T),
 }
 
@@ -17,7 +16,7 @@ impl<T> InvalidationOption<T> {
     ghost use Rattle.triple_arena_ptr.specs.InvalidationOption.{IsMappedBy, overflowed, value_of};
     ghost use Rattle.triple_arena_ptr.specs.InvalidationOption.{strict_value};
 
-    /// Whether no generation started again.
+    /// Whether no generation wrapped.
     pub fn is_success(&self) -> bool
         ensures { result ≡ not (overflowed self.now) }
     {
@@ -27,14 +26,14 @@ impl<T> InvalidationOption<T> {
         }
     }
 
-    /// Whether a generation started again at 2.
+    /// Whether a generation wrapped to 2.
     pub fn is_overflow(&self) -> bool
         ensures { result ≡ overflowed self.now }
     {
         !self.is_success()
     }
 
-    /// The value, also if a generation started again.
+    /// The value, also if a generation wrapped.
     pub fn allow(self) -> T
         ensures { result ≡ value_of self }
     {
@@ -44,7 +43,7 @@ impl<T> InvalidationOption<T> {
         }
     }
 
-    /// The value if no generation started again. Else it is dropped.
+    /// The value, or `None` if a generation wrapped: then the value is dropped.
     pub fn strict(self) -> Option<T>
     where
         T: Drop,
@@ -56,7 +55,7 @@ impl<T> InvalidationOption<T> {
         }
     }
 
-    /// The same answer with the value that `f` makes of this one.
+    /// This answer, with what `f` makes of the value in its place.
     pub fn map<U, F: FnOnce(T) -> U>(self, f: F) -> InvalidationOption<U>
         requires { F.pre f (value_of self) }
         ensures { IsMappedBy F.post f self result }
@@ -69,7 +68,7 @@ impl<T> InvalidationOption<T> {
         }
     }
 
-    /// The value, and whether a generation started again at 2.
+    /// The value, and whether a generation wrapped to 2.
     pub fn overflowing(self) -> (T, bool)
         ensures value { result.0 ≡ value_of self }
         ensures overflow { result.1 ≡ overflowed self }
@@ -81,14 +80,14 @@ impl<T> InvalidationOption<T> {
     }
 }
 
-/// The answer of a call that ends a pointer: as `InvalidationOption`, or that the pointer was not
-/// valid.
+/// The answer of a call that ends a pointer: its value, and whether a generation wrapped; or that
+/// the pointer was not valid.
 #[derive(Debug, PartialEq, Eq, Drop)]
 pub enum InvalidationResult<T> {
-    /// The pointer was valid, and no generation started again.
+    /// The pointer was valid, and no generation wrapped.
     Success(T),
-    /// The pointer was valid, and a generation started again at 2: a pointer that ended long ago
-    /// may be given again.
+    /// The pointer was valid, and a generation wrapped to 2: a pointer that ended long ago may be
+    /// given again.
     GenerationOverflow(T),
     /// The pointer was not valid, and nothing was changed.
     InvalidPtr,
@@ -99,7 +98,7 @@ impl<T> InvalidationResult<T> {
     ghost use Rattle.triple_arena_ptr.specs.InvalidationOption.{strict_value};
     ghost use Rattle.triple_arena_ptr.specs.InvalidationResult.{answer_of};
 
-    /// Whether the pointer was valid and no generation started again.
+    /// Whether the pointer was valid and no generation wrapped.
     pub fn is_success(&self) -> bool
         ensures { result ≡ option_map_or (λ a. not (overflowed a)) (answer_of self.now) false }
     {
@@ -109,7 +108,7 @@ impl<T> InvalidationResult<T> {
         }
     }
 
-    /// Whether the pointer was valid and a generation started again at 2.
+    /// Whether the pointer was valid and a generation wrapped to 2.
     pub fn is_overflow(&self) -> bool
         ensures { result ≡ option_map_or overflowed (answer_of self.now) false }
     {
@@ -129,7 +128,7 @@ impl<T> InvalidationResult<T> {
         }
     }
 
-    /// The value if the pointer was valid, also if a generation started again.
+    /// The value if the pointer was valid, also if a generation wrapped.
     pub fn allow(self) -> Option<T>
         ensures { result ≡ option_map value_of (answer_of self) }
     {
@@ -140,7 +139,8 @@ impl<T> InvalidationResult<T> {
         }
     }
 
-    /// The value if the pointer was valid and no generation started again. Else it is dropped.
+    /// The value if the pointer was valid and no generation wrapped. Else `None`: if a generation
+    /// wrapped, the value is dropped.
     pub fn strict(self) -> Option<T>
     where
         T: Drop,
@@ -152,7 +152,7 @@ impl<T> InvalidationResult<T> {
         }
     }
 
-    /// The same answer with the value that `f` makes of this one, if there is one.
+    /// This answer, with what `f` makes of the value in its place, if there is a value.
     pub fn map<U, F: FnOnce(T) -> U>(self, f: F) -> InvalidationResult<U>
     where
         F: Drop,
@@ -169,7 +169,7 @@ impl<T> InvalidationResult<T> {
         }
     }
 
-    /// The value, and whether a generation started again at 2, if the pointer was valid.
+    /// The value, and whether a generation wrapped to 2, if the pointer was valid.
     pub fn overflowing(self) -> Option<(T, bool)>
         ensures { result ≡ option_map (λ a. (value_of a, overflowed a)) (answer_of self) }
     {
@@ -180,7 +180,7 @@ impl<T> InvalidationResult<T> {
         }
     }
 
-    /// The answer, of a pointer that was valid.
+    /// The value, and whether a generation wrapped. The caller owes that the pointer was valid.
     pub fn unwrap(self) -> InvalidationOption<T>
         requires { IsSome (answer_of self) }
         ensures { answer_of self ≡ Some result }

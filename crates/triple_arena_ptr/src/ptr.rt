@@ -1,6 +1,7 @@
 //! What an index, a generation and a pointer are.
 ghost use Rattle.std.specs.Prelude.{◌≡◌, ℕ, ◌<◌, ◌≤◌, ◌^◌, ◌==◌, ◌&&◌, ◌↔◌, List, Option, Some};
 ghost use Rattle.std.specs.Prelude.{None, IsNone, IfSome, false};
+ghost use Rattle.std.specs.Option.{option_map};
 ghost use Rattle.std.specs.Ordering.{nat_cmp, on, then_cmp};
 ghost use Rattle.std.specs.Fmt.{WritesOnOk};
 ghost use Rattle.std.specs.Int.NonZero.{non_zero_usize_get};
@@ -32,7 +33,7 @@ pub trait PtrGenCore: Copy + PartialEq + Drop {
     fn two() -> Self
         ensures { number result ≡ second_generation last };
 
-    /// The generation that follows, and whether it started again at 2.
+    /// The generation that follows, and whether it wrapped to 2.
     fn generational_inc(self) -> (Self, bool)
         ensures next { number result.0 ≡ next_generation last (number self) }
         ensures wraps { result.1 ≡ next_wraps last (number self) }
@@ -101,8 +102,8 @@ pub trait PtrInxCore: Copy + PartialEq + Drop {
     // What a word holds.
     ghost held: { Self.Word → Option Self };
 
-    // The word that holds this.
-    ghost word: { Option Self → Self.Word };
+    // The word that holds the index with this number, or none.
+    ghost word: { Option ℕ → Self.Word };
 
     /// The word that holds no index.
     fn no_word() -> Self::Word
@@ -110,16 +111,18 @@ pub trait PtrInxCore: Copy + PartialEq + Drop {
 
     /// The word that holds the index.
     fn into_word(self) -> Self::Word
-        ensures { result ≡ word (Some self) };
+        ensures { result ≡ word (Some (number self)) };
 
     /// The index that the word holds, or `None` if it holds none.
     fn from_word(word_raw: Self::Word) -> Option<Self>
         ensures { result ≡ held word_raw };
 
     // Each word holds one thing, and each thing has its word.
-    ghost word_held: { (w : Self.Word) → word (held w) ≡ w };
+    ghost word_held: { (w : Self.Word) → word (option_map number (held w)) ≡ w };
 
-    ghost held_word: { (o : Option Self) → held (word o) ≡ o };
+    ghost held_none: { held (word None) ≡ None };
+
+    ghost held_some: { (i : Self) → held (word (Some (number i))) ≡ Some i };
 
     /// Writes the index in lower-case hexadecimal digits without a prefix.
     fn fmt_hex<W: fmt::Write>(&self, f: &mut fmt::Formatter<W>) -> fmt::Result

@@ -37,8 +37,7 @@ impl PtrKind for Q2Kind {
 
 /// A pointer with a `u8` index and a `u8` generation.
 ///
-/// Its generations start again after 254 removals. From then on an old pointer may find a newer
-/// element.
+/// Its generations wrap after 254 removals. From then on an old pointer may find a newer element.
 pub type P1 = Pointer<NonZeroU8, NonZeroU8, P1Kind>;
 
 /// The kind of `P1`.

@@ -6,9 +6,9 @@ use crate::{
     NonZeroInxGenericStack, NonZeroInxGenericStackEntries, NonZeroInxGenericStackPushEntry,
 };
 use arrayvec::ArrayVec;
+use proof_marks::unreached;
 use std::num::NonZeroUsize;
 use triple_arena_ptr::{NotWithinCapacityError, ReallocationError};
-use unreached::unreached;
 
 /// A stack of at most `LIMIT` items, which lie in the value itself. It takes no memory.
 #[derive(Drop)]

@@ -1,23 +1,23 @@
-//! Two items lent at once.
+//! Two items borrowed at once.
 ghost use Rattle.std.specs.Prelude.{◌≡◌, ◌≢◌, ◌<◌, ◌≤◌, Some, length, slice_get, slice_set};
 ghost use Rattle.std.specs.Borrow.{sem, LendsBoth, Array};
-ghost use Rattle.std.specs.Int.NonZero.{non_zero_usize_get};
+ghost use Rattle.std.specs.Int.NonZero.{non_zero_usize_get as at};
 ghost use Rattle.triple_arena_stack.specs.Stack.{item_at, with_item};
 
 use std::num::NonZeroUsize;
 
-/// The items at two indexes, which begin at 1, both for writing. Both items are there, and
-/// `NonZeroInxGenericStack::check_disjoint` tests it. It takes the items of a stack as
-/// `as_mut_slice` lends them.
+/// The items at two indexes, which begin at 1, both for writing. The caller owes that both items
+/// are there and that the indexes differ: `NonZeroInxGenericStack::check_disjoint` tests it. It
+/// takes the items of a stack as `as_mut_slice` borrows them.
 pub fn get_disjoint_mut<T>(items: &mut [T], i: NonZeroUsize, j: NonZeroUsize) -> (&mut T, &mut T)
-    requires i_in_bounds { non_zero_usize_get i ≤ length items.old }
-    requires j_in_bounds { non_zero_usize_get j ≤ length items.old }
-    requires disjoint { non_zero_usize_get i ≢ non_zero_usize_get j }
+    requires i_in_bounds { at i ≤ length items.old }
+    requires j_in_bounds { at j ≤ length items.old }
+    requires disjoint { at i ≢ at j }
     ensures* writes_back { sem 𝓛 (LendsBoth (Array T.row 0) T.row T.row items.entry result
         (λ x y. with_item
-        (with_item items.old (non_zero_usize_get i) x) (non_zero_usize_get j) y)) }
-    ensures first { Some result.0.now ≡ item_at items.old (non_zero_usize_get i) }
-    ensures second { Some result.1.now ≡ item_at items.old (non_zero_usize_get j) }
+        (with_item items.old (at i) x) (at j) y)) }
+    ensures first { Some result.0.now ≡ item_at items.old (at i) }
+    ensures second { Some result.1.now ≡ item_at items.old (at j) }
 {
     let low = i.get() - 1;
     let high = j.get() - 1;

@@ -1,19 +1,19 @@
 //! Room for one item more, which tells its index before the item is there.
 ghost use Rattle.std.specs.Prelude.{◌≡◌, ℕ, ◌+◌, ◌<◌, ◌↔◌, length, IsOk, IfOk};
 ghost use Rattle.std.specs.Borrow.{sem, RestsIfErr};
-ghost use Rattle.std.specs.Int.NonZero.{non_zero_usize_get};
+ghost use Rattle.std.specs.Int.NonZero.{non_zero_usize_get as at};
 ghost use Rattle.triple_arena_stack.specs.Entry.{entry_stack, entry_lender};
 ghost use Rattle.triple_arena_stack.specs.Push.{IsRefusal, IsPushed, HasFreeSlot};
 ghost use Rattle.triple_arena_stack.specs.Room.{capacity as capacity_of};
 
 use crate::NonZeroInxGenericStack;
 use crate::stack::push_in_room;
+use proof_marks::{recall, unreached};
 use std::marker::PhantomData;
 use std::num::NonZeroUsize;
 use triple_arena_ptr::{NotWithinCapacityError, ReallocationError};
-use unreached::unreached;
 
-/// The calls of a stack that answer an entry. Each stack has them.
+/// The calls of a stack that return an entry, which is room for one item more. Each stack has them.
 pub trait NonZeroInxGenericStackEntries: NonZeroInxGenericStack {
     /// Room for one item more. If all slots are taken, it returns `NotWithinCapacityError`, and the
     /// stack stays as it is.
@@ -27,8 +27,10 @@ pub trait NonZeroInxGenericStackEntries: NonZeroInxGenericStack {
         ensures* err { sem 𝓛 (RestsIfErr Self.row self.entry entry_lender result
             (λ s. s ≡ self.old)) };
 
-    /// Room for one item more. If all slots are taken, the stack grows, and returns the
-    /// errors, as `push_reallocating` does. An error leaves the stack as it was.
+    /// Room for one item more. If all slots are taken, the stack grows: to 4 at first, then to the
+    /// double, and never past its greatest capacity. It returns `BeyondMaxCapacity` if the length
+    /// is the greatest capacity, and `AllocError` if the memory was refused. An error leaves the
+    /// stack as it was.
     fn entry_push_reallocating(
         &mut self,
     ) -> Result<NonZeroInxGenericStackPushEntry<'_, Self::Item, Self>, ReallocationError>
@@ -40,7 +42,9 @@ pub trait NonZeroInxGenericStackEntries: NonZeroInxGenericStack {
         ensures* err { sem 𝓛 (RestsIfErr Self.row self.entry entry_lender result
             (λ s. s ≡ self.old)) };
 
-    /// The same as `entry_push_reallocating`.
+    /// Room for one item more: another name of `entry_push_reallocating`. If all slots are taken,
+    /// the stack grows. It returns `BeyondMaxCapacity` if the length is the greatest capacity, and
+    /// `AllocError` if the memory was refused. An error leaves the stack as it was.
     fn entry_push(
         &mut self,
     ) -> Result<NonZeroInxGenericStackPushEntry<'_, Self::Item, Self>, ReallocationError>
@@ -64,12 +68,12 @@ pub trait NonZeroInxGenericStackPushEntryTrait<T> {
     /// The index that the item gets.
     fn inx(&self) -> NonZeroUsize
         requires { has_room self.now }
-        ensures { non_zero_usize_get result ≡ index self.now };
+        ensures { at result ≡ index self.now };
 
     /// Appends `value`, and returns its index. It takes no memory and cannot fail.
     fn push(self, value: T) -> NonZeroUsize
         requires { has_room self }
-        ensures { non_zero_usize_get result ≡ index self };
+        ensures { at result ≡ index self };
 }
 
 /// Room for one item more in a stack `S`. Dropped unused, it leaves the stack as it is.
@@ -101,7 +105,7 @@ impl<'a, T: Drop, S: NonZeroInxGenericStack<Item = T>> NonZeroInxGenericStackPus
 
     fn inx(&self) -> NonZeroUsize {
         // The length is below the capacity, which is a number.
-        let _ = self.stack.capacity();
+        recall!(self.stack.capacity());
         match NonZeroUsize::new(self.stack.len() + 1) {
             Some(i) => i,
             None => unreached!(),
@@ -111,7 +115,7 @@ impl<'a, T: Drop, S: NonZeroInxGenericStack<Item = T>> NonZeroInxGenericStackPus
     fn push(self, value: T) -> NonZeroUsize
         requires { length (S.items (entry_stack self)) < capacity_of (S.room (entry_stack self)) }
         // `self.exit.0.now` is the stack as it is left.
-        ensures { IsPushed S.items S.room (non_zero_usize_get result) value
+        ensures { IsPushed S.items S.room (at result) value
             (S.room (entry_stack self.entry)) (entry_stack self.entry) self.exit.0.now }
     {
         let NonZeroInxGenericStackPushEntry { stack, of: _ } = self;

@@ -2,17 +2,17 @@
 ghost use Rattle.std.specs.Prelude.{◌≡◌, ◌+◌, ◌^◌, ◌<◌, ◌≤◌, ◌↔◌, [], ◌∷◌, ◌++◌, Some, length};
 ghost use Rattle.std.specs.Prelude.{IsOk, IsSome, IfOk, IfErr, OnOk, OnErr, max};
 ghost use Rattle.std.specs.Borrow.{sem, Lends, Array};
-ghost use Rattle.std.specs.Int.NonZero.{non_zero_usize_get};
+ghost use Rattle.std.specs.Int.NonZero.{non_zero_usize_get as at};
 ghost use Rattle.std.specs.List.{refill};
 ghost use Rattle.std.specs.Option.{option_to_list};
 ghost use Rattle.triple_arena_stack.specs.Stack.{item_at, with_item};
 ghost use Rattle.triple_arena_stack.specs.Heap.{with_items};
 
+use proof_marks::unreached;
 use std::alloc::{Allocator, Global};
 use std::marker::Model;
 use std::num::NonZeroUsize;
 use triple_arena_ptr::ReallocationError;
-use unreached::unreached;
 
 /// Items on the heap, in exactly the slots that were reserved for them.
 #[derive(Drop)]
@@ -94,7 +94,7 @@ impl<T: Drop, A: Allocator> Heap<T, A> {
     /// Appends `value` to a free slot, and returns its index.
     pub fn push(&mut self, value: T) -> NonZeroUsize
         requires { length self.old.items < self.old.reserved }
-        ensures index { non_zero_usize_get result ≡ length self.old.items + 1 }
+        ensures index { at result ≡ length self.old.items + 1 }
         ensures items { self.new.items ≡ self.old.items ++ value ∷ [] }
         ensures reserved { self.new.reserved ≡ self.old.reserved }
     {
@@ -107,11 +107,11 @@ impl<T: Drop, A: Allocator> Heap<T, A> {
 
     /// The item at `i`, for writing. There must be one.
     pub fn item_mut(&mut self, i: NonZeroUsize) -> &mut T
-        requires { non_zero_usize_get i ≤ length self.old.items }
+        requires { at i ≤ length self.old.items }
         ensures* writes_back { sem 𝓛
             (Lends (the_row T.row A.row A.Allocator) T.row self.entry result
-            (λ x. with_items self.old (with_item self.old.items (non_zero_usize_get i) x))) }
-        ensures value { Some result.now ≡ item_at self.old.items (non_zero_usize_get i) }
+            (λ x. with_items self.old (with_item self.old.items (at i) x))) }
+        ensures value { Some result.now ≡ item_at self.old.items (at i) }
     {
         &mut self.vec[i.get() - 1]
     }

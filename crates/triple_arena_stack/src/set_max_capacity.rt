@@ -13,7 +13,8 @@ pub trait SetMaxCapacity {
     // The same with this limit.
     ghost with_limit: { Self → ℕ → Self };
 
-    /// Sets the greatest capacity to `max`, or changes nothing if more is in use.
+    /// Sets the greatest capacity to `max`. If more is in use, it returns
+    /// `MaxCapacityReductionError` and changes nothing.
     fn set_max_capacity(&mut self, max: usize) -> Result<(), MaxCapacityReductionError>
         ensures variant { IsOk result ↔ (least_limit self.old ≤ max) }
         ensures ok { OnOk result (self.new ≡ with_limit self.old max) }

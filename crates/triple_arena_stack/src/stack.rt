@@ -3,7 +3,7 @@ ghost use Rattle.std.specs.Prelude.{◌≡◌, ◌≢◌, ℕ, ◌+◌, ◌-◌,
 ghost use Rattle.std.specs.Prelude.{◌∷◌, ◌++◌, Some, None, length, max, IsTrue, IsOk, IsSome, IfOk};
 ghost use Rattle.std.specs.Prelude.{OnOk, OnErr, IsErrOf};
 ghost use Rattle.std.specs.Borrow.{sem, Lends, LendsIf, Array};
-ghost use Rattle.std.specs.Int.NonZero.{non_zero_usize_get};
+ghost use Rattle.std.specs.Int.NonZero.{non_zero_usize_get as at};
 ghost use Rattle.std.specs.List.{refill};
 ghost use Rattle.std.specs.Option.{option_copied, option_copied_mut, option_to_list};
 ghost use Rattle.triple_arena_stack.specs.Push.{IsRefusal, IsPushed, HasFreeSlot, IsGrowingPush};
@@ -11,9 +11,9 @@ ghost use Rattle.triple_arena_stack.specs.Room.{Room, capacity as capacity_of, w
 ghost use Rattle.triple_arena_stack.specs.Room.{IsBeyond};
 ghost use Rattle.triple_arena_stack.specs.Stack.{item_at, with_item, exchanged};
 
+use proof_marks::unreached;
 use std::num::NonZeroUsize;
 use triple_arena_ptr::{GetDisjointMutError, NotWithinCapacityError, ReallocationError};
-use unreached::unreached;
 
 /// A stack whose items have the indexes from 1 on.
 pub trait NonZeroInxGenericStack {
@@ -87,24 +87,24 @@ pub trait NonZeroInxGenericStack {
         ensures memory { IsErrOf result ReallocationError.AllocError → IsTrue takes_memory }
         ensures err { OnErr result (self.new ≡ self.old) };
 
-    /// Appends `value`, and returns its index. If all slots are taken, the stack stays as it is,
-    /// and `value` is dropped.
+    /// Appends `value`, and returns its index. If all slots are taken, it returns
+    /// `NotWithinCapacityError`, the stack stays as it is, and `value` is dropped.
     fn push_within_capacity(
         &mut self,
         value: Self::Item,
     ) -> Result<NonZeroUsize, NotWithinCapacityError>
         ensures variant { IsOk result ↔ (length (items self.old) < capacity_of (room self.old)) }
-        ensures index { IfOk result (λ i. non_zero_usize_get i ≡ length (items self.old) + 1) }
+        ensures index { IfOk result (λ i. at i ≡ length (items self.old) + 1) }
         ensures items { OnOk result (items self.new ≡ items self.old ++ value ∷ []) }
         ensures room { room self.new ≡ room self.old }
         ensures err { OnErr result (self.new ≡ self.old) };
 
     /// The item at `i`, for writing. There must be one.
     fn item_mut(&mut self, i: NonZeroUsize) -> &mut Self::Item
-        requires { non_zero_usize_get i ≤ length (items self.old) }
+        requires { at i ≤ length (items self.old) }
         ensures* writes_back { sem 𝓛 (Lends Self.row Self.Item.row self.entry result
-            (λ x. with_items self.old (with_item (items self.old) (non_zero_usize_get i) x))) }
-        ensures value { Some result.now ≡ item_at (items self.old) (non_zero_usize_get i) };
+            (λ x. with_items self.old (with_item (items self.old) (at i) x))) }
+        ensures value { Some result.now ≡ item_at (items self.old) (at i) };
 
     /// Removes and returns the last item, if there is one.
     fn pop(&mut self) -> Option<Self::Item>
@@ -154,7 +154,10 @@ pub trait NonZeroInxGenericStack {
         Ok(push_in_room(self, value))
     }
 
-    /// The same as `push_reallocating`.
+    /// Appends `value`, and returns its index: another name of `push_reallocating`. If all slots
+    /// are taken, the stack grows. It returns `BeyondMaxCapacity` if the length is the greatest
+    /// capacity, and `AllocError` if the memory was refused; the stack is then as it was, and
+    /// `value` is dropped.
     final fn push(&mut self, value: Self::Item) -> Result<NonZeroUsize, ReallocationError>
         ensures { IsGrowingPush items room takes_memory value self.old result self.new }
     {
@@ -163,7 +166,7 @@ pub trait NonZeroInxGenericStack {
 
     /// The item at `i`, if there is one.
     final fn get(&self, i: NonZeroUsize) -> Option<&Self::Item>
-        ensures { option_copied result ≡ item_at (items self.now) (non_zero_usize_get i) }
+        ensures { option_copied result ≡ item_at (items self.now) (at i) }
     {
         // The index is compared as it is: the step to a place is then part of the address.
         let items = self.as_slice();
@@ -178,9 +181,9 @@ pub trait NonZeroInxGenericStack {
     final fn get_mut(&mut self, i: NonZeroUsize) -> Option<&mut Self::Item>
         ensures* writes_back { sem 𝓛 (LendsIf Self.row Self.Item.row self.entry result
             (λ x. with_items self.old
-            (with_item (items self.old) (non_zero_usize_get i) x)) self.old) }
-        ensures variant { IsSome result ↔ (non_zero_usize_get i ≤ length (items self.old)) }
-        ensures value { option_copied_mut result ≡ item_at (items self.old) (non_zero_usize_get i) }
+            (with_item (items self.old) (at i) x)) self.old) }
+        ensures variant { IsSome result ↔ (at i ≤ length (items self.old)) }
+        ensures value { option_copied_mut result ≡ item_at (items self.old) (at i) }
     {
         if i.get() <= self.len() {
             Some(self.item_mut(i))
@@ -192,30 +195,30 @@ pub trait NonZeroInxGenericStack {
     /// Exchanges the items at `i` and `j`, which are both there. If they are one, nothing
     /// changes.
     final fn swap(&mut self, i: NonZeroUsize, j: NonZeroUsize)
-        requires i_in_bounds { non_zero_usize_get i ≤ length (items self.old) }
-        requires j_in_bounds { non_zero_usize_get j ≤ length (items self.old) }
-        ensures items { items self.new
-            ≡ exchanged (items self.old) (non_zero_usize_get i) (non_zero_usize_get j) }
+        requires i_in_bounds { at i ≤ length (items self.old) }
+        requires j_in_bounds { at j ≤ length (items self.old) }
+        ensures items { items self.new ≡ exchanged (items self.old) (at i) (at j) }
         ensures room { room self.new ≡ room self.old }
     {
         self.as_mut_slice().swap(i.get() - 1, j.get() - 1);
     }
 
-    /// Whether `get_disjoint_mut` can lend the items at `i` and `j`. It returns `IndexOutOfBounds`
-    /// if one of them is not there, and else `OverlappingIndices` if they are one.
+    /// Whether `get_disjoint_mut` can borrow the items at `i` and `j`. It returns
+    /// `IndexOutOfBounds` if one of them is not there, and else `OverlappingIndices` if they are
+    /// one.
     final fn check_disjoint(
         &self,
         i: NonZeroUsize,
         j: NonZeroUsize,
     ) -> Result<(), GetDisjointMutError>
-        ensures ok { OnOk result ((non_zero_usize_get i ≤ length (items self.now))
-            × (non_zero_usize_get j ≤ length (items self.now))
-            × (non_zero_usize_get i ≢ non_zero_usize_get j)) }
+        ensures ok { OnOk result ((at i ≤ length (items self.now))
+            × (at j ≤ length (items self.now))
+            × (at i ≢ at j)) }
         ensures out_of_bounds { IsErrOf result GetDisjointMutError.IndexOutOfBounds
-            ↔ (length (items self.now) < max (non_zero_usize_get i) (non_zero_usize_get j)) }
+            ↔ (length (items self.now) < max (at i) (at j)) }
         ensures overlapping { IsErrOf result GetDisjointMutError.OverlappingIndices
-            ↔ ((non_zero_usize_get i ≡ non_zero_usize_get j)
-            × (non_zero_usize_get i ≤ length (items self.now))) }
+            ↔ ((at i ≡ at j)
+            × (at i ≤ length (items self.now))) }
     {
         if i.max(j).get() > self.len() {
             return Err(GetDisjointMutError::IndexOutOfBounds);
@@ -262,8 +265,7 @@ pub(crate) fn push_in_room<T: Drop, S: NonZeroInxGenericStack<Item = T>>(
     value: T,
 ) -> NonZeroUsize
     requires { length (S.items stack.old) < capacity_of (S.room stack.old) }
-    ensures { IsPushed S.items S.room (non_zero_usize_get result) value (S.room stack.old)
-        stack.old stack.new }
+    ensures { IsPushed S.items S.room (at result) value (S.room stack.old) stack.old stack.new }
 {
     match stack.push_within_capacity(value) {
         Ok(i) => i,

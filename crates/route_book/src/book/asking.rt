@@ -8,13 +8,14 @@ ghost use Rattle.route_lines.specs.Calls.{shown, found, floor_of, place_after, p
 ghost use Rattle.route_lines.specs.Searches.{CountsWithin, most_for, place_count};
 ghost use Rattle.route_lines.specs.State.{Place as PlaceView};
 ghost use Rattle.route_book.specs.Holds.{found_by};
-ghost use Rattle.route_book.specs.Item.{StopView, pointer_of};
+ghost use Rattle.route_book.specs.Item.{StopView, reference_of};
 
 use crate::backing::BookBacking;
 use crate::book::RouteBook;
 use crate::items::{Place, Ref, Stop};
 use crate::place_arena::{first_ticket, floor_ticket, ticket_after, ticket_before};
 use crate::places::Places;
+use proof_marks::{recall, unreached};
 use route_lines::{Counts, Refusal, Shown};
 use ticket_book::Kind;
 use triple_arena::ArenaTrait;
@@ -22,7 +23,6 @@ use triple_arena_chain::{ChainArena, ChainSlots};
 use triple_arena_ord::laws::entries_stand_in_the_list;
 use triple_arena_ord::{OrdSlots, SimpleOrdArena};
 use triple_arena_ptr::PtrCore;
-use unreached::unreached;
 
 impl<P: PtrCore, B: BookBacking<P>> RouteBook<P, B> {
     /// What stands under a ticket.
@@ -34,11 +34,13 @@ impl<P: PtrCore, B: BookBacking<P>> RouteBook<P, B> {
         self.show_counted(ticket, &mut Counts::new())
     }
 
-    /// The same, with the comparisons of its search counted as `first`.
+    /// What stands under a ticket. The comparisons of the search for it are counted in
+    /// `counts.first`.
+    ///
+    /// `Unknown` if the ticket was never given, `Gone` if its item has ended.
     pub fn show_counted(&self, ticket: u64, counts: &mut Counts) -> Result<Shown, Refusal>
         ensures result { result ≡ shown self.now.state ticket }
-        ensures counts { CountsWithin counts.old counts.new
-            0 (most_for self.now.state ticket) 0 }
+        ensures counts { CountsWithin counts.old counts.new 0 (most_for self.now.state ticket) 0 }
     {
         let found = self.find_item(ticket, &mut counts.first)?;
         match found.0 {
@@ -65,14 +67,15 @@ impl<P: PtrCore, B: BookBacking<P>> RouteBook<P, B> {
         }
     }
 
-    /// The smallest ticket of the places with this key.
+    /// The smallest ticket of the places with this key, or `None` if no place has it.
     pub fn find(&self, key: u64) -> Option<u64>
         ensures { result ≡ found self.now.state key }
     {
         self.find_counted(key, &mut Counts::new())
     }
 
-    /// The same, with the comparisons of its search counted as `key`.
+    /// The smallest ticket of the places with this key, or `None` if no place has it. The
+    /// comparisons of the search are counted in `counts.key`.
     pub fn find_counted(&self, key: u64, counts: &mut Counts) -> Option<u64>
         ensures result { result ≡ found self.now.state key }
         ensures counts { CountsWithin counts.old counts.new
@@ -81,14 +84,15 @@ impl<P: PtrCore, B: BookBacking<P>> RouteBook<P, B> {
         first_ticket(&self.places, key, &mut counts.key)
     }
 
-    /// The ticket of the last place whose key is not above this one.
+    /// The ticket of the last place whose key is not above this one, or `None` if there is none.
     pub fn floor(&self, key: u64) -> Option<u64>
         ensures { result ≡ floor_of self.now.state key }
     {
         self.floor_counted(key, &mut Counts::new())
     }
 
-    /// The same, with the comparisons of its search counted as `key`.
+    /// The ticket of the last place whose key is not above this one, or `None` if there is none.
+    /// The comparisons of the search are counted in `counts.key`.
     pub fn floor_counted(&self, key: u64, counts: &mut Counts) -> Option<u64>
         ensures result { result ≡ floor_of self.now.state key }
         ensures counts { CountsWithin counts.old counts.new
@@ -107,36 +111,44 @@ impl<P: PtrCore, B: BookBacking<P>> RouteBook<P, B> {
         self.after_counted(ticket, &mut Counts::new())
     }
 
-    /// The same, with the comparisons of its search counted as `first`.
+    /// The ticket of the place after this one in the order of the keys, if there is one. The
+    /// comparisons of the search for this place are counted in `counts.first`.
+    ///
+    /// `Unknown` if the ticket was never given, `Gone` if its item has ended, `Kind` if it is no
+    /// place.
     pub fn after_counted(&self, ticket: u64, counts: &mut Counts) -> Result<Option<u64>, Refusal>
         ensures result { result ≡ place_after self.now.state ticket }
-        ensures counts { CountsWithin counts.old counts.new
-            0 (most_for self.now.state ticket) 0 }
+        ensures counts { CountsWithin counts.old counts.new 0 (most_for self.now.state ticket) 0 }
     {
         entries_stand_in_the_list::<P, Place>();
         // The list is as it must be.
-        let _ = self.places.len();
+        recall!(self.places.len());
         let at = self.find_place(ticket, &mut counts.first)?;
         Ok(ticket_after(&self.places, at))
     }
 
-    /// The ticket of the place before this one in the order of the keys, if there is one; refused
-    /// as `after` is.
+    /// The ticket of the place before this one in the order of the keys, if there is one.
+    ///
+    /// `Unknown` if the ticket was never given, `Gone` if its item has ended, `Kind` if it is no
+    /// place.
     pub fn before(&self, ticket: u64) -> Result<Option<u64>, Refusal>
         ensures { result ≡ place_before self.now.state ticket }
     {
         self.before_counted(ticket, &mut Counts::new())
     }
 
-    /// The same, with the comparisons of its search counted as `first`.
+    /// The ticket of the place before this one in the order of the keys, if there is one. The
+    /// comparisons of the search for this place are counted in `counts.first`.
+    ///
+    /// `Unknown` if the ticket was never given, `Gone` if its item has ended, `Kind` if it is no
+    /// place.
     pub fn before_counted(&self, ticket: u64, counts: &mut Counts) -> Result<Option<u64>, Refusal>
         ensures result { result ≡ place_before self.now.state ticket }
-        ensures counts { CountsWithin counts.old counts.new
-            0 (most_for self.now.state ticket) 0 }
+        ensures counts { CountsWithin counts.old counts.new 0 (most_for self.now.state ticket) 0 }
     {
         entries_stand_in_the_list::<P, Place>();
         // The list is as it must be.
-        let _ = self.places.len();
+        recall!(self.places.len());
         let at = self.find_place(ticket, &mut counts.first)?;
         Ok(ticket_before(&self.places, at))
     }
@@ -157,7 +169,7 @@ pub(crate) fn place_ticket<P: PtrCore, S: OrdSlots<P, Place>>(
     to: Ref<P>,
 ) -> Option<u64>
     ensures { result ≡ option_map (λ (p : PlaceView). p.ticket) (found_by (entry_in places.now)
-        (option_map (λ p. (P.index p, P.generation p)) (pointer_of to))) }
+        (reference_of P.index P.generation to)) }
 {
     match to {
         Ref::To(p) => match places.get(p) {
@@ -174,7 +186,7 @@ fn stop_ticket<P: PtrCore, S: ChainSlots<P, Stop<P>>>(
     to: Ref<P>,
 ) -> Option<u64>
     ensures { result ≡ option_map (λ (t : StopView). t.ticket) (found_by (values_in stops.now)
-        (option_map (λ p. (P.index p, P.generation p)) (pointer_of to))) }
+        (reference_of P.index P.generation to)) }
 {
     match to {
         Ref::To(p) => match stops.get(p) {

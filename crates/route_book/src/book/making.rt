@@ -1,9 +1,9 @@
 //! A new store.
-ghost use Rattle.std.specs.Prelude.{◌≡◌, ◌+◌, ◌<◌, Some, None, Err, IfOk, IfErr, IsTrue};
+ghost use Rattle.std.specs.Prelude.{◌≡◌, ◌+◌, Some, None, Err, IfOk, IfErr};
 ghost use Rattle.triple_arena_ptr.specs.Generation.{second_generation};
 ghost use Rattle.route_lines.specs.State.{empty};
 ghost use Rattle.route_lines.specs.declared.refusal.RoomError.{RoomError as Refused};
-ghost use Rattle.route_book.specs.Rooms.{HasRooms, refusal_of};
+ghost use Rattle.route_book.specs.Rooms.{HasRooms, IsShortOfMemory, refusal_of, rooms_for};
 
 use crate::backing::BookBacking;
 use crate::book::RouteBook;
@@ -13,31 +13,34 @@ use route_lines::{Change, Held, RoomError};
 use triple_arena_ptr::PtrCore;
 
 impl<P: PtrCore, B: BookBacking<P>> RouteBook<P, B> {
-    /// A store with nothing in it, with room for so many places, stops and marks; see
-    /// [`RouteBook::new_after`].
+    /// A store with nothing in it, with room for so many places, stops and marks. Its first ticket
+    /// is 1.
+    ///
+    /// `Generation` if the pointers' generations do not count to 3; else `Index` if the rooms
+    /// together are past what an index can count; else `Stack` if they are past what a stack of the
+    /// backing holds; else `Memory` if the memory was refused. A backing that takes no memory is
+    /// never refused it.
     pub fn new(backing: &B, places: usize, stops: usize, marks: usize) -> Result<Self, RoomError>
-        ensures made { IfOk result (λ book. book.state
-            ≡ empty (record { places = places; stops = stops; marks = marks }) 0) }
+        ensures made { IfOk result (λ book. book.state ≡ empty (rooms_for places stops marks) 0) }
         ensures counters { IfOk result (λ book.
             (book.places.chains.counter ≡ second_generation P.Gen.last)
             × (book.stops.counter ≡ second_generation P.Gen.last)) }
         ensures mark_counter { IfOk result (λ book.
             book.marks.counter ≡ second_generation P.Gen.last) }
-        ensures rooms { IfOk result (λ book. HasRooms P.Inx.greatest B.room
-            (record { places = places; stops = stops; marks = marks }) book) }
+        ensures rooms { IfOk result
+            (λ book. HasRooms P.Inx.greatest B.room (rooms_for places stops marks) book) }
         ensures refused { (e : Refused)
             → refusal_of P.Gen.last P.Inx.greatest B.limit (places + stops + marks) ≡ Some e
             → result ≡ Err e }
         ensures accepted { refusal_of P.Gen.last P.Inx.greatest B.limit
             (places + stops + marks) ≡ None
-            → IfErr result (λ e. (e ≡ RoomError.Memory)
-            × IsTrue B.takes_memory
-            × (0 < places + stops + marks)) }
+            → IfErr result (λ e. IsShortOfMemory e B.takes_memory (places + stops + marks)) }
     {
         Self::new_after(backing, places, stops, marks, 0)
     }
 
-    /// The same, if the tickets 1 to `last` count as ended.
+    /// A store with nothing in it, with room for so many places, stops and marks, in which the
+    /// tickets 1 to `last` count as given and their items as ended.
     ///
     /// `Generation` if the pointers' generations do not count to 3; else `Index` if the rooms
     /// together are past what an index can count; else `Stack` if they are past what a stack of the
@@ -50,23 +53,21 @@ impl<P: PtrCore, B: BookBacking<P>> RouteBook<P, B> {
         marks: usize,
         last: u64,
     ) -> Result<Self, RoomError>
-        ensures made { IfOk result (λ book. book.state
-            ≡ empty (record { places = places; stops = stops; marks = marks }) last) }
+        ensures made { IfOk result
+            (λ book. book.state ≡ empty (rooms_for places stops marks) last) }
         ensures counters { IfOk result (λ book.
             (book.places.chains.counter ≡ second_generation P.Gen.last)
             × (book.stops.counter ≡ second_generation P.Gen.last)) }
         ensures mark_counter { IfOk result (λ book.
             book.marks.counter ≡ second_generation P.Gen.last) }
-        ensures rooms { IfOk result (λ book. HasRooms P.Inx.greatest B.room
-            (record { places = places; stops = stops; marks = marks }) book) }
+        ensures rooms { IfOk result
+            (λ book. HasRooms P.Inx.greatest B.room (rooms_for places stops marks) book) }
         ensures refused { (e : Refused)
             → refusal_of P.Gen.last P.Inx.greatest B.limit (places + stops + marks) ≡ Some e
             → result ≡ Err e }
         ensures accepted { refusal_of P.Gen.last P.Inx.greatest B.limit
             (places + stops + marks) ≡ None
-            → IfErr result (λ e. (e ≡ RoomError.Memory)
-            × IsTrue B.takes_memory
-            × (0 < places + stops + marks)) }
+            → IfErr result (λ e. IsShortOfMemory e B.takes_memory (places + stops + marks)) }
     {
         let sum = room_sum::<P, B>(places, stops, marks)?;
         Self::open(backing, places, stops, marks, sum, last)
@@ -83,18 +84,17 @@ impl<P: PtrCore, B: BookBacking<P>> RouteBook<P, B> {
     ) -> Result<Self, RoomError>
         requires sum { sum ≡ places + stops + marks }
         requires accepted { refusal_of P.Gen.last P.Inx.greatest B.limit sum ≡ None }
-        ensures made { IfOk result (λ book. book.state
-            ≡ empty (record { places = places; stops = stops; marks = marks }) last) }
+        ensures made { IfOk result
+            (λ book. book.state ≡ empty (rooms_for places stops marks) last) }
         ensures counters { IfOk result (λ book.
             (book.places.chains.counter ≡ second_generation P.Gen.last)
             × (book.stops.counter ≡ second_generation P.Gen.last)) }
         ensures mark_counter { IfOk result (λ book.
             book.marks.counter ≡ second_generation P.Gen.last) }
-        ensures rooms { IfOk result (λ book. HasRooms P.Inx.greatest B.room
-            (record { places = places; stops = stops; marks = marks }) book) }
-        ensures memory { IfErr result (λ e. (e ≡ RoomError.Memory)
-            × IsTrue B.takes_memory
-            × (0 < places + stops + marks)) }
+        ensures rooms { IfOk result
+            (λ book. HasRooms P.Inx.greatest B.room (rooms_for places stops marks) book) }
+        ensures memory { IfErr result
+            (λ e. IsShortOfMemory e B.takes_memory (places + stops + marks)) }
     {
         states_are_sound();
         let arenas = make_arenas(backing, places, stops, marks)?;

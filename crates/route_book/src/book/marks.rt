@@ -10,12 +10,12 @@ ghost use Rattle.route_book.specs.Item.{MarkView};
 use crate::backing::BookBacking;
 use crate::book::RouteBook;
 use crate::items::{Mark, Ref};
+use proof_marks::unreached;
 use route_lines::laws::changes_keep_states_sound;
 use route_lines::{Change, Counts, Refusal};
 use ticket_book::Kind;
 use triple_arena::{ArenaInsertTrait, ArenaTrait};
 use triple_arena_ptr::PtrCore;
-use unreached::unreached;
 
 impl<P: PtrCore, B: BookBacking<P>> RouteBook<P, B> {
     // Whether no further mark can be had.
@@ -40,7 +40,12 @@ impl<P: PtrCore, B: BookBacking<P>> RouteBook<P, B> {
         self.mark_counted(place, stop, &mut Counts::new())
     }
 
-    /// The same, with the comparisons of its searches counted as `first` and `second`.
+    /// A new mark of a place and of a stop. The comparisons of the searches for the place and the
+    /// stop are counted in `counts.first` and `counts.second`.
+    ///
+    /// Each ticket is refused in turn: `Unknown` if it was never given, `Gone` if its item has
+    /// ended, `Kind` if it is of the wrong kind. Then `Full` if as many marks live as the room
+    /// holds, or every ticket was given. A refused call changes nothing.
     pub fn mark_counted(
         &mut self,
         place: u64,

@@ -1,12 +1,11 @@
 //! A store that moves to other pointers, stacks and rooms.
-ghost use Rattle.std.specs.Prelude.{◌≡◌, ◌+◌, ◌<◌, ◌≤◌, ℕ, Some, None, Err, IfOk, IfErr, IsTrue};
-ghost use Rattle.std.specs.Prelude.{length};
+ghost use Rattle.std.specs.Prelude.{◌≡◌, ◌+◌, ◌≤◌, ℕ, Some, None, Err, IfOk, IfErr, length};
 ghost use Rattle.route_lines.specs.State.{Rooms, stop_list};
 ghost use Rattle.route_lines.specs.declared.refusal.RoomError.{RoomError as Refused};
 ghost use Rattle.route_book.specs.Book.{Book};
 ghost use Rattle.route_book.specs.Moving.{IsMovedIn, is_too_small, move_refusal_of};
 ghost use Rattle.route_book.specs.Removals.{IsPacked};
-ghost use Rattle.route_book.specs.Rooms.{HasRooms};
+ghost use Rattle.route_book.specs.Rooms.{HasRooms, IsShortOfMemory, rooms_for};
 
 use crate::backing::BookBacking;
 use crate::book::RouteBook;
@@ -23,9 +22,11 @@ impl<P: PtrCore, B: BookBacking<P>> RouteBook<P, B> {
     /// leaves them. All memory is taken before anything moves, and with an error the store comes
     /// back as it was.
     ///
-    /// `Generation`, `Index` and `Stack` as by [`RouteBook::new_after`], in this order; else
-    /// `TooSmall` if more items of a kind live than its new room holds; else `Memory` if the memory
-    /// was refused. A backing that takes no memory is never refused it.
+    /// `Generation` if the new pointers' generations do not count to 3; else `Index` if the new
+    /// rooms together are past what an index can count; else `Stack` if they are past what a stack
+    /// of the new backing holds; else `TooSmall` if more items of a kind live than its new room
+    /// holds; else `Memory` if the memory was refused. A backing that takes no memory is never
+    /// refused it.
     pub fn into_room<Q: PtrCore, C: BookBacking<Q>>(
         self,
         backing: &C,
@@ -33,18 +34,17 @@ impl<P: PtrCore, B: BookBacking<P>> RouteBook<P, B> {
         stops: usize,
         marks: usize,
     ) -> Result<RouteBook<Q, C>, (RoomError, RouteBook<P, B>)>
-        ensures moved { IfOk result (λ book. IsMovedIn Q.Inx.number Q.Gen.last Q.Inx.greatest
-            C.room (record { places = places; stops = stops; marks = marks }) self.state book) }
+        ensures moved { IfOk result (λ book. IsMovedIn Q.Gen.last Q.Inx.greatest C.room
+            (rooms_for places stops marks) self.state book) }
         ensures back { IfErr result (λ refused. refused.1 ≡ self) }
         ensures refused { (e : Refused)
-            → move_refusal_of Q.Gen.last Q.Inx.greatest C.limit
-            (record { places = places; stops = stops; marks = marks }) self.state ≡ Some e
+            → move_refusal_of Q.Gen.last Q.Inx.greatest C.limit (rooms_for places stops marks)
+            self.state ≡ Some e
             → result ≡ Err (e, self) }
         ensures accepted { move_refusal_of Q.Gen.last Q.Inx.greatest C.limit
-            (record { places = places; stops = stops; marks = marks }) self.state ≡ None
-            → IfErr result (λ refused. (refused.0 ≡ RoomError.Memory)
-            × IsTrue C.takes_memory
-            × (0 < places + stops + marks)) }
+            (rooms_for places stops marks) self.state ≡ None
+            → IfErr result
+            (λ refused. IsShortOfMemory refused.0 C.takes_memory (places + stops + marks)) }
     {
         let sum = match room_sum::<Q, C>(places, stops, marks) {
             Ok(sum) => sum,
@@ -61,8 +61,7 @@ impl<P: PtrCore, B: BookBacking<P>> RouteBook<P, B> {
 
     // Whether more items of a kind live than these rooms hold.
     fn is_too_large_for(&self, places: usize, stops: usize, marks: usize) -> bool
-        ensures { result ≡ is_too_small
-            (record { places = places; stops = stops; marks = marks }) self.now.state }
+        ensures { result ≡ is_too_small (rooms_for places stops marks) self.now.state }
     {
         self.places.len() > places || self.stops.len() > stops || self.marks.len() > marks
     }
@@ -75,7 +74,7 @@ impl<P: PtrCore, B: BookBacking<P>> RouteBook<P, B> {
         ensures { (rooms : Rooms)
             → to.state.rooms ≡ rooms
             → HasRooms Q.Inx.greatest C.room rooms to
-            → IsMovedIn Q.Inx.number Q.Gen.last Q.Inx.greatest C.room rooms self.state result }
+            → IsMovedIn Q.Gen.last Q.Inx.greatest C.room rooms self.state result }
     {
         let mut store = self;
         store.pack();
@@ -84,15 +83,14 @@ impl<P: PtrCore, B: BookBacking<P>> RouteBook<P, B> {
 
     // Moves what a packed store holds to another one, whose rooms hold it.
     fn move_packed<Q: PtrCore, C: BookBacking<Q>>(self, to: RouteBook<Q, C>) -> RouteBook<Q, C>
-        requires packed { (old : Book P.Inx)
-            × ((looks : ℕ) × IsPacked P.Inx.number P.Gen.last 0 looks old self) }
+        requires packed { (old : Book) × ((looks : ℕ) × IsPacked P.Gen.last 0 looks old self) }
         requires places { length self.state.places ≤ to.state.rooms.places }
         requires stops { length (stop_list self.state.routes) ≤ to.state.rooms.stops }
         requires marks { length self.state.marks ≤ to.state.rooms.marks }
         ensures { (rooms : Rooms)
             → to.state.rooms ≡ rooms
             → HasRooms Q.Inx.greatest C.room rooms to
-            → IsMovedIn Q.Inx.number Q.Gen.last Q.Inx.greatest C.room rooms self.state result }
+            → IsMovedIn Q.Gen.last Q.Inx.greatest C.room rooms self.state result }
     {
         changes_keep_states_sound();
         let mut moved = to;

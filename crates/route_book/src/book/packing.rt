@@ -15,6 +15,7 @@ use crate::items::{Mark, Place, Stop};
 use crate::mirrors::{mirror_marks, mirror_places, mirror_stops};
 use crate::parts::Mirrors;
 use crate::recasts::{recast_all_marks, recast_all_stops};
+use proof_marks::recall;
 use route_lines::{Counts, Held};
 use ticket_book::TicketBook;
 use triple_arena::{Arena, ArenaSlots, ArenaTrait, CompactArenaTrait};
@@ -24,7 +25,7 @@ use triple_arena_ord::{OrdSlots, SimpleOrdArena};
 use triple_arena_ptr::{Probes, PtrCore};
 
 // Moves the items of the three arenas to the first indexes, places and stops in the order of their
-// lists. All counters start again.
+// lists. All counters are reset.
 fn compress_all<
     P: PtrCore,
     S: OrdSlots<P, Place>,
@@ -35,25 +36,25 @@ fn compress_all<
     stops: &mut ChainArena<P, Stop<P>, R>,
     marks: &mut Arena<P, Mark<P>, Q>,
 )
-    ensures { IsAllCompressed P.Inx.number P.Gen.last places.old places.new stops.old stops.new
+    ensures { IsAllCompressed P.Gen.last places.old places.new stops.old stops.new
         marks.old marks.new }
 {
     // The lists are as they must be, and each live index is within the room.
-    let _ = places.len();
-    let _ = stops.len();
-    let _ = places.capacity();
-    let _ = stops.capacity();
-    let _ = marks.capacity();
+    recall!(places.len());
+    recall!(stops.len());
+    recall!(places.capacity());
+    recall!(stops.capacity());
+    recall!(marks.capacity());
 
-    // The work. That a counter starts again is no error here.
+    // The work. That a counter is reset is no error here.
     let _ = places.compress_canonical(true);
     let _ = stops.compress_canonical(true);
     let _ = marks.compress(true);
 
     // Each live index still is within the room.
-    let _ = places.capacity();
-    let _ = stops.capacity();
-    let _ = marks.capacity();
+    recall!(places.capacity());
+    recall!(stops.capacity());
+    recall!(marks.capacity());
 }
 
 // Packs the parts of a store of this state, if that is needed. Each entry of the ticket book stays
@@ -68,14 +69,14 @@ pub(crate) fn pack_if<P: PtrCore, B: BookBacking<P>>(
     mirrors: &mut Mirrors<P, B::Mirror>,
     looks: &mut Probes,
 )
-    requires book { IsBook P.Inx.number held.now.state.rooms held.now.state.last held.now.state
+    requires book { IsBook held.now.state.rooms held.now.state.last held.now.state
         places.old stops.old marks.old tickets.old.entries }
     requires place_mirror { arena_capacity places.old.chains ≡ mirror_capacity mirrors.old.places }
     requires stop_mirror { arena_capacity stops.old ≡ mirror_capacity mirrors.old.stops }
     requires mark_mirror { arena_capacity marks.old ≡ mirror_capacity mirrors.old.marks }
-    ensures book { IsBook P.Inx.number held.now.state.rooms held.now.state.last held.now.state
+    ensures book { IsBook held.now.state.rooms held.now.state.last held.now.state
         places.new stops.new marks.new tickets.new.entries }
-    ensures ready { IsReady P.Inx.number P.Gen.last needed looks.old looks.new
+    ensures ready { IsReady P.Gen.last needed looks.old looks.new
         (as_book held.now.state places.old stops.old marks.old)
         (as_book held.now.state places.new stops.new marks.new) }
     ensures stand { StandAs (entry_at tickets.old) (entry_at tickets.new) }
@@ -110,16 +111,21 @@ impl<P: PtrCore, B: BookBacking<P>> RouteBook<P, B> {
     /// other items, or none. No memory is taken, and the state and the rooms stay.
     pub fn pack(&mut self)
         ensures state { self.new.state ≡ self.old.state }
-        ensures packed { (looks : ℕ) × IsPacked P.Inx.number P.Gen.last 0 looks self.old self.new }
+        ensures packed { (looks : ℕ) × IsPacked P.Gen.last 0 looks self.old self.new }
     {
         self.pack_counted(&mut Counts::new());
     }
 
-    /// The same, with the looks at stored references counted. Its searches by ticket are not.
+    /// Moves all items to the first indexes: places in the order of their keys, the stops of a
+    /// route one after another. No index is free then. The looks at stored references are counted
+    /// in `counts.looks`; the searches by ticket are not counted.
+    ///
+    /// Each stored reference is looked at once; one to an item that has ended is `Gone` from then
+    /// on. All items have the second generation then, and pointers into the arenas may find other
+    /// items, or none. No memory is taken, and the state and the rooms stay.
     pub fn pack_counted(&mut self, counts: &mut Counts)
         ensures state { self.new.state ≡ self.old.state }
-        ensures packed { IsPacked P.Inx.number P.Gen.last counts.old.looks counts.new.looks
-            self.old self.new }
+        ensures packed { IsPacked P.Gen.last counts.old.looks counts.new.looks self.old self.new }
         ensures counts { ComparesWithin counts.old counts.new 0 0 0 }
     {
         pack_if::<P, B>(

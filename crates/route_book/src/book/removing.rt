@@ -7,13 +7,14 @@ ghost use Rattle.route_lines.specs.Searches.{ComparesWithin, most_for};
 ghost use Rattle.route_lines.specs.Sound.{IsSound};
 ghost use Rattle.route_lines.specs.State.{holder};
 ghost use Rattle.route_book.specs.Book.{as_book, IsBook, KeepsRooms};
-ghost use Rattle.route_book.specs.Removals.{Ends, Removes, removal_wraps};
+ghost use Rattle.route_book.specs.Removals.{EndsUnder, Removes, removal_wraps};
 ghost use Rattle.route_book.specs.Rooms.{counts_short};
 
 use crate::backing::BookBacking;
 use crate::book::RouteBook;
 use crate::book::packing::pack_if;
 use crate::items::{Mark, Place, Stop};
+use proof_marks::recall;
 use route_lines::laws::{
     changes_keep_states_sound, removed_marks_leave_all_else, removed_places_leave_no_reference,
     removed_stops_join_their_neighbors,
@@ -25,14 +26,14 @@ use triple_arena_chain::{ChainArena, ChainArenaTrait};
 use triple_arena_ord::SimpleOrdArena;
 use triple_arena_ptr::{PtrCore, PtrGenCore};
 
-// Whether the next step of a counter starts it again.
+// Whether a counter wraps at its next step.
 fn wraps<P: PtrCore>(counter: P::Gen) -> bool
     ensures { result ≡ next_wraps P.Gen.last (P.Gen.number counter) }
 {
     counter.generational_inc().1
 }
 
-// Ends the item whose entry stands at an index of the ticket book. No counter starts again that a
+// Ends the item whose entry stands at an index of the ticket book. No counter wraps that a
 // reference may be under.
 fn end_at<P: PtrCore, B: BookBacking<P>>(
     held: &mut Held,
@@ -42,18 +43,17 @@ fn end_at<P: PtrCore, B: BookBacking<P>>(
     tickets: &mut TicketBook<P, B::Book>,
     at: P::Inx,
 )
-    requires book { IsBook P.Inx.number held.old.state.rooms held.old.state.last held.old.state
+    requires book { IsBook held.old.state.rooms held.old.state.last held.old.state
         places.old stops.old marks.old tickets.old.entries }
     requires sound { IsSound held.old.state }
     requires counts { counts_short P.Gen.last ≡ false }
     requires stands { (e : EntryView) × (entry_at tickets.old (P.Inx.number at) ≡ Some e)
         × (removal_wraps P.Gen.last (as_book held.old.state places.old stops.old marks.old) e.kind
         ≡ false) }
-    ensures book { IsBook P.Inx.number held.old.state.rooms held.old.state.last held.new.state
+    ensures book { IsBook held.old.state.rooms held.old.state.last held.new.state
         places.new stops.new marks.new tickets.new.entries }
     ensures sound { IsSound held.new.state }
-    ensures ends { (e : EntryView) → entry_at tickets.old (P.Inx.number at) ≡ Some e
-        → Ends P.Gen.last e.kind e.ticket
+    ensures ends { EndsUnder P.Gen.last (entry_at tickets.old (P.Inx.number at))
         (as_book held.old.state places.old stops.old marks.old)
         (as_book held.new.state places.new stops.new marks.new) }
     ensures rooms { KeepsRooms (as_book held.old.state places.old stops.old marks.old)
@@ -70,13 +70,13 @@ fn end_at<P: PtrCore, B: BookBacking<P>>(
         Kind::Place => {
             removed_places_leave_no_reference();
             // The list is as it must be.
-            let _ = places.len();
+            recall!(places.len());
             let _ = places.remove(item);
         }
         Kind::Stop => {
             removed_stops_join_their_neighbors();
             // The links are as they must be.
-            let _ = stops.len();
+            recall!(stops.len());
             let _ = stops.remove_link_no_gen(item);
         }
         Kind::Mark => {
@@ -96,26 +96,28 @@ impl<P: PtrCore, B: BookBacking<P>> RouteBook<P, B> {
         ensures result { result ≡ removed self.old.state ticket }
         ensures state { self.new.state ≡ after_removed self.old.state ticket }
         ensures removes { (looks : ℕ)
-            × Removes P.Inx.number P.Gen.last ticket 0 looks self.old self.new
-            (holder self.old.state ticket) }
+            × Removes P.Gen.last ticket 0 looks self.old self.new (holder self.old.state ticket) }
     {
         self.remove_counted(ticket, &mut Counts::new())
     }
 
-    /// The same, with the comparisons of its search counted as `first`, and the looks at stored
-    /// references.
+    /// Removes a living place, stop or mark. Its ticket never comes again, and each stored
+    /// reference to it is gone. The comparisons of the search for the ticket are counted in
+    /// `counts.first`, and the looks at stored references in `counts.looks`.
+    ///
+    /// `Unknown` if the ticket was never given, and `Gone` if its item has ended; then nothing
+    /// changes.
     ///
     /// A reference to the removed item stays as it is and finds nothing, so no reference is looked
-    /// at. If that cannot be, since the arena's counter would start again, the store is packed
-    /// first. The searches by ticket of a pack are not counted.
+    /// at. If that cannot be, since the arena's counter would wrap, the store is packed first. The
+    /// searches by ticket of a pack are not counted.
     pub fn remove_counted(&mut self, ticket: u64, counts: &mut Counts) -> Result<(), Refusal>
         ensures result { result ≡ removed self.old.state ticket }
         ensures state { self.new.state ≡ after_removed self.old.state ticket }
-        ensures removes { Removes P.Inx.number P.Gen.last ticket counts.old.looks counts.new.looks
+        ensures removes { Removes P.Gen.last ticket counts.old.looks counts.new.looks
             self.old self.new
             (holder self.old.state ticket) }
-        ensures counts { ComparesWithin counts.old counts.new
-            0 (most_for self.old.state ticket) 0 }
+        ensures counts { ComparesWithin counts.old counts.new 0 (most_for self.old.state ticket) 0 }
     {
         if ticket == 0 || ticket > self.last {
             return Err(Refusal::Unknown);
@@ -145,8 +147,7 @@ impl<P: PtrCore, B: BookBacking<P>> RouteBook<P, B> {
         Ok(())
     }
 
-    // Whether the removal of an item of a kind would start a counter again that references may be
-    // under.
+    // Whether the removal of an item of a kind would wrap a counter that references may be under.
     fn removal_wraps(&self, kind: Kind) -> bool
         ensures { result ≡ removal_wraps P.Gen.last self.now kind }
     {

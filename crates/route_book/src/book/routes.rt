@@ -8,6 +8,7 @@ ghost use Rattle.route_book.specs.Book.{Changes};
 use crate::backing::BookBacking;
 use crate::book::RouteBook;
 use crate::items::{Ref, Stop};
+use proof_marks::{recall, unreached};
 use route_lines::laws::{
     changes_keep_states_sound, cuts_part_one_stop, extensions_add_one_stop,
     extensions_lead_through, joins_lead_on, stops_follow_their_previous_ones,
@@ -18,7 +19,6 @@ use ticket_book::Kind;
 use triple_arena::ArenaTrait;
 use triple_arena_chain::{ChainArenaTrait, LinkInsertKind};
 use triple_arena_ptr::PtrCore;
-use unreached::unreached;
 
 impl<P: PtrCore, B: BookBacking<P>> RouteBook<P, B> {
     /// A new stop at a place, directly behind another stop on its route.
@@ -34,7 +34,12 @@ impl<P: PtrCore, B: BookBacking<P>> RouteBook<P, B> {
         self.extend_counted(stop, place, &mut Counts::new())
     }
 
-    /// The same, with the comparisons of its searches counted as `first` and `second`.
+    /// A new stop at a place, directly behind another stop on its route. The comparisons of the
+    /// searches for the stop and the place are counted in `counts.first` and `counts.second`.
+    ///
+    /// The stop's ticket is refused before the place's: `Unknown` if it was never given, `Gone` if
+    /// its item has ended, `Kind` if it is of another kind. Then `Full` if as many stops live as
+    /// the room holds, or every ticket was given. A refused call changes nothing.
     pub fn extend_counted(
         &mut self,
         stop: u64,
@@ -86,7 +91,13 @@ impl<P: PtrCore, B: BookBacking<P>> RouteBook<P, B> {
         self.join_counted(stop, next, &mut Counts::new())
     }
 
-    /// The same, with the comparisons of its searches counted as `first` and `second`.
+    /// Lets the second stop follow the first: the route that ends with the first goes on with the
+    /// one that begins with the second. If they are one route, it becomes a ring. The comparisons
+    /// of the searches for the two stops are counted in `counts.first` and `counts.second`.
+    ///
+    /// Each ticket is refused in turn: `Unknown` if it was never given, `Gone` if its item has
+    /// ended, `Kind` if it is no stop. Then `No` if a stop follows the first, or the second follows
+    /// one. A refused call changes nothing.
     pub fn join_counted(&mut self, stop: u64, next: u64, counts: &mut Counts) -> Result<(), Refusal>
         ensures changes { Changes (joined self.old.state stop next)
             (after_join self.old.state stop next) result self.old self.new }
@@ -100,7 +111,7 @@ impl<P: PtrCore, B: BookBacking<P>> RouteBook<P, B> {
         joins_lead_on();
         stops_stay_as_routes_change();
         // The links are as they must be.
-        let _ = self.stops.len();
+        recall!(self.stops.len());
         let from = self.find_stop(stop, &mut counts.first)?;
         let to = self.find_stop(next, &mut counts.second)?;
         match self.stops.connect(from, to) {
@@ -125,19 +136,23 @@ impl<P: PtrCore, B: BookBacking<P>> RouteBook<P, B> {
         self.cut_counted(stop, &mut Counts::new())
     }
 
-    /// The same, with the comparisons of its search counted as `first`.
+    /// Parts a stop from the one that follows it: a route is split behind it, and a ring becomes a
+    /// route that ends with it. The comparisons of the search for the stop are counted in
+    /// `counts.first`.
+    ///
+    /// `Unknown` if the ticket was never given, `Gone` if its item has ended, `Kind` if it is no
+    /// stop, and then `No` if no stop follows it. A refused call changes nothing.
     pub fn cut_counted(&mut self, stop: u64, counts: &mut Counts) -> Result<(), Refusal>
         ensures changes { Changes (parted self.old.state stop)
             (after_cut self.old.state stop) result self.old self.new }
         ensures others { (self.new.places ≡ self.old.places) × (self.new.marks ≡ self.old.marks) }
-        ensures counts { CountsWithin counts.old counts.new
-            0 (most_for self.old.state stop) 0 }
+        ensures counts { CountsWithin counts.old counts.new 0 (most_for self.old.state stop) 0 }
     {
         changes_keep_states_sound();
         cuts_part_one_stop();
         stops_stay_as_routes_change();
         // The links are as they must be.
-        let _ = self.stops.len();
+        recall!(self.stops.len());
         let from = self.find_stop(stop, &mut counts.first)?;
         match self.stops.break_next(from) {
             Some(()) => {
@@ -162,7 +177,13 @@ impl<P: PtrCore, B: BookBacking<P>> RouteBook<P, B> {
         self.swap_counted(stop, other, &mut Counts::new())
     }
 
-    /// The same, with the comparisons of its searches counted as `first` and `second`.
+    /// Exchanges the stops that follow two stops. Two stops of one ring make two rings of it, and
+    /// two of two rings one. For a stop and itself nothing changes. The comparisons of the searches
+    /// for the two stops are counted in `counts.first` and `counts.second`.
+    ///
+    /// Each ticket is refused in turn: `Unknown` if it was never given, `Gone` if its item has
+    /// ended, `Kind` if it is no stop. Then `No` if no stop follows one of them. A refused call
+    /// changes nothing.
     pub fn swap_counted(
         &mut self,
         stop: u64,
@@ -180,7 +201,7 @@ impl<P: PtrCore, B: BookBacking<P>> RouteBook<P, B> {
         swaps_exchange_next_stops();
         stops_stay_as_routes_change();
         // The links are as they must be.
-        let _ = self.stops.len();
+        recall!(self.stops.len());
         let from = self.find_stop(stop, &mut counts.first)?;
         let by = self.find_stop(other, &mut counts.second)?;
         match self.stops.exchange_next(from, by) {

@@ -8,6 +8,7 @@ use crate::backing::BookBacking;
 use crate::book::RouteBook;
 use crate::book::asking::place_ticket;
 use crate::items::{Place, Stop};
+use proof_marks::{recall, unreached};
 use route_lines::laws::{
     lists_are_walked_both_ways, rings_are_walked_once, stops_follow_their_previous_ones,
 };
@@ -18,7 +19,6 @@ use triple_arena_chain::ChainSlots;
 use triple_arena_chain::chain_iterators::IterChain;
 use triple_arena_ord::{OrdSlots, SimpleOrdArena};
 use triple_arena_ptr::{PtrCore, PtrInxCore};
-use unreached::unreached;
 
 /// The stops of a route from one of them on, seen as the list of those that are left: to the end
 /// and then backwards from the stop before the first, or once round a ring.
@@ -86,21 +86,25 @@ impl<P: PtrCore, B: BookBacking<P>> RouteBook<P, B> {
         self.walk_counted(stop, &mut Counts::new())
     }
 
-    /// The same, with the comparisons of its search counted as `first`.
+    /// The stops of a stop's route, from it on: to the end of the route and then backwards from the
+    /// stop before it, or once round a ring. The comparisons of the search for the stop are counted
+    /// in `counts.first`.
+    ///
+    /// `Unknown` if the ticket was never given, `Gone` if its item has ended, `Kind` if it is no
+    /// stop.
     pub fn walk_counted(
         &self,
         stop: u64,
         counts: &mut Counts,
     ) -> Result<Walk<'_, P, B::Places, B::Stops>, Refusal>
         ensures result { result ≡ walked self.now.state stop }
-        ensures counts { CountsWithin counts.old counts.new
-            0 (most_for self.now.state stop) 0 }
+        ensures counts { CountsWithin counts.old counts.new 0 (most_for self.now.state stop) 0 }
     {
         stops_follow_their_previous_ones();
         lists_are_walked_both_ways();
         rings_are_walked_once();
         // The links are as they must be.
-        let _ = self.stops.len();
+        recall!(self.stops.len());
         let at = self.find_stop(stop, &mut counts.first)?;
         match self.stops.iter_chain(at) {
             Some(stops) => Ok(Walk {

@@ -8,5 +8,5 @@ use triple_arena_ptr::PtrCore;
 /// a pack for `pack`, an end for a removal that finds a place or a stop, and else neither. So that
 /// law bounds the looks of lines by their packs and removals.
 pub fn lines_are_sweep_steps<P: PtrCore>()
-    ensures { AreSweepSteps P.Inx.number }
+    ensures { AreSweepSteps }
 {}

@@ -1,5 +1,5 @@
-//! What tests share: a pointer type whose generations start again soon, and an allocator that
-//! refuses a request.
+//! What tests share: a pointer type whose generations wrap soon, and an allocator that refuses a
+//! request.
 use std::alloc::{AllocError, Allocator};
 use std::num::NonZeroU8;
 use std::test::Fail;

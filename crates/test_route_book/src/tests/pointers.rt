@@ -1,6 +1,7 @@
-//! Where items stand in the arenas that a store lends, and how a ticket is found among many.
+//! Where items stand in the arenas that are borrowed from a store, and how a ticket is found among
+//! many.
 //!
-//! The store is lent to what asks it, and has one owner, whose proof pays for its end.
+//! The store is borrowed by what asks it, and has one owner, whose proof pays for its end.
 use super::rows::store;
 use route_book::{BookBacking, Counts, OnHeap, Ref, RouteBook, Word};
 use std::alloc::Allocator;

@@ -1,5 +1,5 @@
-//! Two values of an arena, lent at once. A script is generic in its memory, and so knows no size of
-//! an arena, which such a loan asks for.
+//! Two values of an arena, borrowed at once. A script is generic in its memory, and so knows no
+//! size of an arena, which such a borrow asks for.
 ghost use Rattle.std.specs.Mem.{FitsInMemory};
 
 use super::calls::{remove, store};

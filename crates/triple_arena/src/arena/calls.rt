@@ -22,12 +22,12 @@ use crate::arena::reading::ValueAtMut;
 use crate::arena::removal::equal_uncounted;
 use crate::arena::{Arena, max_index};
 use crate::{ArenaSlot, ArenaSlots, ArenaTrait, CompactArenaTrait};
+use proof_marks::{recall, unreached};
 use triple_arena_ptr::{
     InvalidationOption, InvalidationResult, OptionalInx, PtrCore, PtrGenCore, PtrInxCore,
     ReallocationError,
 };
 use triple_arena_stack::NonZeroInxArray;
-use unreached::unreached;
 
 impl<P: PtrCore, T: Drop, S: ArenaSlots<P, T>> ArenaTrait<P, T> for Arena<P, T, S> {
     type Alloc = S::Alloc;
@@ -130,19 +130,19 @@ impl<P: PtrCore, T: Drop, S: ArenaSlots<P, T>> ArenaTrait<P, T> for Arena<P, T, 
 
     fn singular_generation(&self) -> Option<P::Gen> {
         // The counter is a generation.
-        let _ = self.counter.generational_inc();
+        recall!(self.counter.generational_inc());
         Some(self.counter)
     }
 
     fn contains(&self, p: P) -> bool {
         // It is one of the generations.
-        let _ = p.generation().generational_inc();
+        recall!(p.generation().generational_inc());
         self.live_index(p).is_some()
     }
 
     fn get_inx(&self, i: P::Inx) -> Option<(P::Gen, &T)> {
         // The number of slots is a `usize`, so no index past that is live.
-        let _ = self.slots.len();
+        recall!(self.slots.len());
         match i.try_into_usize() {
             Some(i) => match self.slots.get(i) {
                 Some(slot) => slot.entry(),
@@ -154,7 +154,7 @@ impl<P: PtrCore, T: Drop, S: ArenaSlots<P, T>> ArenaTrait<P, T> for Arena<P, T, 
 
     fn get_inx_mut_unwrap(&mut self, i: P::Inx) -> &mut T {
         // The number of slots is a `usize`, so no index past that is live.
-        let _ = self.slots.len();
+        recall!(self.slots.len());
         match i.try_into_usize() {
             Some(i) => self.value_at_mut(i),
             None => unreached!(),
@@ -180,7 +180,7 @@ impl<P: PtrCore, T: Drop, S: ArenaSlots<P, T>> ArenaTrait<P, T> for Arena<P, T, 
     #[inline(always)]
     fn take_inx_unwrap(&mut self, i: P::Inx) -> ((P::Gen, T), bool) {
         // The number of slots is a `usize`, so no index past that is live.
-        let _ = self.slots.len();
+        recall!(self.slots.len());
         match i.try_into_usize() {
             Some(i) => self.remove_at(i),
             None => unreached!(),
@@ -228,7 +228,7 @@ impl<P: PtrCore, T: Drop, S: ArenaSlots<P, T>> ArenaTrait<P, T> for Arena<P, T, 
         map: F,
     ) -> InvalidationOption<()> {
         // The slots are within the capacity, and so are their indexes.
-        let _ = self.own_capacity();
+        recall!(self.own_capacity());
         let (generation, wrapped) = renewal(self.counter, reset);
         compact(&mut self.slots, Some(generation), reset, map);
         self.counter = generation;

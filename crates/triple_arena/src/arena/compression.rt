@@ -15,7 +15,7 @@ use std::num::NonZeroUsize;
 use triple_arena_ptr::{PtrCore, PtrGenCore};
 use triple_arena_stack::NonZeroInxGenericStack;
 
-// The generation after `generation`, and whether the step to it started the generations again.
+// The generation after `generation`, and whether the step to it wrapped.
 pub(crate) fn renewal<G: PtrGenCore>(generation: G, reset: bool) -> (G, bool)
     ensures next { G.number result.0 ≡ renewed G.last reset (G.number generation) }
     ensures wraps { result.1 ≡ renewal_wraps G.last reset (G.number generation) }
@@ -28,7 +28,7 @@ pub(crate) fn renewal<G: PtrGenCore>(generation: G, reset: bool) -> (G, bool)
 }
 
 // The generation that an entry gets, the given one or else its own one renewed, and whether the
-// step to it started the generations again.
+// step to it wrapped.
 fn renewal_of_entry<G: PtrGenCore>(given: Option<G>, reset: bool, own: G) -> (G, bool)
     ensures next { G.number result.0
         ≡ generation_after G.last reset (option_map G.number given) (G.number own) }
@@ -86,7 +86,7 @@ pub(crate) fn keep_first<L: Drop, S: NonZeroInxGenericStack<Item = L>>(slots: &m
 
 // Moves the live entries to the first indexes, each with what `map` makes of its value and with the
 // given generation, or else its own one renewed, and drops the other slots. It says whether the
-// step of one's own generation started the generations again.
+// step of one's own generation wrapped.
 pub(crate) fn compact<
     P,
     T: Drop,

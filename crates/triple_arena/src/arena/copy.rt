@@ -8,8 +8,8 @@ ghost use Rattle.triple_arena.specs.ArenaRoom.{room_of};
 ghost use Rattle.triple_arena.specs.Content.{entry_at, live_count, some_counter, empty};
 ghost use Rattle.triple_arena.specs.Content.{arena_capacity, reallocated, cleared, vacant_from};
 ghost use Rattle.triple_arena.specs.Content.{IsWellFormed};
-ghost use Rattle.triple_arena.specs.Copy.{last_listed, copied as copied_of, MayRefuse};
-ghost use Rattle.triple_arena.specs.Copy.{IsMappedCopy, IsRefusedCopy, IsUnmadeCopy};
+ghost use Rattle.triple_arena.specs.Copy.{last_listed, last_inx, copied as copied_of};
+ghost use Rattle.triple_arena.specs.Copy.{MayRefuse, IsMappedCopy, IsRefusedCopy, IsUnmade};
 ghost use Rattle.triple_arena.specs.Layout.{IsFreeList};
 ghost use Rattle.triple_arena.specs.LiveEntries.{listed_from, live_entries};
 ghost use Rattle.triple_arena.specs.Slot.{entry_of};
@@ -20,6 +20,7 @@ use crate::copy::{append_copies, up_to_last};
 use crate::free_inx::FreeInx;
 use crate::iterators::LentEntry;
 use crate::{ArenaCloneFromWith, ArenaCloneSource, ArenaSlot, ArenaSlots, ArenaTrait};
+use proof_marks::recall;
 use std::num::NonZeroUsize;
 use triple_arena_ptr::{AllocError, OptionalInx, PtrCore, ReallocationError};
 
@@ -28,7 +29,7 @@ impl<P: PtrCore, T: Drop, S: ArenaSlots<P, T>> ArenaCloneSource<P, T> for Arena<
 
     fn lent_slots(&self) -> &[ArenaSlot<P, T>] {
         // Each slot has an index of the pointer type.
-        let _ = self.own_capacity();
+        recall!(self.own_capacity());
         self.slots.as_slice()
     }
 }
@@ -64,18 +65,18 @@ impl<P: PtrCore, T: Clone, S: ArenaSlots<P, T>> Arena<P, T, S> {
     pub fn clone(&self, alloc: S::Alloc) -> Result<Self, ReallocationError>
         requires { (x y : T) → T.is_clone x y → y ≡ x }
         ensures exact { IfOk result (λ c. c ≡ copied_of (empty (second_generation P.Gen.last)
-            (room_of P.Inx.greatest (S.room_at (last_listed (live_entries self.now)))))
+            (room_of P.Inx.greatest (S.room_at (last_inx self.now))))
             (Some self.now.counter) (live_entries self.now)) }
-        ensures succeeds { last_listed (live_entries self.now)
+        ensures succeeds { last_inx self.now
             ≤ capacity (room_of P.Inx.greatest (S.room_at 0))
             → ((x : T) → T.is_infallible x) → IsOk result }
         ensures beyond { IsErrOf result ReallocationError.BeyondMaxCapacity
             ↔ IsBeyond (room_of P.Inx.greatest
-            (S.room_at (last_listed (live_entries self.now)))).limit
-            (last_listed (live_entries self.now)) }
+            (S.room_at (last_inx self.now))).limit
+            (last_inx self.now) }
         ensures unmade { IsErrOf result ReallocationError.AllocError
             → (IsTrue S.takes_memory × (capacity (room_of P.Inx.greatest (S.room_at 0))
-            < last_listed (live_entries self.now)))
+            < last_inx self.now))
             ⊎ MayRefuse T.is_infallible (live_entries self.now) }
         ensures formed { IfOk result (λ c. IsWellFormed c) }
     {
@@ -96,15 +97,13 @@ impl<P: PtrCore, T: Clone, S: ArenaSlots<P, T>> Arena<P, T, S> {
         requires { (x y : T) → T.is_clone x y → y ≡ x }
         ensures exact { OnOk result (self.new ≡ copied_of self.old (Some source.now.counter)
             (live_entries source.now)) }
-        ensures succeeds { last_listed (live_entries source.now) ≤ arena_capacity self.old
+        ensures succeeds { last_inx source.now ≤ arena_capacity self.old
             → ((x : T) → T.is_infallible x) → IsOk result }
         ensures beyond { IsErrOf result ReallocationError.BeyondMaxCapacity
-            ↔ IsBeyond self.old.room.limit (last_listed (live_entries source.now)) }
+            ↔ IsBeyond self.old.room.limit (last_inx source.now) }
         ensures kept { IsErrOf result ReallocationError.BeyondMaxCapacity → self.new ≡ self.old }
         ensures unmade { IsErrOf result ReallocationError.AllocError
-            → IsUnmadeCopy entry_at live_count some_counter (λ c. c.room) S.takes_memory P.Gen.last
-            (last_listed (live_entries source.now))
-            (λ c. cleared P.Gen.last (reallocated c (last_listed (live_entries source.now))))
+            → IsUnmade S.takes_memory P.Gen.last (last_inx source.now)
             (MayRefuse T.is_infallible (live_entries source.now)) self.old self.new }
         ensures formed { IsWellFormed self.new }
     {
@@ -138,7 +137,7 @@ impl<P: PtrCore, T: Drop, S: ArenaSlots<P, T>> Arena<P, T, S> {
         ensures formed { IsWellFormed self.new }
     {
         // Each slot has an index of the pointer type.
-        let _ = self.own_capacity();
+        recall!(self.own_capacity());
         let counter = counter.unwrap_or(self.counter);
         self.empty();
         match append_copies::<P, T, U, ArenaSlot<P, T>, E, S, F>(&mut self.slots, source, map) {
@@ -168,7 +167,7 @@ fn link_free<P: PtrCore, T: Drop, S: ArenaSlots<P, T>>(slots: &mut S, live: usiz
     requires fits { length (S.items slots.old) ≤ P.Inx.greatest }
     ensures entries { list_map entry_of (S.items slots.new)
         ≡ list_map entry_of (S.items slots.old) }
-    ensures listed { IsFreeList (S.items slots.new) (option_map P.Inx.number result)
+    ensures listed { IsFreeList (S.items slots.new) result
         (vacant_from 1 (list_map entry_of (S.items slots.old))) }
     ensures room { S.room slots.new ≡ S.room slots.old }
 {

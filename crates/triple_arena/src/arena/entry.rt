@@ -88,8 +88,10 @@ pub trait ArenaInsertEntries<P: PtrCore, T: Drop> {
         ensures* err { sem 𝓛 (RestsIfErr Self.row self.entry entry_lender result
             (λ a. a ≡ self.old)) };
 
-    /// Room for one entry more. If there is no room, the arena grows, and returns the errors, as
-    /// `insert_reallocating` does. An error leaves the arena as it was.
+    /// Room for one entry more. If there is no room, the arena grows: to room for 4 at first, then
+    /// for the double, and never past its greatest capacity. It returns `BeyondMaxCapacity` if as
+    /// many entries are live as the greatest capacity, and `AllocError` if the memory was refused.
+    /// An error leaves the arena as it was.
     fn entry_insert_reallocating(
         &mut self,
     ) -> Result<ArenaInsertEntry<'_, P, T, Self::Stack>, ReallocationError>
@@ -102,8 +104,9 @@ pub trait ArenaInsertEntries<P: PtrCore, T: Drop> {
         ensures* err { sem 𝓛 (RestsIfErr Self.row self.entry entry_lender result
             (λ a. a ≡ self.old)) };
 
-    /// Room for one entry more. If there is none, the arena grows; the growth and the errors are
-    /// those of `entry_insert_reallocating`. An error leaves the arena as it was.
+    /// Room for one entry more: another name of `entry_insert_reallocating`. If there is no room,
+    /// the arena grows. It returns `BeyondMaxCapacity` if as many entries are live as the greatest
+    /// capacity, and `AllocError` if the memory was refused. An error leaves the arena as it was.
     fn entry_insert(&mut self) -> Result<ArenaInsertEntry<'_, P, T, Self::Stack>, ReallocationError>
         ensures same_reference { IfOk result (λ e. entry_lender e ≡ self.entry.ghost_name) }
         ensures has_room { IfOk result

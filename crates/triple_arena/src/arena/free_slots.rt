@@ -3,7 +3,7 @@ ghost use Rattle.std.specs.Prelude.{◌≡◌, ◌≤◌, ℕ, Some, IsSome, IsT
 ghost use Rattle.std.specs.Prelude.{map as list_map, slice_get, ⊤};
 ghost use Rattle.std.specs.Int.NonZero.{non_zero_usize_get};
 ghost use Rattle.std.specs.Option.{option_map};
-ghost use Rattle.triple_arena.specs.FreeLinks.{numbered, with_prev_at, with_next_at};
+ghost use Rattle.triple_arena.specs.FreeLinks.{with_prev_at, with_next_at};
 ghost use Rattle.triple_arena.specs.Slot.{entry_of};
 ghost use Rattle.triple_arena.specs.Layout.{links_at, head_after, without_last, IsFreeList};
 ghost use Rattle.triple_arena.specs.Content.{without_free_end, vacant_from, canonicalized};
@@ -12,6 +12,7 @@ ghost use Rattle.triple_arena.specs.Content.{last_index, IsVacant, IsWellFormed}
 use crate::ArenaSlots;
 use crate::arena::Arena;
 use crate::free_inx::{FreeInx, free_at, place_of};
+use proof_marks::recall;
 use std::num::NonZeroUsize;
 use triple_arena_ptr::{OptionalInx, PtrCore};
 
@@ -63,7 +64,7 @@ impl<P: PtrCore, T: Drop, S: ArenaSlots<P, T>> Arena<P, T, S> {
         ensures formed { IsWellFormed self.new }
     {
         // Each slot has an index of the pointer type.
-        let _ = self.own_capacity();
+        recall!(self.own_capacity());
         self.head = link_rising::<P, T, S>(&mut self.slots);
         // The arena is well-formed after.
         self.recall_formed();
@@ -76,7 +77,7 @@ pub(crate) fn link_rising<P: PtrCore, T: Drop, S: ArenaSlots<P, T>>(slots: &mut 
     requires no_more { ⊤ }
     ensures entries { list_map entry_of (S.items slots.new)
         ≡ list_map entry_of (S.items slots.old) }
-    ensures listed { IsFreeList (S.items slots.new) (option_map P.Inx.number result)
+    ensures listed { IsFreeList (S.items slots.new) result
         (vacant_from 1 (list_map entry_of (S.items slots.old))) }
     ensures room { S.room slots.new ≡ S.room slots.old }
 {
@@ -98,8 +99,7 @@ fn links_in<P: PtrCore, T: Drop, S: ArenaSlots<P, T>>(
     slots: &S,
     i: NonZeroUsize,
 ) -> Option<(FreeInx<P>, FreeInx<P>)>
-    ensures { option_map (numbered P.Inx.number) result
-        ≡ links_at (S.items slots.now) (non_zero_usize_get i) }
+    ensures { result ≡ links_at (S.items slots.now) (non_zero_usize_get i) }
 {
     match slots.get(i) {
         Some(slot) => slot.links(),
@@ -114,18 +114,16 @@ pub(crate) fn set_prev_at<P: PtrCore, T: Drop, S: ArenaSlots<P, T>>(
     at: FreeInx<P>,
     prev: FreeInx<P>,
 )
-    requires free { (i : ℕ) → option_map P.Inx.number at ≡ Some i
-        → IsSome (links_at (S.items slots.old) i) }
+    requires free { (i : ℕ) → at ≡ Some i → IsSome (links_at (S.items slots.old) i) }
     requires no_more { ⊤ }
     ensures links { (i : ℕ) → links_at (S.items slots.new) i
-        ≡ with_prev_at (links_at (S.items slots.old))
-        (option_map P.Inx.number at) (option_map P.Inx.number prev) i }
+        ≡ with_prev_at (links_at (S.items slots.old)) at prev i }
     ensures entries { list_map entry_of (S.items slots.new)
         ≡ list_map entry_of (S.items slots.old) }
     ensures room { S.room slots.new ≡ S.room slots.old }
 {
     // The number of slots is a `usize`, so the index of each is one.
-    let _ = slots.len();
+    recall!(slots.len());
     if let Some(i) = place_of::<P>(at) {
         slots.item_mut(i).set_prev(prev);
     }
@@ -138,18 +136,16 @@ fn set_next_at<P: PtrCore, T: Drop, S: ArenaSlots<P, T>>(
     at: FreeInx<P>,
     next: FreeInx<P>,
 )
-    requires free { (i : ℕ) → option_map P.Inx.number at ≡ Some i
-        → IsSome (links_at (S.items slots.old) i) }
+    requires free { (i : ℕ) → at ≡ Some i → IsSome (links_at (S.items slots.old) i) }
     requires no_more { ⊤ }
     ensures links { (i : ℕ) → links_at (S.items slots.new) i
-        ≡ with_next_at (links_at (S.items slots.old))
-        (option_map P.Inx.number at) (option_map P.Inx.number next) i }
+        ≡ with_next_at (links_at (S.items slots.old)) at next i }
     ensures entries { list_map entry_of (S.items slots.new)
         ≡ list_map entry_of (S.items slots.old) }
     ensures room { S.room slots.new ≡ S.room slots.old }
 {
     // The number of slots is a `usize`, so the index of each is one.
-    let _ = slots.len();
+    recall!(slots.len());
     if let Some(i) = place_of::<P>(at) {
         slots.item_mut(i).set_next(next);
     }
@@ -157,8 +153,7 @@ fn set_next_at<P: PtrCore, T: Drop, S: ArenaSlots<P, T>>(
 
 // The first free index after a slot with these links has left the list.
 fn head_without<P: PtrCore>(head: FreeInx<P>, prev: FreeInx<P>, next: FreeInx<P>) -> FreeInx<P>
-    ensures { option_map P.Inx.number result ≡ head_after (option_map P.Inx.number head)
-        (option_map P.Inx.number prev) (option_map P.Inx.number next) }
+    ensures { result ≡ head_after head prev next }
 {
     match prev.get() {
         Some(_) => head,

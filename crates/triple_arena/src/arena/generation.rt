@@ -29,7 +29,7 @@ impl<P: PtrCore, T: Drop, S: ArenaSlots<P, T>> Arena<P, T, S> {
         self.recall_formed();
     }
 
-    /// Steps the counter once, as a removal does, and says whether the generations started again.
+    /// Steps the counter once, as a removal does, and says whether the generations wrapped.
     pub fn inc_generation(&mut self) -> InvalidationOption<()>
         ensures stepped { IsStepped entry_at live_count some_counter (λ c. c.room) P.Gen.last
             self.old self.new }
@@ -43,7 +43,7 @@ impl<P: PtrCore, T: Drop, S: ArenaSlots<P, T>> Arena<P, T, S> {
         answer(wrapped, ())
     }
 
-    // Steps the counter, and says whether the generations started again.
+    // Steps the counter, and says whether the generations wrapped.
     pub(crate) fn step(&mut self) -> bool
         ensures value { self.new ≡ stepped P.Gen.last self.old }
         ensures wraps { result ≡ next_wraps P.Gen.last self.old.counter }
@@ -57,8 +57,8 @@ impl<P: PtrCore, T: Drop, S: ArenaSlots<P, T>> Arena<P, T, S> {
         wrapped
     }
 
-    // The counter starts again, which few steps meet: a branch to this is foreseen, where a choice
-    // of the next number would wait for the last one.
+    // The counter wraps, which few steps do: a branch to this is foreseen, where a choice of the
+    // next number would wait for the last one.
     #[cold]
     #[inline(never)]
     fn restart(&mut self)

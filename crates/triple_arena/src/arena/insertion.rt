@@ -10,10 +10,10 @@ use crate::arena::free_slots::set_prev_at;
 use crate::arena::{Arena, pointer_at};
 use crate::free_inx::place_of;
 use crate::{ArenaInsertTrait, ArenaSlot, ArenaSlots};
+use proof_marks::{recall, unreached};
 use std::mem;
 use std::num::NonZeroUsize;
 use triple_arena_ptr::{NotWithinCapacityError, OptionalInx, PtrCore, ReallocationError};
-use unreached::unreached;
 
 impl<P: PtrCore, T: Drop, S: ArenaSlots<P, T>> ArenaInsertTrait<P, T> for Arena<P, T, S> {
     ghost next_index = { next_of };
@@ -51,7 +51,7 @@ impl<P: PtrCore, T: Drop, S: ArenaSlots<P, T>> Arena<P, T, S> {
         ensures has_generation { P.generation result ≡ self.now.counter }
     {
         // The slots are within the capacity, and that is a `usize`.
-        let _ = self.slots.capacity();
+        recall!(self.slots.capacity());
         let count = self.slots.len();
         if let Some(index) = place_of::<P>(self.head) {
             return pointer_at(index, self.counter);
@@ -71,7 +71,7 @@ impl<P: PtrCore, T: Drop, S: ArenaSlots<P, T>> Arena<P, T, S> {
         ensures has_generation { P.generation result ≡ self.old.counter }
     {
         // The slots are within the capacity, so one more can be counted.
-        let _ = self.slots.len();
+        recall!(self.slots.len());
         let slot = ArenaSlot::used(self.counter, t);
         match place_of::<P>(self.head) {
             Some(index) => {

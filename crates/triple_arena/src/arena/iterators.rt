@@ -11,6 +11,7 @@ ghost use Rattle.triple_arena.specs.contracts.arena.Arena.{the_row};
 use crate::arena_iterators::{CapacityDrain, Iter, IterMut, Ptrs, Vals, ValsMut};
 use crate::lent_slots::LendsSlots;
 use crate::{Arena, ArenaSlots, iter_mut, iterators};
+use proof_marks::recall;
 use triple_arena_ptr::PtrCore;
 
 impl<P: PtrCore, T: Drop, S: ArenaSlots<P, T>> Arena<P, T, S> {
@@ -33,7 +34,7 @@ impl<P: PtrCore, T: Drop, S: ArenaSlots<P, T>> Arena<P, T, S> {
         ensures { result ≡ live_entries self.now }
     {
         // Each slot has an index of the pointer type.
-        let _ = self.own_capacity();
+        recall!(self.own_capacity());
         iterators::Iter::over(self.slots.as_slice(), self.len)
     }
 
@@ -63,7 +64,7 @@ impl<P: PtrCore, T: Drop, S: ArenaSlots<P, T>> Arena<P, T, S> {
         ensures formed { IsWellFormed self.old }
     {
         // Each slot has an index of the pointer type.
-        let _ = self.own_capacity();
+        recall!(self.own_capacity());
         let left = self.live();
         iter_mut::IterMut::over(self.lend_slots(), left)
     }

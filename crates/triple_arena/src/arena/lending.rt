@@ -1,4 +1,4 @@
-//! The slots of an arena, whose values are lent one by one, and two of them at once.
+//! The slots of an arena, whose values are borrowed one by one, and two of them at once.
 ghost use Rattle.triple_arena.specs.IterMut.{with_values_of};
 ghost use Rattle.triple_arena.specs.Slot.{entry_of};
 ghost use Rattle.triple_arena.specs.TwoValues.{with_two_values};

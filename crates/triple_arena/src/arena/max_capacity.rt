@@ -8,6 +8,7 @@ ghost use Rattle.triple_arena.specs.Content.{with_limit as with_limit_of};
 use crate::ArenaSlot;
 use crate::advancer::LivePointers;
 use crate::arena::Arena;
+use proof_marks::recall;
 use triple_arena_ptr::{MaxCapacityReductionError, PtrCore};
 use triple_arena_stack::{NonZeroInxLimitedStack, SetMaxCapacity};
 
@@ -40,7 +41,7 @@ impl<P: PtrCore, T: Drop, S: NonZeroInxLimitedStack<Item = ArenaSlot<P, T>> + Dr
             (limited self.old.room (min max (max_index_of P.Inx.greatest))) }
     {
         // The slots are within the capacity, and so are their indexes.
-        let _ = self.own_capacity();
+        recall!(self.own_capacity());
         match self.slots.set_max_capacity(max) {
             Ok(()) => {}
             Err(_) => unreachable!(),

@@ -1,7 +1,7 @@
-//! What is found in an arena, and the lend of a value.
+//! What is found in an arena, and the borrow of a value.
 ghost use Rattle.std.specs.Prelude.{◌≡◌, ◌↔◌, ℕ, suc, IsSome, IfSome, Option, Some, ⊤};
 ghost use Rattle.std.specs.Borrow.{sem, Lends};
-ghost use Rattle.std.specs.Int.NonZero.{non_zero_usize_get};
+ghost use Rattle.std.specs.Int.NonZero.{non_zero_usize_get as at};
 ghost use Rattle.std.specs.Option.{option_map};
 ghost use Rattle.triple_arena.specs.Entries.{pointer_at as pointer_of_entry};
 ghost use Rattle.triple_arena.specs.Content.{get, entry_at, with_value};
@@ -9,18 +9,18 @@ ghost use Rattle.triple_arena.specs.Content.{get, entry_at, with_value};
 use crate::arena::Arena;
 use crate::slot::ValueMut;
 use crate::{ArenaSlots, ArenaTrait};
+use proof_marks::{recall, unreached};
 use std::num::NonZeroUsize;
 use triple_arena_ptr::{PtrCore, PtrInxCore};
-use unreached::unreached;
 
 impl<P: PtrCore, T: Drop, S: ArenaSlots<P, T>> Arena<P, T, S> {
     // The index of the entry that `p` points to, if it is live.
     pub(crate) fn live_index(&self, p: P) -> Option<NonZeroUsize>
         ensures live { IsSome result ↔ IsSome (get self.now (P.index p) (P.generation p)) }
-        ensures value { IfSome result (λ i. non_zero_usize_get i ≡ P.index p) }
+        ensures value { IfSome result (λ i. at i ≡ P.index p) }
     {
         // The number of slots is a `usize`, so no index past that is live.
-        let _ = self.slots.len();
+        recall!(self.slots.len());
         match p.inx().try_into_usize() {
             Some(i) => match self.slots.get(i) {
                 Some(slot) => {
@@ -51,10 +51,10 @@ impl<P: PtrCore, T: Drop, S: ArenaSlots<P, T>> Arena<P, T, S> {
     // The number of this index, if it is live.
     pub(crate) fn live_inx(&self, inx: P::Inx) -> Option<NonZeroUsize>
         ensures live { IsSome result ↔ IsSome (entry_at self.now (P.Inx.number inx)) }
-        ensures value { IfSome result (λ i. non_zero_usize_get i ≡ P.Inx.number inx) }
+        ensures value { IfSome result (λ i. at i ≡ P.Inx.number inx) }
     {
         // The number of slots is a `usize`, so no index past that is live.
-        let _ = self.slots.len();
+        recall!(self.slots.len());
         match inx.try_into_usize() {
             Some(i) => match self.slots.get(i) {
                 Some(slot) => {
@@ -73,18 +73,18 @@ impl<P: PtrCore, T: Drop, S: ArenaSlots<P, T>> Arena<P, T, S> {
     // The pointer to the entry at `i`, if it is live.
     pub(crate) fn pointer(&self, i: NonZeroUsize) -> Option<P>
         ensures { option_map (λ p. (P.index p, P.generation p)) result
-            ≡ pointer_of_entry (entry_at self.now) (non_zero_usize_get i) }
+            ≡ pointer_of_entry (entry_at self.now) (at i) }
     {
         // Each slot has an index of the pointer type.
-        let _ = self.own_capacity();
+        recall!(self.own_capacity());
         let inx = P::Inx::try_from_usize(i)?;
         let (generation, _) = self.get_inx(inx)?;
         Some(P::_from_raw(inx, generation))
     }
 }
 
-// What lends the values at its indexes. A method of a trait names the row of the lender in one
-// word.
+// A type whose values can be borrowed by index. A method of a trait names the row of the type that
+// is borrowed from in one word.
 pub(crate) trait ValueAtMut<T> {
     ghost has_value: { Self → ℕ → Type 0 };
 
@@ -94,11 +94,11 @@ pub(crate) trait ValueAtMut<T> {
 
     // The value at an index that is live, for writing.
     fn value_at_mut(&mut self, i: NonZeroUsize) -> &mut T
-        requires used { has_value self.old (non_zero_usize_get i) }
+        requires used { has_value self.old (at i) }
         requires no_more { ⊤ }
         ensures* writes_back { sem 𝓛 (Lends Self.row T.row self.entry result
-            (with_value_at self.old (non_zero_usize_get i))) }
-        ensures value { value_at self.old (non_zero_usize_get i) ≡ Some result.now };
+            (with_value_at self.old (at i))) }
+        ensures value { value_at self.old (at i) ≡ Some result.now };
 }
 
 impl<P: PtrCore, T: Drop, S: ArenaSlots<P, T>> ValueAtMut<T> for Arena<P, T, S> {

@@ -1,6 +1,6 @@
 //! Renaming what the values of an arena hold, and renaming by an arena of pointers.
 ghost use Rattle.std.specs.Prelude.{◌≡◌, ◌↔◌, ℕ, IsTrue, IsSome, Some, length, refl};
-ghost use Rattle.std.specs.Int.NonZero.{non_zero_usize_get};
+ghost use Rattle.std.specs.Int.NonZero.{non_zero_usize_get as at};
 ghost use Rattle.std.specs.Option.{option_map};
 ghost use Rattle.triple_arena_ptr.specs.Recast.{recast_answer};
 ghost use Rattle.triple_arena.specs.Content.{Content, entry_at, with_value, get as get_of};
@@ -24,7 +24,7 @@ pub(crate) trait RecastByIndex<T>: ValueAtMut<T> {
 
     // Whether the index is live.
     fn is_live_at(&self, i: NonZeroUsize) -> bool
-        ensures { IsTrue result ↔ IsSome (entry_at (content self.now) (non_zero_usize_get i)) };
+        ensures { IsTrue result ↔ IsSome (entry_at (content self.now) (at i)) };
 
     ghost has_its_value: { (s : Self) (i : ℕ) → IsSome (entry_at (content s) i)
         → Self.has_value s i };
@@ -56,7 +56,7 @@ pub(crate) fn recast_values<I, T: Recast<I> + Drop, A: RecastByIndex<T>, R: Reca
     Ok(())
 }
 
-/// The items are those of the values, in the order of the indexes.
+/// A recast renames the items that the values hold, in the order of the indexes.
 impl<I, P: PtrCore, T: Recast<I> + Drop, S: ArenaSlots<P, T>> Recast<I> for Arena<P, T, S> {
     ghost items = { content_items T.items };
 

@@ -20,6 +20,7 @@ use crate::advancer::LivePointers;
 use crate::arena::compression::{keep_first, put_entry, renewal, take_entry};
 use crate::arena::{Arena, pointer_at};
 use crate::{ArenaSlots, ArenaTrait, DirectArena, DirectSlots};
+use proof_marks::recall;
 use std::num::NonZeroUsize;
 use triple_arena_ptr::{OptionalInx, PtrCore, ReallocationError};
 
@@ -31,8 +32,7 @@ use triple_arena_ptr::{OptionalInx, PtrCore, ReallocationError};
 /// returns `BeyondMaxCapacity` if the map cannot have so many, and `AllocError` if the memory was
 /// refused. An error leaves the arena as it was.
 ///
-/// Whether the step of the counter started the generations again is not returned: the counter
-/// before the call tells it.
+/// Whether the step of the counter wrapped is not returned: the counter before the call tells it.
 pub fn compress_recaster<P: PtrCore, T: Drop, S: ArenaSlots<P, T>, R: DirectSlots<P, P>>(
     arena: &mut Arena<P, T, S>,
     reset: bool,
@@ -64,8 +64,9 @@ pub fn compress_recaster<P: PtrCore, T: Drop, S: ArenaSlots<P, T>, R: DirectSlot
     Ok(map)
 }
 
-/// Does what `compress_recaster` does with a map that is handed in, whose entries are dropped. A map
-/// that is kept for it takes memory only where the last live index is past its capacity.
+/// Moves the live entries to the first indexes, as `compress` does, and makes `map`, whose entries
+/// are dropped, the map from each old pointer to the new one. A map that is kept for it takes
+/// memory only where the last live index is past its capacity.
 ///
 /// It returns `BeyondMaxCapacity` if the map cannot have so many slots, and `AllocError` if the
 /// memory was refused. An error leaves the arena and the map as they were.
@@ -88,8 +89,7 @@ where
     ensures arena_formed { IsWellFormed arena.new }
     ensures map_exact { OnOk result (map.new ≡ directly_copied
         (cleared (reallocated map.old (last_index arena.old))) (entries_of map.new)) }
-    ensures map_room { OnOk result (map.new.room
-        ≡ room_with (last_index arena.old) map.old.room) }
+    ensures map_room { OnOk result (map.new.room ≡ room_with (last_index arena.old) map.old.room) }
     ensures succeeds { last_index arena.old ≤ arena_capacity map.old → IsOk result }
     ensures beyond { IsErrOf result ReallocationError.BeyondMaxCapacity
         ↔ IsBeyond map.old.room.limit (last_index arena.old) }
@@ -124,7 +124,7 @@ impl<P: PtrCore, T: Drop, S: ArenaSlots<P, T>> Arena<P, T, S> {
         ensures map_formed { IsFormed map.new }
     {
         // The slots are within the capacity, and so are their indexes.
-        let _ = self.own_capacity();
+        recall!(self.own_capacity());
         let (generation, _) = renewal(self.counter, reset);
         compact_noting(&mut self.slots, generation, map);
         self.counter = generation;

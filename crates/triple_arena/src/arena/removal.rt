@@ -1,6 +1,6 @@
 //! Removal, and the end of a pointer.
 ghost use Rattle.std.specs.Prelude.{◌≡◌, Some, None, IsSome};
-ghost use Rattle.std.specs.Int.NonZero.{non_zero_usize_get};
+ghost use Rattle.std.specs.Int.NonZero.{non_zero_usize_get as at};
 ghost use Rattle.triple_arena_ptr.specs.Generation.{next_wraps};
 ghost use Rattle.triple_arena.specs.Changes.{IsRemoved};
 ghost use Rattle.triple_arena.specs.Content.{entry_at, some_counter, live_count, with_generation};
@@ -10,23 +10,22 @@ use crate::arena::free_slots::set_prev_at;
 use crate::arena::{Arena, pointer_at};
 use crate::free_inx::free_at;
 use crate::{ArenaSlot, ArenaSlots};
+use proof_marks::{recall, unreached};
 use std::mem;
 use std::num::NonZeroUsize;
 use triple_arena_ptr::{OptionalInx, PtrCore, PtrGenCore, PtrInxCore};
-use unreached::unreached;
 
 impl<P: PtrCore, T: Drop, S: ArenaSlots<P, T>> Arena<P, T, S> {
     // Removes the entry at `i`, which is live, steps the counter, and says whether the generations
-    // started again.
+    // wrapped.
     #[inline]
     pub(crate) fn remove_at(&mut self, i: NonZeroUsize) -> ((P::Gen, T), bool)
-        requires { IsSome (entry_at self.old (non_zero_usize_get i)) }
-        ensures value { self.new ≡ removed P.Gen.last self.old (non_zero_usize_get i) }
-        ensures entry { Some (P.Gen.number result.0.0, result.0.1)
-            ≡ entry_at self.old (non_zero_usize_get i) }
+        requires { IsSome (entry_at self.old (at i)) }
+        ensures value { self.new ≡ removed P.Gen.last self.old (at i) }
+        ensures entry { Some (P.Gen.number result.0.0, result.0.1) ≡ entry_at self.old (at i) }
         ensures overflow { result.1 ≡ next_wraps P.Gen.last self.old.counter }
         ensures removed { IsRemoved entry_at live_count some_counter (λ c. c.room) P.Gen.last
-            (non_zero_usize_get i) self.old self.new }
+            (at i) self.old self.new }
         ensures formed { IsWellFormed self.new }
     {
         // The arena is well-formed before.
@@ -41,10 +40,9 @@ impl<P: PtrCore, T: Drop, S: ArenaSlots<P, T>> Arena<P, T, S> {
     // Takes the entry at `i`, which is live, and leaves the counter.
     #[inline]
     pub(crate) fn take_at(&mut self, i: NonZeroUsize) -> (P::Gen, T)
-        requires { IsSome (entry_at self.old (non_zero_usize_get i)) }
-        ensures value { self.new ≡ vacated self.old (non_zero_usize_get i) }
-        ensures entry { Some (P.Gen.number result.0, result.1)
-            ≡ entry_at self.old (non_zero_usize_get i) }
+        requires { IsSome (entry_at self.old (at i)) }
+        ensures value { self.new ≡ vacated self.old (at i) }
+        ensures entry { Some (P.Gen.number result.0, result.1) ≡ entry_at self.old (at i) }
     {
         // The head is read once: the writes of slots do not change it.
         let head = self.head;
@@ -64,10 +62,9 @@ impl<P: PtrCore, T: Drop, S: ArenaSlots<P, T>> Arena<P, T, S> {
 
     // Gives the entry at `i`, which is live, the generation of the counter.
     pub(crate) fn renew_at(&mut self, i: NonZeroUsize) -> P
-        requires { IsSome (entry_at self.old (non_zero_usize_get i)) }
-        ensures value { self.new ≡ with_generation self.old
-            (non_zero_usize_get i) self.old.counter }
-        ensures has_index { P.index result ≡ non_zero_usize_get i }
+        requires { IsSome (entry_at self.old (at i)) }
+        ensures value { self.new ≡ with_generation self.old (at i) self.old.counter }
+        ensures has_index { P.index result ≡ at i }
         ensures has_generation { P.generation result ≡ self.old.counter }
     {
         self.slots.item_mut(i).set_generation(self.counter);
@@ -89,6 +86,6 @@ pub(crate) fn equal_uncounted<P: PtrCore>(p: P, q: P)
     ensures { P.Gen.last ≡ None → P.index p ≡ P.index q → p ≡ q }
 {
     // Each is one of the generations.
-    let _ = p.generation().generational_inc();
-    let _ = q.generation().generational_inc();
+    recall!(p.generation().generational_inc());
+    recall!(q.generation().generational_inc());
 }

@@ -12,6 +12,7 @@ use crate::arena::Arena;
 use crate::slot::EntrySlot;
 use crate::transfer::{ArenaTransferSource, ArenaTransferTrait, move_entries};
 use crate::{ArenaSlots, ArenaTrait};
+use proof_marks::recall;
 use triple_arena_ptr::{InvalidationOption, OptionalInx, PtrCore, ReallocationError};
 use triple_arena_stack::NonZeroInxGenericStack;
 
@@ -29,7 +30,7 @@ impl<Q: PtrCore, U: Drop, R: ArenaSlots<Q, U>> ArenaTransferSource<Q, U> for Are
         F: FnMut(Q, InvalidationOption<U>, P) -> T,
     {
         // The slots are within the capacity, and so are their indexes.
-        let _ = self.own_capacity();
+        recall!(self.own_capacity());
         let counter = move_entries(&mut self.slots, Some(self.counter), slots, generation, map);
         match counter {
             Some(counter) => self.counter = counter,
@@ -93,7 +94,7 @@ impl<P: PtrCore, T: Drop, S: ArenaSlots<P, T>> Arena<P, T, S> {
         ensures source_formed { Source.is_formed source.new }
     {
         // The entries fit in the stack, and so do their indexes.
-        let _ = self.own_capacity();
+        recall!(self.own_capacity());
         self.slots.clear();
         source.give_up(&mut self.slots, generation, map);
         self.counter = generation;

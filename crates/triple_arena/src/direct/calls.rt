@@ -23,11 +23,11 @@ use crate::answers::{answer, valid};
 use crate::arena::{ValueAtMut, compact, equal_uncounted, max_index};
 use crate::direct::DirectArena;
 use crate::{ArenaTrait, CompactArenaTrait, DirectSlot, DirectSlots};
+use proof_marks::{recall, unreached};
 use triple_arena_ptr::{
     InvalidationOption, InvalidationResult, PtrCore, PtrGenCore, PtrInxCore, ReallocationError,
 };
 use triple_arena_stack::NonZeroInxArray;
-use unreached::unreached;
 
 impl<P: PtrCore, T: Drop, S: DirectSlots<P, T>> ArenaTrait<P, T> for DirectArena<P, T, S> {
     type Alloc = S::Alloc;
@@ -125,7 +125,7 @@ impl<P: PtrCore, T: Drop, S: DirectSlots<P, T>> ArenaTrait<P, T> for DirectArena
 
     fn len(&self) -> usize {
         // The slots are within the capacity.
-        let _ = self.own_capacity();
+        recall!(self.own_capacity());
         self.live()
     }
 
@@ -135,13 +135,13 @@ impl<P: PtrCore, T: Drop, S: DirectSlots<P, T>> ArenaTrait<P, T> for DirectArena
 
     fn contains(&self, p: P) -> bool {
         // It is one of the generations.
-        let _ = p.generation().generational_inc();
+        recall!(p.generation().generational_inc());
         self.live_index(p).is_some()
     }
 
     fn get_inx(&self, i: P::Inx) -> Option<(P::Gen, &T)> {
         // The number of slots is a `usize`, so no index past that is live.
-        let _ = self.slots.len();
+        recall!(self.slots.len());
         match i.try_into_usize() {
             Some(i) => match self.slots.get(i) {
                 Some(slot) => slot.entry(),
@@ -153,7 +153,7 @@ impl<P: PtrCore, T: Drop, S: DirectSlots<P, T>> ArenaTrait<P, T> for DirectArena
 
     fn get_inx_mut_unwrap(&mut self, i: P::Inx) -> &mut T {
         // The number of slots is a `usize`, so no index past that is live.
-        let _ = self.slots.len();
+        recall!(self.slots.len());
         match i.try_into_usize() {
             Some(i) => self.value_at_mut(i),
             None => unreached!(),
@@ -178,7 +178,7 @@ impl<P: PtrCore, T: Drop, S: DirectSlots<P, T>> ArenaTrait<P, T> for DirectArena
 
     fn take_inx_unwrap(&mut self, i: P::Inx) -> ((P::Gen, T), bool) {
         // The number of slots is a `usize`, so no index past that is live.
-        let _ = self.slots.len();
+        recall!(self.slots.len());
         match i.try_into_usize() {
             Some(i) => (self.remove_at(i), false),
             None => unreached!(),
@@ -218,7 +218,7 @@ impl<P: PtrCore, T: Drop, S: DirectSlots<P, T>> ArenaTrait<P, T> for DirectArena
         map: F,
     ) -> InvalidationOption<()> {
         // The slots are within the capacity, and so are their indexes.
-        let _ = self.own_capacity();
+        recall!(self.own_capacity());
         let wrapped = compact(&mut self.slots, None, reset, map);
         // The arena is well-formed after.
         self.recall_formed();

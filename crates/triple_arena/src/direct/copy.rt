@@ -3,8 +3,9 @@ ghost use Rattle.std.specs.Prelude.{◌≡◌, ◌<◌, ◌≤◌, ◌↔◌, �
 ghost use Rattle.std.specs.Prelude.{IsErrOf, length, map as list_map};
 ghost use Rattle.triple_arena_stack.specs.Room.{capacity, IsBeyond};
 ghost use Rattle.triple_arena.specs.ArenaRoom.{room_of};
-ghost use Rattle.triple_arena.specs.Copy.{last_listed, directly_copied, MayRefuse, IsMappedCopy};
-ghost use Rattle.triple_arena.specs.Copy.{IsRefusedCopy, IsUnmadeCopy};
+ghost use Rattle.triple_arena.specs.Copy.{last_listed, direct_last_inx as last_inx};
+ghost use Rattle.triple_arena.specs.Copy.{directly_copied, MayRefuse, IsMappedCopy, IsRefusedCopy};
+ghost use Rattle.triple_arena.specs.Copy.{IsDirectlyUnmade};
 ghost use Rattle.triple_arena.specs.DirectContent.{entry_at, live_count, live_entries, no_counter};
 ghost use Rattle.triple_arena.specs.DirectContent.{empty, arena_capacity, reallocated, cleared};
 ghost use Rattle.triple_arena.specs.DirectContent.{IsWellFormed};
@@ -14,6 +15,7 @@ use crate::copy::{append_copies, up_to_last};
 use crate::direct::DirectArena;
 use crate::iterators::LentEntry;
 use crate::{ArenaCloneFromWith, ArenaCloneSource, ArenaTrait, DirectSlot, DirectSlots};
+use proof_marks::recall;
 use triple_arena_ptr::{AllocError, PtrCore, ReallocationError};
 
 impl<P: PtrCore, T: Drop, S: DirectSlots<P, T>> ArenaCloneSource<P, T> for DirectArena<P, T, S> {
@@ -21,7 +23,7 @@ impl<P: PtrCore, T: Drop, S: DirectSlots<P, T>> ArenaCloneSource<P, T> for Direc
 
     fn lent_slots(&self) -> &[DirectSlot<P, T>] {
         // Each slot has an index of the pointer type.
-        let _ = self.own_capacity();
+        recall!(self.own_capacity());
         self.slots.as_slice()
     }
 }
@@ -55,18 +57,18 @@ impl<P: PtrCore, T: Clone, S: DirectSlots<P, T>> DirectArena<P, T, S> {
     pub fn clone(&self, alloc: S::Alloc) -> Result<Self, ReallocationError>
         requires { (x y : T) → T.is_clone x y → y ≡ x }
         ensures exact { IfOk result (λ d. d ≡ directly_copied (empty
-            (room_of P.Inx.greatest (S.room_at (last_listed (live_entries self.now)))))
+            (room_of P.Inx.greatest (S.room_at (last_inx self.now))))
             (live_entries self.now)) }
-        ensures succeeds { last_listed (live_entries self.now)
+        ensures succeeds { last_inx self.now
             ≤ capacity (room_of P.Inx.greatest (S.room_at 0))
             → ((x : T) → T.is_infallible x) → IsOk result }
         ensures beyond { IsErrOf result ReallocationError.BeyondMaxCapacity
             ↔ IsBeyond (room_of P.Inx.greatest
-            (S.room_at (last_listed (live_entries self.now)))).limit
-            (last_listed (live_entries self.now)) }
+            (S.room_at (last_inx self.now))).limit
+            (last_inx self.now) }
         ensures unmade { IsErrOf result ReallocationError.AllocError
             → (IsTrue S.takes_memory × (capacity (room_of P.Inx.greatest (S.room_at 0))
-            < last_listed (live_entries self.now)))
+            < last_inx self.now))
             ⊎ MayRefuse T.is_infallible (live_entries self.now) }
         ensures formed { IfOk result (λ d. IsWellFormed d) }
     {
@@ -87,15 +89,13 @@ impl<P: PtrCore, T: Clone, S: DirectSlots<P, T>> DirectArena<P, T, S> {
         requires { (x y : T) → T.is_clone x y → y ≡ x }
         ensures exact { OnOk result
             (self.new ≡ directly_copied self.old (live_entries source.now)) }
-        ensures succeeds { last_listed (live_entries source.now) ≤ arena_capacity self.old
+        ensures succeeds { last_inx source.now ≤ arena_capacity self.old
             → ((x : T) → T.is_infallible x) → IsOk result }
         ensures beyond { IsErrOf result ReallocationError.BeyondMaxCapacity
-            ↔ IsBeyond self.old.room.limit (last_listed (live_entries source.now)) }
+            ↔ IsBeyond self.old.room.limit (last_inx source.now) }
         ensures kept { IsErrOf result ReallocationError.BeyondMaxCapacity → self.new ≡ self.old }
         ensures unmade { IsErrOf result ReallocationError.AllocError
-            → IsUnmadeCopy entry_at live_count no_counter (λ d. d.room) S.takes_memory P.Gen.last
-            (last_listed (live_entries source.now))
-            (λ d. cleared (reallocated d (last_listed (live_entries source.now))))
+            → IsDirectlyUnmade S.takes_memory P.Gen.last (last_inx source.now)
             (MayRefuse T.is_infallible (live_entries source.now)) self.old self.new }
         ensures formed { IsWellFormed self.new }
     {
@@ -122,7 +122,7 @@ impl<P: PtrCore, T: Drop, S: DirectSlots<P, T>> DirectArena<P, T, S> {
         ensures formed { IsWellFormed self.new }
     {
         // Each slot has an index of the pointer type.
-        let _ = self.own_capacity();
+        recall!(self.own_capacity());
         self.empty();
         match append_copies::<P, T, U, DirectSlot<P, T>, E, S, F>(&mut self.slots, source, map) {
             Ok(live) => {

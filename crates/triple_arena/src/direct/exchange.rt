@@ -1,6 +1,6 @@
 //! Two values of a direct arena that change places.
 ghost use Rattle.std.specs.Prelude.{◌≡◌, ◌≢◌, IsSome};
-ghost use Rattle.std.specs.Int.NonZero.{non_zero_usize_get};
+ghost use Rattle.std.specs.Int.NonZero.{non_zero_usize_get as at};
 ghost use Rattle.triple_arena.specs.Changes.{IsExchanged};
 ghost use Rattle.triple_arena.specs.DirectContent.{entry_at, no_counter, live_count, with_exchange};
 ghost use Rattle.triple_arena.specs.DirectContent.{IsWellFormed};
@@ -9,9 +9,9 @@ use crate::direct::DirectArena;
 use crate::slot::exchange_values;
 use crate::two_values::lend_in_either_order;
 use crate::{DirectSlots, DisjointableArenaTrait};
+use proof_marks::unreached;
 use std::num::NonZeroUsize;
 use triple_arena_ptr::PtrCore;
-use unreached::unreached;
 
 impl<P: PtrCore, T: Drop, S: DirectSlots<P, T>> DisjointableArenaTrait<P, T>
     for DirectArena<P, T, S> {
@@ -41,13 +41,12 @@ impl<P: PtrCore, T: Drop, S: DirectSlots<P, T>> DisjointableArenaTrait<P, T>
 impl<P: PtrCore, T: Drop, S: DirectSlots<P, T>> DirectArena<P, T, S> {
     // Exchanges the values at `i` and `j`, which are two and both live.
     pub(crate) fn exchange_at(&mut self, i: NonZeroUsize, j: NonZeroUsize)
-        requires i_is_live { IsSome (entry_at self.old (non_zero_usize_get i)) }
-        requires j_is_live { IsSome (entry_at self.old (non_zero_usize_get j)) }
-        requires two { non_zero_usize_get i ≢ non_zero_usize_get j }
-        ensures value { self.new ≡ with_exchange self.old (non_zero_usize_get i)
-            (non_zero_usize_get j) }
+        requires i_is_live { IsSome (entry_at self.old (at i)) }
+        requires j_is_live { IsSome (entry_at self.old (at j)) }
+        requires two { at i ≢ at j }
+        ensures value { self.new ≡ with_exchange self.old (at i) (at j) }
         ensures exchanged { IsExchanged entry_at live_count no_counter (λ d. d.room)
-            (non_zero_usize_get i) (non_zero_usize_get j) self.old self.new }
+            (at i) (at j) self.old self.new }
         ensures formed { IsWellFormed self.new }
     {
         exchange_values(&mut self.slots, i, j);

@@ -4,9 +4,9 @@ ghost use Rattle.std.specs.Borrow.{sem, Lends};
 ghost use Rattle.triple_arena.specs.DirectContent.{get, with_value as with_value_of};
 
 use crate::{ArenaTrait, DirectArena, DirectSlots};
+use proof_marks::unreached;
 use std::ops::{Index, IndexMut};
 use triple_arena_ptr::PtrCore;
-use unreached::unreached;
 
 impl<P: PtrCore, T: Drop, S: DirectSlots<P, T>> Index<P> for DirectArena<P, T, S> {
     type Output = T;

@@ -1,6 +1,6 @@
 //! Insertion at a pointer of the caller's choice.
 ghost use Rattle.std.specs.Prelude.{◌≡◌, ◌<◌, ◌≤◌, ◌↔◌, IsOk, IfOk, IsErrOf, IsSome, ⊤};
-ghost use Rattle.std.specs.Int.NonZero.{non_zero_usize_get};
+ghost use Rattle.std.specs.Int.NonZero.{non_zero_usize_get as at};
 ghost use Rattle.triple_arena.specs.Changes.{IsDirectlyInserted};
 ghost use Rattle.triple_arena.specs.DirectContent.{entry_at, live_count, no_counter};
 ghost use Rattle.triple_arena.specs.DirectContent.{arena_capacity, reaching, inserted, IsPlace};
@@ -9,9 +9,9 @@ ghost use Rattle.triple_arena_stack.specs.Room.{capacity};
 
 use crate::direct::DirectArena;
 use crate::{DirectSlot, DirectSlots};
+use proof_marks::{recall, unreached};
 use std::num::NonZeroUsize;
 use triple_arena_ptr::{DirectInsertionError, PtrCore, PtrInxCore};
-use unreached::unreached;
 
 // Appends free slots, so that there are `n` at least.
 fn reach<P: PtrCore, T: Drop, S: DirectSlots<P, T>>(slots: &mut S, n: usize)
@@ -30,8 +30,8 @@ fn reach<P: PtrCore, T: Drop, S: DirectSlots<P, T>>(slots: &mut S, n: usize)
 impl<P: PtrCore, T: Drop, S: DirectSlots<P, T>> DirectArena<P, T, S> {
     // The index of `p`, where an entry may be stored there.
     pub(crate) fn place(&self, p: P) -> Result<NonZeroUsize, DirectInsertionError>
-        ensures index { IfOk result (λ i. non_zero_usize_get i ≡ P.index p) }
-        ensures place { IfOk result (λ i. IsPlace self.now (non_zero_usize_get i)) }
+        ensures index { IfOk result (λ i. at i ≡ P.index p) }
+        ensures place { IfOk result (λ i. IsPlace self.now (at i)) }
         ensures variant { IsOk result ↔ IsPlace self.now (P.index p) }
         ensures not_within { IsErrOf result DirectInsertionError.NotWithinCapacity
             ↔ (arena_capacity self.now < P.index p) }
@@ -53,12 +53,11 @@ impl<P: PtrCore, T: Drop, S: DirectSlots<P, T>> DirectArena<P, T, S> {
 
     // Stores `t` with this generation at `i`, which is a place for it.
     fn put_at(&mut self, i: NonZeroUsize, generation: P::Gen, t: T)
-        requires { IsPlace self.old (non_zero_usize_get i) }
-        ensures value { self.new ≡ inserted self.old (non_zero_usize_get i)
-            (P.Gen.number generation) t }
+        requires { IsPlace self.old (at i) }
+        ensures value { self.new ≡ inserted self.old (at i) (P.Gen.number generation) t }
     {
         // The capacity is a `usize`, so one live entry more can be counted.
-        let _ = self.own_capacity();
+        recall!(self.own_capacity());
         reach(&mut self.slots, i.get());
         *self.slots.item_mut(i) = DirectSlot::used(generation, t);
         self.len += 1;
@@ -66,12 +65,11 @@ impl<P: PtrCore, T: Drop, S: DirectSlots<P, T>> DirectArena<P, T, S> {
 
     // Stores `t` as `put_at` does, and says what is at each index then.
     pub(crate) fn insert_at(&mut self, i: NonZeroUsize, generation: P::Gen, t: T)
-        requires place { IsPlace self.old (non_zero_usize_get i) }
+        requires place { IsPlace self.old (at i) }
         requires no_more { ⊤ }
-        ensures value { self.new ≡ inserted self.old (non_zero_usize_get i)
-            (P.Gen.number generation) t }
+        ensures value { self.new ≡ inserted self.old (at i) (P.Gen.number generation) t }
         ensures inserted { IsDirectlyInserted entry_at live_count no_counter (λ d. d.room)
-            (non_zero_usize_get i) (P.Gen.number generation) t self.old self.new }
+            (at i) (P.Gen.number generation) t self.old self.new }
         ensures formed { IsWellFormed self.new }
     {
         // The arena is well-formed before.

@@ -1,4 +1,4 @@
-//! The slots of a direct arena, whose values are lent one by one, and two of them at once.
+//! The slots of a direct arena, whose values are borrowed one by one, and two of them at once.
 ghost use Rattle.triple_arena.specs.IterMut.{with_direct_values_of};
 ghost use Rattle.triple_arena.specs.TwoValues.{with_two_direct_values};
 

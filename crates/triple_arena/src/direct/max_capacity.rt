@@ -10,6 +10,7 @@ use crate::advancer::LivePointers;
 use crate::arena::keep_first;
 use crate::direct::DirectArena;
 use crate::{DirectSlot, DirectSlots};
+use proof_marks::recall;
 use triple_arena_ptr::{MaxCapacityReductionError, PtrCore};
 use triple_arena_stack::{NonZeroInxLimitedStack, SetMaxCapacity};
 
@@ -59,7 +60,7 @@ impl<P: PtrCore, T: Drop, S: NonZeroInxLimitedStack<Item = DirectSlot<P, T>> + D
             (limited self.old.room (min max (max_index_of P.Inx.greatest))) }
     {
         // The slots are within the capacity, and so are their indexes.
-        let _ = self.own_capacity();
+        recall!(self.own_capacity());
         match self.slots.set_max_capacity(max) {
             Ok(()) => {}
             Err(_) => unreachable!(),

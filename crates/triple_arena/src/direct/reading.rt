@@ -1,6 +1,6 @@
-//! What is found in a direct arena, and the lend of a value.
+//! What is found in a direct arena, and the borrow of a value.
 ghost use Rattle.std.specs.Prelude.{◌≡◌, ◌↔◌, suc, length, IsSome, IfSome, IsTrue, Option, Some, ⊤};
-ghost use Rattle.std.specs.Int.NonZero.{non_zero_usize_get};
+ghost use Rattle.std.specs.Int.NonZero.{non_zero_usize_get as at};
 ghost use Rattle.std.specs.Option.{option_map};
 ghost use Rattle.triple_arena.specs.Entries.{pointer_at as pointer_of_entry};
 ghost use Rattle.triple_arena.specs.DirectContent.{get, entry_at, with_value};
@@ -9,18 +9,18 @@ use crate::arena::ValueAtMut;
 use crate::direct::DirectArena;
 use crate::slot::ValueMut;
 use crate::{ArenaTrait, DirectSlots};
+use proof_marks::{recall, unreached};
 use std::num::NonZeroUsize;
 use triple_arena_ptr::{PtrCore, PtrInxCore};
-use unreached::unreached;
 
 impl<P: PtrCore, T: Drop, S: DirectSlots<P, T>> DirectArena<P, T, S> {
     // The index of the entry that `p` points to, if it is live.
     pub(crate) fn live_index(&self, p: P) -> Option<NonZeroUsize>
         ensures live { IsSome result ↔ IsSome (get self.now (P.index p) (P.generation p)) }
-        ensures value { IfSome result (λ i. non_zero_usize_get i ≡ P.index p) }
+        ensures value { IfSome result (λ i. at i ≡ P.index p) }
     {
         // The number of slots is a `usize`, so no index past that is live.
-        let _ = self.slots.len();
+        recall!(self.slots.len());
         match p.inx().try_into_usize() {
             Some(i) => match self.get_inx(p.inx()) {
                 Some((generation, _)) if generation == p.generation() => Some(i),
@@ -32,7 +32,7 @@ impl<P: PtrCore, T: Drop, S: DirectSlots<P, T>> DirectArena<P, T, S> {
 
     // Whether the index is live.
     pub(crate) fn is_live(&self, i: NonZeroUsize) -> bool
-        ensures { IsTrue result ↔ IsSome (entry_at self.now (non_zero_usize_get i)) }
+        ensures { IsTrue result ↔ IsSome (entry_at self.now (at i)) }
     {
         match self.slots.get(i) {
             Some(slot) => slot.is_used(),
@@ -43,10 +43,10 @@ impl<P: PtrCore, T: Drop, S: DirectSlots<P, T>> DirectArena<P, T, S> {
     // The number of this index, if it is live.
     pub(crate) fn live_inx(&self, inx: P::Inx) -> Option<NonZeroUsize>
         ensures live { IsSome result ↔ IsSome (entry_at self.now (P.Inx.number inx)) }
-        ensures value { IfSome result (λ i. non_zero_usize_get i ≡ P.Inx.number inx) }
+        ensures value { IfSome result (λ i. at i ≡ P.Inx.number inx) }
     {
         // The number of slots is a `usize`, so no index past that is live.
-        let _ = self.slots.len();
+        recall!(self.slots.len());
         match inx.try_into_usize() {
             Some(i) if self.is_live(i) => Some(i),
             _ => None,
@@ -75,10 +75,10 @@ impl<P: PtrCore, T: Drop, S: DirectSlots<P, T>> DirectArena<P, T, S> {
     // The pointer to the entry at `i`, if it is live.
     pub(crate) fn pointer(&self, i: NonZeroUsize) -> Option<P>
         ensures { option_map (λ p. (P.index p, P.generation p)) result
-            ≡ pointer_of_entry (entry_at self.now) (non_zero_usize_get i) }
+            ≡ pointer_of_entry (entry_at self.now) (at i) }
     {
         // Each slot has an index of the pointer type.
-        let _ = self.own_capacity();
+        recall!(self.own_capacity());
         let inx = P::Inx::try_from_usize(i)?;
         let (generation, _) = self.get_inx(inx)?;
         Some(P::_from_raw(inx, generation))

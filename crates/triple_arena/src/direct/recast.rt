@@ -11,7 +11,7 @@ use crate::{ArenaTrait, DirectSlots};
 use std::num::NonZeroUsize;
 use triple_arena_ptr::{PtrCore, Recast, Recaster};
 
-/// The items are those of the values, in the order of the indexes.
+/// A recast renames the items that the values hold, in the order of the indexes.
 impl<I, P: PtrCore, T: Recast<I> + Drop, S: DirectSlots<P, T>> Recast<I> for DirectArena<P, T, S> {
     ghost items = { λ d. content_items T.items (as_content d) };
 

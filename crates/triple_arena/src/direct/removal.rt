@@ -1,6 +1,6 @@
 //! Removal, and the end of a pointer.
 ghost use Rattle.std.specs.Prelude.{◌≡◌, Some, IsSome};
-ghost use Rattle.std.specs.Int.NonZero.{non_zero_usize_get};
+ghost use Rattle.std.specs.Int.NonZero.{non_zero_usize_get as at};
 ghost use Rattle.triple_arena.specs.Changes.{IsRemoved};
 ghost use Rattle.triple_arena.specs.DirectContent.{entry_at, live_count, no_counter};
 ghost use Rattle.triple_arena.specs.DirectContent.{with_generation, removed, cleared};
@@ -16,12 +16,11 @@ use triple_arena_ptr::PtrCore;
 impl<P: PtrCore, T: Drop, S: DirectSlots<P, T>> DirectArena<P, T, S> {
     // Removes the entry at `i`, which is live.
     pub(crate) fn remove_at(&mut self, i: NonZeroUsize) -> (P::Gen, T)
-        requires { IsSome (entry_at self.old (non_zero_usize_get i)) }
-        ensures value { self.new ≡ removed self.old (non_zero_usize_get i) }
-        ensures entry { Some (P.Gen.number result.0, result.1)
-            ≡ entry_at self.old (non_zero_usize_get i) }
+        requires { IsSome (entry_at self.old (at i)) }
+        ensures value { self.new ≡ removed self.old (at i) }
+        ensures entry { Some (P.Gen.number result.0, result.1) ≡ entry_at self.old (at i) }
         ensures removed { IsRemoved entry_at live_count no_counter (λ d. d.room) P.Gen.last
-            (non_zero_usize_get i) self.old self.new }
+            (at i) self.old self.new }
         ensures formed { IsWellFormed self.new }
     {
         let entry = self.take_at(i);
@@ -32,10 +31,9 @@ impl<P: PtrCore, T: Drop, S: DirectSlots<P, T>> DirectArena<P, T, S> {
 
     // Takes the entry at `i`, which is live, and leaves a free slot.
     fn take_at(&mut self, i: NonZeroUsize) -> (P::Gen, T)
-        requires { IsSome (entry_at self.old (non_zero_usize_get i)) }
-        ensures value { self.new ≡ removed self.old (non_zero_usize_get i) }
-        ensures entry { Some (P.Gen.number result.0, result.1)
-            ≡ entry_at self.old (non_zero_usize_get i) }
+        requires { IsSome (entry_at self.old (at i)) }
+        ensures value { self.new ≡ removed self.old (at i) }
+        ensures entry { Some (P.Gen.number result.0, result.1) ≡ entry_at self.old (at i) }
     {
         let slot = mem::replace(self.slots.item_mut(i), DirectSlot::free());
         self.len -= 1;
@@ -44,10 +42,9 @@ impl<P: PtrCore, T: Drop, S: DirectSlots<P, T>> DirectArena<P, T, S> {
 
     // Gives the entry at `i`, which is live, this generation.
     pub(crate) fn renew_at(&mut self, i: NonZeroUsize, generation: P::Gen) -> P
-        requires { IsSome (entry_at self.old (non_zero_usize_get i)) }
-        ensures value { self.new ≡ with_generation self.old
-            (non_zero_usize_get i) (P.Gen.number generation) }
-        ensures has_index { P.index result ≡ non_zero_usize_get i }
+        requires { IsSome (entry_at self.old (at i)) }
+        ensures value { self.new ≡ with_generation self.old (at i) (P.Gen.number generation) }
+        ensures has_index { P.index result ≡ at i }
         ensures has_generation { P.generation result ≡ P.Gen.number generation }
     {
         self.slots.item_mut(i).set_generation(generation);

@@ -10,6 +10,7 @@ use crate::direct::DirectArena;
 use crate::slot::EntrySlot;
 use crate::transfer::{ArenaTransferSource, ArenaTransferTrait, move_entries};
 use crate::{ArenaTrait, DirectSlots};
+use proof_marks::recall;
 use triple_arena_ptr::{InvalidationOption, PtrCore, ReallocationError};
 use triple_arena_stack::NonZeroInxGenericStack;
 
@@ -27,7 +28,7 @@ impl<Q: PtrCore, U: Drop, R: DirectSlots<Q, U>> ArenaTransferSource<Q, U> for Di
         F: FnMut(Q, InvalidationOption<U>, P) -> T,
     {
         // The slots are within the capacity, and so are their indexes.
-        let _ = self.own_capacity();
+        recall!(self.own_capacity());
         move_entries(&mut self.slots, None, slots, generation, map);
         self.len = 0;
         // The arena is well-formed after.
@@ -86,7 +87,7 @@ impl<P: PtrCore, T: Drop, S: DirectSlots<P, T>> DirectArena<P, T, S> {
         ensures source_formed { Source.is_formed source.new }
     {
         // The entries fit in the stack, and so do their indexes.
-        let _ = self.own_capacity();
+        recall!(self.own_capacity());
         self.slots.clear();
         source.give_up(&mut self.slots, generation, map);
         self.len = len;

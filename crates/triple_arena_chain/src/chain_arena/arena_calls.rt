@@ -51,9 +51,9 @@ impl<P: PtrCore, T: Drop, S: ChainSlots<P, T>> ArenaTrait<P, T> for ChainArena<P
 
     ghost with_value = { with_value_in };
 
-    ghost is_formed = { IsChained P.Inx.number };
+    ghost is_formed = { IsChained };
 
-    ghost is_removed = { λ c i new. new ≡ link_removed P.Inx.number P.Gen.last c i };
+    ghost is_removed = { λ c i new. new ≡ link_removed P.Gen.last c i };
 
     ghost invalidated = { invalidated_of P.Gen.last };
 
@@ -61,7 +61,7 @@ impl<P: PtrCore, T: Drop, S: ChainSlots<P, T>> ArenaTrait<P, T> for ChainArena<P
 
     ghost drained = { drained_of P.Gen.last };
 
-    ghost is_compressed = { λ c reset values new. IsCompacted P.Inx.number P.Gen.last reset
+    ghost is_compressed = { λ c reset values new. IsCompacted P.Gen.last reset
         values c new };
 
     ghost walk = { λ a. a };
@@ -82,7 +82,7 @@ impl<P: PtrCore, T: Drop, S: ChainSlots<P, T>> ArenaTrait<P, T> for ChainArena<P
 
     ghost room_with_value = { room-with_value_in };
 
-    ghost drains = { drained-leaves _ _ P.Gen.last };
+    ghost drains = { drained-leaves _ P.Gen.last };
 
     ghost entry_listed = { value-listed };
 

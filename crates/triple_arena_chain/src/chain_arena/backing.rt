@@ -15,7 +15,7 @@ impl<P: PtrCore, T: Drop, S: ChainSlots<P, T>> ChainArena<P, T, S> {
     /// them.
     pub fn backing(&self) -> &S
         ensures entries { map entry_of (S.items result.now) ≡ self.now.slots }
-        ensures links { (i : ℕ) (slot : Slot (IndexLink P.Inx T)) → 0 < i
+        ensures links { (i : ℕ) (slot : Slot (IndexLink T)) → 0 < i
             → item_at (S.items result.now) i ≡ Some slot
             → free_links P.Inx.greatest slot ≡ neighbors self.now.free i }
         ensures room { room_of P.Inx.greatest (S.room result.now) ≡ self.now.room }

@@ -16,11 +16,11 @@ ghost use Rattle.triple_arena_chain.specs.Notes.{IsGathering, IsRejoinable, Star
 
 use crate::chain_arena::interlinks::{read_next, read_prev, set_next, set_prev};
 use crate::{ChainArena, ChainSlots, LinkNoGen};
+use proof_marks::{recall, unreached};
 use std::num::NonZeroUsize;
 use triple_arena::{
     Arena, ArenaTrait, DisjointableArenaTrait, InvalidationOption, PtrCore, PtrInxCore,
 };
-use unreached::unreached;
 
 // Whether two indexes are one.
 pub(crate) fn is_one<I: PtrInxCore>(i: I, j: I) -> bool
@@ -47,13 +47,13 @@ where
     P: PtrCore,
     T: Drop,
     S: ChainSlots<P, T>,
-    requires chained { IsChained P.Inx.number arena.now }
-    requires live { IsSome (ends_in P.Inx.number arena.now (P.Inx.number k)) }
-    ensures live { IsSome (ends_in P.Inx.number arena.now (P.Inx.number result)) }
-    ensures head { IsHead (ends_in P.Inx.number arena.now) (P.Inx.number result) }
-    ensures own { IsHead (ends_in P.Inx.number arena.now) (P.Inx.number k)
+    requires chained { IsChained arena.now }
+    requires live { IsSome (ends_in arena.now (P.Inx.number k)) }
+    ensures live { IsSome (ends_in arena.now (P.Inx.number result)) }
+    ensures head { IsHead (ends_in arena.now) (P.Inx.number result) }
+    ensures own { IsHead (ends_in arena.now) (P.Inx.number k)
         → P.Inx.number result ≡ P.Inx.number k }
-    ensures same { (c : Chain) → IsChainOf (ends_in P.Inx.number arena.now) c
+    ensures same { (c : Chain) → IsChainOf (ends_in arena.now) c
         → On (members c) (P.Inx.number k)
         → On (members c) (P.Inx.number result) }
 {
@@ -99,9 +99,9 @@ where
     P: PtrCore,
     T: Drop,
     S: ChainSlots<P, T>,
-    requires led { IsLedOn (ends_in P.Inx.number arena.now) placed (P.Inx.number i) }
+    requires led { IsLedOn (ends_in arena.now) placed (P.Inx.number i) }
     requires no_more { ⊤ }
-    ensures { (k : ℕ) → IsLed (ends_in P.Inx.number arena.now) placed (P.Inx.number i) k
+    ensures { (k : ℕ) → IsLed (ends_in arena.now) placed (P.Inx.number i) k
         → P.Inx.number result ≡ k }
 {
     let mut at = i;
@@ -125,11 +125,10 @@ where
     P: PtrCore,
     T: Drop,
     S: ChainSlots<P, T>,
-    requires gathering { IsGathering P.Inx.number placed arena.now }
+    requires gathering { IsGathering placed arena.now }
     requires behind { P.Inx.number k ≡ placed + 1 }
-    requires live { IsSome (ends_in P.Inx.number arena.now (P.Inx.number k)) }
-    ensures { StartsAt P.Inx.number placed (P.Inx.number result.0)
-        (option_map P.Inx.number result.1) arena.now }
+    requires live { IsSome (ends_in arena.now (P.Inx.number k)) }
+    ensures { StartsAt placed (P.Inx.number result.0) (option_map P.Inx.number result.1) arena.now }
 {
     let mut at = k;
     // No more links are passed than indexes fit.
@@ -162,10 +161,11 @@ where
     S: ChainSlots<P, T>,
     requires formed { IsWellFormed arena.old }
     requires alike { IsAlike arena.old }
-    requires last_is_live { IfSome last (λ i. IsSome (entry_at arena.old (P.Inx.number i))) }
+    requires last_is_live { IfSome (option_map P.Inx.number last)
+        (λ i. IsSome (entry_at arena.old i)) }
     requires at_is_live { IsSome (entry_at arena.old (P.Inx.number at)) }
     requires place_is_live { IsSome (entry_at arena.old (P.Inx.number place)) }
-    ensures { IsBrought P.Inx.number (option_map P.Inx.number last) (P.Inx.number at)
+    ensures { IsBrought (option_map P.Inx.number last) (P.Inx.number at)
         (P.Inx.number place) arena.old arena.new }
 {
     set_next(arena, last, Some(place));
@@ -180,14 +180,14 @@ where
     P: PtrCore,
     T: Drop,
     S: ChainSlots<P, T>,
-    requires gathering { IsGathering P.Inx.number first arena.old }
+    requires gathering { IsGathering first arena.old }
     requires more { first < length arena.old.slots }
-    ensures gathered { GathersUpTo P.Inx.number first result arena.old arena.new }
+    ensures gathered { GathersUpTo first result arena.old arena.new }
     ensures more { first < result }
     ensures within { result ≤ length arena.old.slots }
 {
     // Each live index is one of the pointers'.
-    let _ = arena.capacity();
+    recall!(arena.capacity());
     let start = behind(first);
     let (head, round) = unplaced_start(arena, start, first);
     bring(arena, None, head, start);
@@ -237,16 +237,15 @@ where
     T: Drop,
     S: ChainSlots<P, T>,
     requires formed { IsWellFormed arena.old }
-    requires rejoinable { IsRejoinable (ends_in P.Inx.number arena.old) len }
-    ensures nexts { (k : ℕ) → next_at (ends_in P.Inx.number arena.new) k
-        ≡ next_at (ends_in P.Inx.number arena.old) k }
-    ensures agreed { IsAgreed (ends_in P.Inx.number arena.new) }
+    requires rejoinable { IsRejoinable (ends_in arena.old) len }
+    ensures nexts { (k : ℕ) → next_at (ends_in arena.new) k ≡ next_at (ends_in arena.old) k }
+    ensures agreed { IsAgreed (ends_in arena.new) }
     ensures values { (k : ℕ) → values_in arena.new k ≡ values_in arena.old k }
     ensures kept { IsKept arena.old arena.new }
     ensures formed { IsWellFormed arena.new }
 {
     // Each live index is one of the pointers'.
-    let _ = arena.capacity();
+    recall!(arena.capacity());
     let mut before = None;
     let mut count = 0;
     'link: while count < len {
@@ -265,10 +264,10 @@ where
     P: PtrCore,
     T: Drop,
     S: ChainSlots<P, T>,
-    requires chained { IsChained P.Inx.number arena.old }
+    requires chained { IsChained arena.old }
     requires alike { IsAlike arena.old }
     requires full { arena.old.free ≡ [] }
-    ensures gathered { IsAllGathered P.Inx.number arena.old arena.new }
+    ensures gathered { IsAllGathered arena.old arena.new }
 {
     let len = arena.len();
     let mut placed = 0;
@@ -281,12 +280,11 @@ where
 impl<P: PtrCore, T: Drop, S: ChainSlots<P, T>> ChainArena<P, T, S> {
     /// Moves the links to the indexes from 1 on, so that each chain has successive ones, from the
     /// start of a linear one on. Which chain comes first is left open; where they stand so already
-    /// no index changes. The generations are renewed as by `compress`, and so is the answer. No
-    /// memory is taken.
+    /// no index changes. The generations and the answer are as by `compress`. No memory is taken.
     pub fn compress_canonical(&mut self, reset: bool) -> InvalidationOption<()>
         ensures overflow { overflowed result ≡ renewal_wraps P.Gen.last reset self.old.counter }
-        ensures canonical { IsCanonical P.Inx.number P.Gen.last reset self.old self.new }
-        ensures formed { IsChained P.Inx.number self.new }
+        ensures canonical { IsCanonical P.Gen.last reset self.old self.new }
+        ensures formed { IsChained self.new }
     {
         self.recall_chained();
         let answer = self.compress(reset);

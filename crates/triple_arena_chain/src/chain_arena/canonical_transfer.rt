@@ -22,13 +22,13 @@ ghost use Rattle.triple_arena_chain.specs.Values.{room_in};
 
 use crate::chain_arena::canonical_layout::{behind, chain_start, is_one};
 use crate::{ChainArena, ChainSlots, IndexLink, LinkNoGen};
+use proof_marks::{recall, unreached};
 use std::num::NonZeroUsize;
 use triple_arena::{
     Advancer, Arena, ArenaInsertTrait, ArenaTrait, InvalidationOption, PtrCore, PtrInxCore,
     ReallocationError,
 };
 use triple_arena_ptr::OptionalInx;
-use unreached::unreached;
 
 // Takes the link at `i`, which is live, out of an arena, and leaves the interlinks of all others as
 // they are. It returns the pointer, the value with what its removal tells, and the next index.
@@ -46,7 +46,7 @@ where
         ≡ Some (Q.generation result.0, value_of result.1) }
     ensures overflow { overflowed result.1 ≡ next_wraps Q.Gen.last source.old.counter }
     ensures next { option_map Q.Inx.number result.2
-        ≡ next_at (ends_in Q.Inx.number source.old) (Q.Inx.number i) }
+        ≡ next_at (ends_in source.old) (Q.Inx.number i) }
     ensures removed { IsRemoved entry_at live_count some_counter room_in Q.Gen.last
         (Q.Inx.number i) source.old source.new }
     ensures formed { IsWellFormed source.new }
@@ -74,8 +74,9 @@ fn next_place<J: PtrInxCore, I: PtrInxCore>(
     first: I,
     placed: usize,
 ) -> Option<I>
-    ensures end { next ≡ None → result ≡ None }
-    ensures round { option_map J.number next ≡ Some (J.number start) → result ≡ Some first }
+    ensures end { option_map J.number next ≡ None → option_map I.number result ≡ None }
+    ensures round { option_map J.number next ≡ Some (J.number start)
+        → option_map I.number result ≡ Some (I.number first) }
     ensures on { (j : ℕ) → option_map J.number next ≡ Some j → j ≢ J.number start
         → placed + 1 ≤ max_index_of I.greatest → option_map I.number result ≡ Some (placed + 1) }
 {
@@ -122,7 +123,8 @@ where
         × (J.number j ≢ J.number start) × (target.new ≡ target.old)) }
     ensures over { IfNone result (((option_map J.number next ≡ None) × (target.new ≡ target.old))
         ⊎ ((option_map J.number next ≡ Some (J.number start))
-        × (target.new ≡ with_prev_of P.Inx.number target.old (Some first) (Some last)))) }
+        × (target.new ≡ with_prev_of target.old (Some (P.Inx.number first))
+        (Some (P.Inx.number last))))) }
 {
     match next {
         Some(j) => {
@@ -157,24 +159,24 @@ where
     S: ChainSlots<P, T>,
     F: FnMut(Q, InvalidationOption<U>, P) -> T,
     requires callable { F.IsAlwaysCallable map }
-    requires chained { IsChained Q.Inx.number source.old }
+    requires chained { IsChained source.old }
     requires empty { target.old.slots ≡ [] }
     requires free { target.old.free ≡ [] }
     requires counter { target.old.counter ≡ P.Gen.number generation }
     requires fits { live_count source.old ≤ arena_capacity target.old }
-    ensures moved { IsMovedInOrder Q.index Q.generation P.index P.generation Q.Inx.number
-        P.Inx.number F.step map Q.Gen.last source.old target.new }
+    ensures moved { IsMovedInOrder Q.index Q.generation P.index P.generation
+        F.step map Q.Gen.last source.old target.new }
     ensures filled { IsFilled values_in live_count some_counter room_in listed_values
         (live_count source.old) (P.Gen.number generation) target.old.room target.old target.new }
-    ensures formed { IsChained P.Inx.number target.new }
-    ensures source_formed { IsChained Q.Inx.number source.new }
+    ensures formed { IsChained target.new }
+    ensures source_formed { IsChained source.new }
     ensures emptied { live_count source.new ≡ 0 }
     ensures counter { source.new.counter
         ≡ iterate (next_generation Q.Gen.last) (live_count source.old) source.old.counter }
     ensures room { source.new.room ≡ source.old.room }
 {
     // Each live index is one of the pointers'.
-    let _ = target.capacity();
+    recall!(target.capacity());
     let mut advancer = source.advancer();
     'chain: while let Some(p) = advancer.advance(source) {
         let start = chain_start(source, p.inx());
@@ -214,8 +216,8 @@ impl<P: PtrCore, T: Drop, S: ChainSlots<P, T>> ChainArena<P, T, S> {
     ///
     /// `map` is called once for each link, in that order, with the pointer that it had in `source`,
     /// the value, and the pointer that it gets. `source` is left with no link and no slot in the
-    /// room that it had, and its counter is stepped once for each link: if that step started the
-    /// generations again, `map` gets the value as a `GenerationOverflow`.
+    /// room that it had, and its counter is stepped once for each link: if that step wrapped, `map`
+    /// gets the value as a `GenerationOverflow`.
     ///
     /// A pointer of what this arena held before may find a link that came in, if `new_generation`
     /// is its generation.
@@ -236,13 +238,13 @@ impl<P: PtrCore, T: Drop, S: ChainSlots<P, T>> ChainArena<P, T, S> {
         F: FnMut(Q, InvalidationOption<U>, P) -> T,
         requires { F.IsAlwaysCallable map }
         ensures moved { OnOk result (IsMovedInOrder Q.index Q.generation P.index P.generation
-            Q.Inx.number P.Inx.number F.step map Q.Gen.last source.old self.new) }
+            F.step map Q.Gen.last source.old self.new) }
         ensures filled { OnOk result (IsFilled values_in live_count some_counter room_in
             listed_values (live_count source.old) (P.Gen.number new_generation)
             (room_with (live_count source.old) self.old.room) self.old self.new) }
         ensures source_exact { OnOk result (source.new ≡ drained Q.Gen.last source.old) }
-        ensures formed { IsChained P.Inx.number self.new }
-        ensures source_formed { IsChained Q.Inx.number source.new }
+        ensures formed { IsChained self.new }
+        ensures source_formed { IsChained source.new }
 
         // No memory is asked for if the links fit.
         ensures succeeds { live_count source.old ≤ arena_capacity self.old → IsOk result }

@@ -14,6 +14,7 @@ ghost use Rattle.triple_arena_chain.specs.Values.{room_in};
 use crate::chain_arena::interlinks::{read_next, read_prev, set_next, set_prev};
 use crate::chain_arena::mapping::{compact_links, renew_links};
 use crate::{ChainSlots, LinkNoGen};
+use proof_marks::recall;
 use std::num::NonZeroUsize;
 use triple_arena::{Advancer, Arena, ArenaTrait, InvalidationOption, PtrCore, PtrInxCore};
 
@@ -25,12 +26,11 @@ where
     T: Drop,
     S: ChainSlots<P, T>,
     requires { IsWellFormed arena.old }
-    ensures numbered { IsRelinked P.Inx.number (numbered (ends_in P.Inx.number arena.old))
-        arena.old arena.new }
+    ensures numbered { IsRelinked (numbered (ends_in arena.old)) arena.old arena.new }
     ensures formed { IsWellFormed arena.new }
 {
     // Each live index is one of the pointers'.
-    let _ = arena.capacity();
+    recall!(arena.capacity());
     let mut count = 0;
     let mut advancer = arena.advancer();
     while let Some(p) = advancer.advance(arena) {
@@ -47,10 +47,10 @@ where
     T: Drop,
     S: ChainSlots<P, T>,
     requires live { IsSome (entry_at arena.now (P.Inx.number i)) }
-    requires next { (q : ℕ) → next_at (ends_in P.Inx.number arena.now) (P.Inx.number i) ≡ Some q
+    requires next { (q : ℕ) → next_at (ends_in arena.now) (P.Inx.number i) ≡ Some q
         → IsSome (entry_at arena.now q) }
-    ensures { option_map P.Inx.number result ≡ prev_of (ends_in P.Inx.number arena.now)
-        (next_at (ends_in P.Inx.number arena.now) (P.Inx.number i)) }
+    ensures { option_map P.Inx.number result ≡ prev_of (ends_in arena.now)
+        (next_at (ends_in arena.now) (P.Inx.number i)) }
 {
     match read_next(arena, i) {
         Some(next) => read_prev(arena, next),
@@ -65,10 +65,9 @@ where
     T: Drop,
     S: ChainSlots<P, T>,
     requires formed { IsWellFormed arena.old }
-    requires live { (p q : ℕ) → next_at (ends_in P.Inx.number arena.old) p ≡ Some q
-        → IsSome (ends_in P.Inx.number arena.old q) }
-    ensures forwarded { IsRelinked P.Inx.number (forwarded (ends_in P.Inx.number arena.old))
-        arena.old arena.new }
+    requires live { (p q : ℕ) → next_at (ends_in arena.old) p ≡ Some q
+        → IsSome (ends_in arena.old q) }
+    ensures forwarded { IsRelinked (forwarded (ends_in arena.old)) arena.old arena.new }
     ensures formed { IsWellFormed arena.new }
 {
     let mut advancer = arena.advancer();
@@ -87,14 +86,13 @@ where
     T: Drop,
     S: ChainSlots<P, T>,
     requires formed { IsWellFormed arena.old }
-    requires alone { (k : ℕ) → prev_at (ends_in P.Inx.number arena.old) k ≡ None }
-    requires live { (p q : ℕ) → next_at (ends_in P.Inx.number arena.old) p ≡ Some q
-        → IsSome (ends_in P.Inx.number arena.old q) }
-    requires apart { (p q r : ℕ) → next_at (ends_in P.Inx.number arena.old) p ≡ Some r
-        → next_at (ends_in P.Inx.number arena.old) q ≡ Some r → p ≡ q }
-    ensures nexts { (k : ℕ) → next_at (ends_in P.Inx.number arena.new) k
-        ≡ next_at (ends_in P.Inx.number arena.old) k }
-    ensures agreed { IsAgreed (ends_in P.Inx.number arena.new) }
+    requires alone { (k : ℕ) → prev_at (ends_in arena.old) k ≡ None }
+    requires live { (p q : ℕ) → next_at (ends_in arena.old) p ≡ Some q
+        → IsSome (ends_in arena.old q) }
+    requires apart { (p q r : ℕ) → next_at (ends_in arena.old) p ≡ Some r
+        → next_at (ends_in arena.old) q ≡ Some r → p ≡ q }
+    ensures nexts { (k : ℕ) → next_at (ends_in arena.new) k ≡ next_at (ends_in arena.old) k }
+    ensures agreed { IsAgreed (ends_in arena.new) }
     ensures values { (k : ℕ) → values_in arena.new k ≡ values_in arena.old k }
     ensures kept { IsKept arena.old arena.new }
     ensures formed { IsWellFormed arena.new }
@@ -120,15 +118,15 @@ where
     S: ChainSlots<P, T>,
     F: FnMut(P, T, P) -> T,
     requires callable { F.IsAlwaysCallable map }
-    requires chained { IsChained P.Inx.number arena.old }
+    requires chained { IsChained arena.old }
     ensures mapped { IsMapped P.index P.generation F.step map (listed_values arena.old)
         (listed_values arena.new) }
     ensures overflow { overflowed result ≡ renewal_wraps P.Gen.last reset arena.old.counter }
     ensures compressed { IsCompressed values_in live_count some_counter room_in P.Gen.last
         listed_values reset arena.old arena.new }
-    ensures exact { IsCompacted P.Inx.number P.Gen.last reset
+    ensures exact { IsCompacted P.Gen.last reset
         (list_map value_of (listed_values arena.new)) arena.old arena.new }
-    ensures formed { IsChained P.Inx.number arena.new }
+    ensures formed { IsChained arena.new }
 {
     // If no index is free, each link stays.
     if arena.freelist_root().is_none() {

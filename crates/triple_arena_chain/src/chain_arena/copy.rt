@@ -40,10 +40,9 @@ impl<P: PtrCore, T: Drop, S: ChainSlots<P, T>> ChainArena<P, T, S> {
         requires { F.IsAlwaysCallable map }
         ensures mapped { OnOk result (IsMappedCopy P.index P.generation F.step map
             (A.Links.live_entries (A.links source.now)) (listed_values self.new)) }
-        ensures linked { OnOk result ((k : ℕ)
-            → ends_in P.Inx.number self.new k ≡ A.ends source.now k) }
+        ensures linked { OnOk result ((k : ℕ) → ends_in self.new k ≡ A.ends source.now k) }
         ensures lists { OnOk result ((chain : Chain) → IsChainOf (A.ends source.now) chain
-            → IsChainOf (ends_in P.Inx.number self.new) chain) }
+            → IsChainOf (ends_in self.new) chain) }
         ensures copied { OnOk result (IsCopy values_in live_count some_counter room_in
             (A.Links.entry_at (A.links source.now)) (A.Links.live_count (A.links source.now))
             (last_listed (A.Links.live_entries (A.links source.now)))
@@ -64,7 +63,7 @@ impl<P: PtrCore, T: Drop, S: ChainSlots<P, T>> ChainArena<P, T, S> {
             (IsRefusedCopy P.index P.generation F.step map
             (A.Links.live_entries (A.links source.now)))
             self.old self.new }
-        ensures formed { IsChained P.Inx.number self.new }
+        ensures formed { IsChained self.new }
     {
         copy_links::<
             P,
@@ -103,9 +102,9 @@ impl<P: PtrCore, T: Clone, S: ChainSlots<P, T>> ChainArena<P, T, S> {
             < last_listed (live_entries self.now)))
             ⊎ MayRefuse T.is_infallible (listed_values self.now) }
         ensures lists { IfOk result (λ c. (chain : Chain)
-            → IsChainOf (ends_in P.Inx.number self.now) chain
-            → IsChainOf (ends_in P.Inx.number c) chain) }
-        ensures formed { IfOk result (λ c. IsChained P.Inx.number c) }
+            → IsChainOf (ends_in self.now) chain
+            → IsChainOf (ends_in c) chain) }
+        ensures formed { IfOk result (λ c. IsChained c) }
     {
         match self.arena.clone(alloc) {
             Ok(arena) => Ok(ChainArena { arena }),
@@ -139,9 +138,9 @@ impl<P: PtrCore, T: Clone, S: ChainSlots<P, T>> ChainArena<P, T, S> {
             (λ c. cleared P.Gen.last (reallocated c (last_listed (live_entries source.now))))
             (MayRefuse T.is_infallible (listed_values source.now)) self.old self.new }
         ensures lists { OnOk result
-            ((chain : Chain) → IsChainOf (ends_in P.Inx.number source.now) chain
-            → IsChainOf (ends_in P.Inx.number self.new) chain) }
-        ensures formed { IsChained P.Inx.number self.new }
+            ((chain : Chain) → IsChainOf (ends_in source.now) chain
+            → IsChainOf (ends_in self.new) chain) }
+        ensures formed { IsChained self.new }
     {
         self.arena.clone_from(&source.arena)
     }

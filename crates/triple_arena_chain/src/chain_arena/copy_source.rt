@@ -4,6 +4,7 @@ ghost use Rattle.triple_arena_stack.specs.Room.{capacity as capacity_of, IsBeyon
 ghost use Rattle.triple_arena.specs.Copy.{last_listed, NeverRefuses, IsMappedCopy, IsRefusedCopy};
 ghost use Rattle.triple_arena.specs.Copy.{IsCopy, IsUnmadeCopy};
 ghost use Rattle.triple_arena_chain.specs.Chains.{Ends, IsAgreed};
+ghost use Rattle.triple_arena_chain.specs.Kinds.{ends_by};
 ghost use Rattle.triple_arena_chain.specs.LinkCopies.{listed_ends};
 ghost use Rattle.triple_arena_chain.specs.Links.{prev_next_of};
 
@@ -14,12 +15,12 @@ use triple_arena::{
 use triple_arena_ptr::OptionalInx;
 
 /// A link that copies are made of.
-pub trait Neighbors<I> {
-    ghost neighbors: { Self → Option I × Option I };
+pub trait Neighbors<I: PtrInxCore> {
+    ghost neighbors: { Self → Ends };
 
     /// The indexes of the previous and of the next link.
     fn neighbors(&self) -> (Option<I>, Option<I>)
-        ensures { result ≡ neighbors self.now };
+        ensures { ends_by I.number result ≡ neighbors self.now };
 }
 
 impl<I: PtrInxCore<Word = W>, W: Copy, T> Neighbors<I> for IndexLink<OptionalInx<I, W>, T> {
@@ -51,7 +52,7 @@ pub trait LinkCloneSource<P: PtrCore> {
 
     // The interlinks are those of the links.
     ghost linked: { (a : Self) (i : ℕ)
-        → listed_ends Self.Link.neighbors P.Inx.number (Self.Links.live_entries (links a)) i
+        → listed_ends Self.Link.neighbors (Self.Links.live_entries (links a)) i
         ≡ ends a i };
 
     /// Makes `target` a copy of this arena: with its pointers, each value what `map` makes of the
@@ -114,9 +115,9 @@ impl<P: PtrCore, T: Drop, S: ChainSlots<P, T>> LinkCloneSource<P> for ChainArena
 
     ghost links = { λ c. c };
 
-    ghost ends = { ends_in P.Inx.number };
+    ghost ends = { ends_in };
 
-    ghost linked = { listed_ends-is P.Inx.number };
+    ghost linked = { listed_ends-is };
 
     fn links(&self) -> &Arena<P, LinkNoGen<P, T>, S> {
         &self.arena

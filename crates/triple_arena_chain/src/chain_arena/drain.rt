@@ -19,7 +19,7 @@ use triple_arena::{InvalidationOption, PtrCore, PtrInxCore};
 /// the link before it, or once round a ring.
 ///
 /// Each item is one removal, which joins the neighbors and steps the counter; it is
-/// `GenerationOverflow` if that step started the generations again. Dropped, at whatever item, it
+/// `GenerationOverflow` if that step wrapped. If the iterator is dropped, at whatever item, it
 /// takes those of the chain that are left in the same way. All other chains stay.
 pub struct ChainDrain<'a, P: PtrCore, T: Drop, S: ChainSlots<P, T>> {
     chains: &'a mut ChainArena<P, T, S>,
@@ -82,7 +82,7 @@ impl<P: PtrCore, T: Drop, S: ChainSlots<P, T>> ChainArena<P, T, S> {
         i: P::Inx,
     ) -> Option<(InvalidationOption<(P, LinkNoGen<P, T>)>, Option<P::Inx>)>
         ensures variant { IsSome result ↔ IsSome (entry_at self.old (P.Inx.number i)) }
-        ensures step { IfSome result (λ r. IsStep P.Inx.number P.Gen.last P.index P.generation
+        ensures step { IfSome result (λ r. IsStep P.Gen.last P.index P.generation
             (P.Inx.number i) r.0 (option_map P.Inx.number r.1) self.old self.new) }
         ensures none { IfNone result (self.new ≡ self.old) }
     {
@@ -100,8 +100,7 @@ impl<P: PtrCore, T: Drop, S: ChainSlots<P, T>> ChainArena<P, T, S> {
 
     // Removes the links of the walk from `at`.
     fn take_rest(&mut self, at: Option<P::Inx>)
-        ensures { IsRestDrained P.Inx.number P.Gen.last
-            (option_map P.Inx.number at) self.old self.new }
+        ensures { IsRestDrained P.Gen.last (option_map P.Inx.number at) self.old self.new }
     {
         let mut at = at;
         while let Some(i) = at {
@@ -117,7 +116,7 @@ impl<P: PtrCore, T: Drop, S: ChainSlots<P, T>> ChainArena<P, T, S> {
 impl<'a, P: PtrCore, T: Drop, S: ChainSlots<P, T>> Drop for ChainDrain<'a, P, T, S> {
     fn drop(self)
         ensures leaves { DrainLeaves P.Inx.number P.Gen.last self.entry self.exit.0.now }
-        ensures formed { IsChained P.Inx.number self.exit.0.now }
+        ensures formed { IsChained self.exit.0.now }
     {
         let ChainDrain { chains, at } = self;
         chains.take_rest(at);

@@ -19,7 +19,7 @@ fn goes_back<P: PtrCore, T: Drop, S: ChainSlots<P, T>>(
     i: P::Inx,
 ) -> bool
     ensures { IsTrue result ↔ ((q : ℕ) → option_map P.Inx.number at ≡ Some q
-        → prev_at (ends_in P.Inx.number arena.now) q ≡ Some (P.Inx.number i)) }
+        → prev_at (ends_in arena.now) q ≡ Some (P.Inx.number i)) }
 {
     match at {
         Some(at) => match arena.get_inx(at) {
@@ -37,7 +37,7 @@ fn goes_on<P: PtrCore, T: Drop, S: ChainSlots<P, T>>(
     i: P::Inx,
 ) -> bool
     ensures { IsTrue result ↔ ((p : ℕ) → option_map P.Inx.number at ≡ Some p
-        → next_at (ends_in P.Inx.number arena.now) p ≡ Some (P.Inx.number i)) }
+        → next_at (ends_in arena.now) p ≡ Some (P.Inx.number i)) }
 {
     match at {
         Some(at) => match arena.get_inx(at) {
@@ -53,7 +53,7 @@ impl<P: PtrCore, T: Drop, S: ChainSlots<P, T>> ChainArena<P, T, S> {
     /// and names it as its previous link, and what it names as its previous link is live and names
     /// it as its next.
     pub fn interlinks_agree(arena: &Arena<P, LinkNoGen<P, T>, S>) -> bool
-        ensures { IsTrue result ↔ IsAgreed (ends_in P.Inx.number arena.now) }
+        ensures { IsTrue result ↔ IsAgreed (ends_in arena.now) }
     {
         let mut links = arena.advancer();
         while let Some(p) = links.advance(arena) {
@@ -72,9 +72,9 @@ impl<P: PtrCore, T: Drop, S: ChainSlots<P, T>> ChainArena<P, T, S> {
     pub fn from_arena(
         arena: Arena<P, LinkNoGen<P, T>, S>,
     ) -> Result<Self, Arena<P, LinkNoGen<P, T>, S>>
-        ensures variant { IsOk result ↔ IsAgreed (ends_in P.Inx.number arena) }
+        ensures variant { IsOk result ↔ IsAgreed (ends_in arena) }
         ensures ok { IfOk result (λ chains. chains ≡ arena) }
-        ensures formed { IfOk result (λ chains. IsChained P.Inx.number chains) }
+        ensures formed { IfOk result (λ chains. IsChained chains) }
         ensures err { IfErr result (λ refused. refused ≡ arena) }
     {
         // The arena is well-formed.
@@ -89,10 +89,10 @@ impl<P: PtrCore, T: Drop, S: ChainSlots<P, T>> ChainArena<P, T, S> {
     /// Exchanges the links of this arena and those of `arena`, if `interlinks_agree` accepts them.
     /// Else it returns `None`, and both stay as they are.
     pub fn exchange_arena(&mut self, arena: &mut Arena<P, LinkNoGen<P, T>, S>) -> Option<()>
-        ensures variant { IsSome result ↔ IsAgreed (ends_in P.Inx.number arena.old) }
+        ensures variant { IsSome result ↔ IsAgreed (ends_in arena.old) }
         ensures some { OnSome result ((self.new ≡ arena.old) × (arena.new ≡ self.old)) }
         ensures none { IfNone result ((self.new ≡ self.old) × (arena.new ≡ arena.old)) }
-        ensures formed { IsChained P.Inx.number self.new }
+        ensures formed { IsChained self.new }
         ensures arena_formed { IsWellFormed arena.new }
     {
         // The interlinks agree, and the other arena is well-formed.

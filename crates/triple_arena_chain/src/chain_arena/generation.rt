@@ -19,16 +19,16 @@ impl<P: PtrCore, T: Drop, S: ChainSlots<P, T>> ChainArena<P, T, S> {
     /// Sets the counter. A pointer that ended may be given again if the counter goes back.
     pub fn set_generation(&mut self, generation: P::Gen)
         ensures value { self.new ≡ with_counter self.old (P.Gen.number generation) }
-        ensures formed { IsChained P.Inx.number self.new }
+        ensures formed { IsChained self.new }
     {
         self.arena.set_generation(generation);
     }
 
-    /// Steps the counter once, as a removal does, and says whether the generations started again.
+    /// Steps the counter once, as a removal does, and says whether the generations wrapped.
     pub fn inc_generation(&mut self) -> InvalidationOption<()>
         ensures exact { self.new ≡ stepped P.Gen.last self.old }
         ensures overflow { overflowed result ≡ next_wraps P.Gen.last self.old.counter }
-        ensures formed { IsChained P.Inx.number self.new }
+        ensures formed { IsChained self.new }
     {
         self.arena.inc_generation()
     }

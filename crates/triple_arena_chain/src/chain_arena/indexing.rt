@@ -4,9 +4,9 @@ ghost use Rattle.triple_arena.specs.Entries.{value_if};
 ghost use Rattle.triple_arena_chain.specs.Links.{values_in};
 
 use crate::{ChainArena, ChainSlots};
+use proof_marks::unreached;
 use std::ops::{Index, IndexMut};
 use triple_arena::{ArenaTrait, PtrCore};
-use unreached::unreached;
 
 impl<P: PtrCore, T: Drop, S: ChainSlots<P, T>> Index<P> for ChainArena<P, T, S> {
     type Output = T;

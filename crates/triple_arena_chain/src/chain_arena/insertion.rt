@@ -27,7 +27,7 @@ fn link_at<I: PtrInxCore<Word = W>, W: Copy, T>(
     i: I,
     t: T,
 ) -> IndexLink<OptionalInx<I, W>, T>
-    ensures { result ≡ link_for I.number gap i t }
+    ensures { result ≡ link_for (gap_by I.number gap) (I.number i) t }
 {
     match gap {
         Gap::Between(prev, next) => IndexLink::new((prev, next), t),
@@ -40,10 +40,10 @@ impl<P: PtrCore, T: Drop, S: ChainSlots<P, T>> ChainArena<P, T, S> {
     #[inline(always)]
     pub(crate) fn put(&mut self, gap: Gap<P::Inx>, t: T) -> P
         requires room { live_count self.old < arena_capacity self.old }
-        requires gap { IsGap (ends_in P.Inx.number self.old) (gap_by P.Inx.number gap) }
-        ensures inserted { IsLinkInserted P.Inx.number (gap_by P.Inx.number gap) (P.index result)
+        requires gap { IsGap (ends_in self.old) (gap_by P.Inx.number gap) }
+        ensures inserted { IsLinkInserted (gap_by P.Inx.number gap) (P.index result)
             (P.generation result) t self.old self.new }
-        ensures formed { IsChained P.Inx.number self.new }
+        ensures formed { IsChained self.new }
         ensures room { self.new.room ≡ self.old.room }
     {
         let p = self.arena.next_ptr();
@@ -59,12 +59,11 @@ impl<P: PtrCore, T: Drop, S: ChainSlots<P, T>> ChainArena<P, T, S> {
     #[inline(always)]
     pub fn insert_in_gap_unwrap(&mut self, prev: Option<P::Inx>, next: Option<P::Inx>, t: T) -> P
         requires room { live_count self.old < arena_capacity self.old }
-        requires gap { IsBetween (ends_in P.Inx.number self.old)
-            (ends_by P.Inx.number (prev, next)) }
-        ensures inserted { IsLinkInserted P.Inx.number
+        requires gap { IsBetween (ends_in self.old) (ends_by P.Inx.number (prev, next)) }
+        ensures inserted { IsLinkInserted
             (Between (option_map P.Inx.number prev) (option_map P.Inx.number next))
             (P.index result) (P.generation result) t self.old self.new }
-        ensures formed { IsChained P.Inx.number self.new }
+        ensures formed { IsChained self.new }
         ensures room { self.new.room ≡ self.old.room }
     {
         self.put(Gap::Between(prev, next), t)
@@ -79,12 +78,12 @@ impl<P: PtrCore, T: Drop, S: ChainSlots<P, T>> ChainArena<P, T, S> {
         next: Option<P::Inx>,
         t: T,
     ) -> Result<P, NotWithinCapacityError>
-        requires { IsBetween (ends_in P.Inx.number self.old) (ends_by P.Inx.number (prev, next)) }
+        requires { IsBetween (ends_in self.old) (ends_by P.Inx.number (prev, next)) }
         ensures variant { IsOk result ↔ (live_count self.old < arena_capacity self.old) }
-        ensures inserted { IfOk result (λ p. IsLinkInserted P.Inx.number
+        ensures inserted { IfOk result (λ p. IsLinkInserted
             (Between (option_map P.Inx.number prev) (option_map P.Inx.number next))
             (P.index p) (P.generation p) t self.old self.new) }
-        ensures formed { IsChained P.Inx.number self.new }
+        ensures formed { IsChained self.new }
         ensures room { self.new.room ≡ self.old.room }
         ensures err { OnErr result (self.new ≡ self.old) }
     {
@@ -105,12 +104,12 @@ impl<P: PtrCore, T: Drop, S: ChainSlots<P, T>> ChainArena<P, T, S> {
         next: Option<P::Inx>,
         t: T,
     ) -> Result<P, ReallocationError>
-        requires { IsBetween (ends_in P.Inx.number self.old) (ends_by P.Inx.number (prev, next)) }
+        requires { IsBetween (ends_in self.old) (ends_by P.Inx.number (prev, next)) }
         ensures refusal { IsRefusal S.takes_memory (live_count self.old) self.old.room result }
-        ensures inserted { IfOk result (λ p. IsLinkInserted P.Inx.number
+        ensures inserted { IfOk result (λ p. IsLinkInserted
             (Between (option_map P.Inx.number prev) (option_map P.Inx.number next))
             (P.index p) (P.generation p) t self.old self.new) }
-        ensures formed { IsChained P.Inx.number self.new }
+        ensures formed { IsChained self.new }
         ensures room { OnOk result (self.new.room
             ≡ room_after (live_count self.old) self.old.room) }
         ensures err { OnErr result (self.new ≡ self.old) }

@@ -5,6 +5,7 @@ ghost use Rattle.triple_arena.specs.Content.{entry_at, IsWellFormed};
 ghost use Rattle.triple_arena_chain.specs.Chains.{next_at, prev_at};
 ghost use Rattle.triple_arena_chain.specs.Links.{ends_in, with_next_of, with_prev_of, joined_to};
 ghost use Rattle.triple_arena_chain.specs.Links.{AreNeighborsLive};
+ghost use Rattle.triple_arena_chain.specs.Kinds.{gap_by};
 
 use crate::gap::Gap;
 use crate::{ChainSlots, LinkNoGen};
@@ -28,8 +29,7 @@ pub(crate) fn read_next<P: PtrCore, T: Drop, S: ChainSlots<P, T>>(
 ) -> Option<P::Inx>
     requires live { IsSome (entry_at arena.now (P.Inx.number i)) }
     requires no_more { ⊤ }
-    ensures { option_map P.Inx.number result
-        ≡ next_at (ends_in P.Inx.number arena.now) (P.Inx.number i) }
+    ensures { option_map P.Inx.number result ≡ next_at (ends_in arena.now) (P.Inx.number i) }
 {
     arena.get_inx_unwrap(i).next()
 }
@@ -41,8 +41,7 @@ pub(crate) fn read_prev<P: PtrCore, T: Drop, S: ChainSlots<P, T>>(
 ) -> Option<P::Inx>
     requires live { IsSome (entry_at arena.now (P.Inx.number i)) }
     requires no_more { ⊤ }
-    ensures { option_map P.Inx.number result
-        ≡ prev_at (ends_in P.Inx.number arena.now) (P.Inx.number i) }
+    ensures { option_map P.Inx.number result ≡ prev_at (ends_in arena.now) (P.Inx.number i) }
 {
     arena.get_inx_unwrap(i).prev()
 }
@@ -53,9 +52,10 @@ pub(crate) fn set_next<P: PtrCore, T: Drop, S: ChainSlots<P, T>>(
     at: Option<P::Inx>,
     next: Option<P::Inx>,
 )
-    requires live { IfSome at (λ i. IsSome (entry_at arena.old (P.Inx.number i))) }
+    requires live { IfSome (option_map P.Inx.number at) (λ i. IsSome (entry_at arena.old i)) }
     requires no_more { ⊤ }
-    ensures { arena.new ≡ with_next_of P.Inx.number arena.old at next }
+    ensures { arena.new ≡ with_next_of arena.old (option_map P.Inx.number at)
+        (option_map P.Inx.number next) }
 {
     if let Some(i) = at {
         arena.get_inx_mut_unwrap(i).next = OptionalInx::of(next);
@@ -68,9 +68,10 @@ pub(crate) fn set_prev<P: PtrCore, T: Drop, S: ChainSlots<P, T>>(
     at: Option<P::Inx>,
     prev: Option<P::Inx>,
 )
-    requires live { IfSome at (λ i. IsSome (entry_at arena.old (P.Inx.number i))) }
+    requires live { IfSome (option_map P.Inx.number at) (λ i. IsSome (entry_at arena.old i)) }
     requires no_more { ⊤ }
-    ensures { arena.new ≡ with_prev_of P.Inx.number arena.old at prev }
+    ensures { arena.new ≡ with_prev_of arena.old (option_map P.Inx.number at)
+        (option_map P.Inx.number prev) }
 {
     if let Some(i) = at {
         arena.get_inx_mut_unwrap(i).prev = OptionalInx::of(prev);
@@ -84,10 +85,11 @@ pub(crate) fn follow<P: PtrCore, T: Drop, S: ChainSlots<P, T>>(
     before: Option<P::Inx>,
     after: Option<P::Inx>,
 )
-    requires before { IfSome before (λ i. IsSome (entry_at arena.old (P.Inx.number i))) }
-    requires after { IfSome after (λ i. IsSome (entry_at arena.old (P.Inx.number i))) }
-    ensures { arena.new ≡ with_prev_of P.Inx.number
-        (with_next_of P.Inx.number arena.old before after) after before }
+    requires before { IfSome (option_map P.Inx.number before) (λ i. IsSome (entry_at arena.old i)) }
+    requires after { IfSome (option_map P.Inx.number after) (λ i. IsSome (entry_at arena.old i)) }
+    ensures { arena.new ≡ with_prev_of (with_next_of arena.old (option_map P.Inx.number before)
+        (option_map P.Inx.number after)) (option_map P.Inx.number after)
+        (option_map P.Inx.number before) }
 {
     set_next(arena, before, after);
     set_prev(arena, after, before);
@@ -102,8 +104,8 @@ pub(crate) fn part<P: PtrCore, T: Drop, S: ChainSlots<P, T>>(
 )
     requires before { IsSome (entry_at arena.old (P.Inx.number before)) }
     requires after { IsSome (entry_at arena.old (P.Inx.number after)) }
-    ensures { arena.new ≡ with_prev_of P.Inx.number
-        (with_next_of P.Inx.number arena.old (Some before) None) (Some after) None }
+    ensures { arena.new ≡ with_prev_of (with_next_of arena.old (Some (P.Inx.number before)) None)
+        (Some (P.Inx.number after)) None }
 {
     set_next(arena, Some(before), None);
     set_prev(arena, Some(after), None);
@@ -116,8 +118,8 @@ pub(crate) fn join<P: PtrCore, T: Drop, S: ChainSlots<P, T>>(
     gap: Gap<P::Inx>,
     i: P::Inx,
 )
-    requires { AreNeighborsLive P.Inx.number arena.old gap }
-    ensures { arena.new ≡ joined_to P.Inx.number arena.old gap i }
+    requires { AreNeighborsLive arena.old (gap_by P.Inx.number gap) }
+    ensures { arena.new ≡ joined_to arena.old (gap_by P.Inx.number gap) (P.Inx.number i) }
 {
     match gap {
         Gap::Between(prev, next) => {

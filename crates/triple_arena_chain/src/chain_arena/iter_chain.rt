@@ -1,4 +1,4 @@
-//! Going over one chain that is lent for reading.
+//! Going over one chain of an arena that is borrowed for reading.
 ghost use Rattle.std.specs.Prelude.{◌≡◌, ◌↔◌, ℕ, List, Option, Some, None, IsSome, IfSome};
 ghost use Rattle.std.specs.Iterator.{YieldsFirstBy, item_count};
 ghost use Rattle.std.specs.Option.{option_map};
@@ -9,11 +9,11 @@ ghost use Rattle.triple_arena_chain.specs.Links.{ends_in};
 ghost use Rattle.triple_arena_chain.specs.Walks.{past_index, IsWalkFrom};
 
 use crate::{ChainArena, ChainArenaTrait, ChainSlots, LinkNoGen};
+use proof_marks::unreached;
 use std::iter::FusedIterator;
 use std::marker::Model;
 use triple_arena::{ArenaTrait, PtrCore, PtrInxCore};
 use triple_arena_ptr::OptionalInx;
-use unreached::unreached;
 
 /// The pointers and the links of one chain, from a link on to the end and then backwards from the
 /// link before it, or once round a ring: seen as the list of the entries that are left.
@@ -43,15 +43,15 @@ where
     ghost use Rattle.triple_arena_chain.specs.Links.{ends_in};
     ghost use Rattle.triple_arena_chain.specs.Walks.{left_over, IsEnding};
 
-    ghost Value = { List (ℕ × (ℕ × IndexLink P.Inx T)) };
+    ghost Value = { List (ℕ × (ℕ × IndexLink T)) };
 
     ghost view = { λ it. links_along (entry_at it.chains.now)
-        (left_over P.Inx.number it.chains.now (lent_walk (ends_in P.Inx.number it.chains.now)
-        (option_map P.Inx.number it.start) (option_map P.Inx.number it.at))) };
+        (left_over it.chains.now (lent_walk (ends_in it.chains.now)
+        it.start it.at)) };
 
-    ghost invariant = { λ it. IsEnding P.Inx.number it.chains.now
-        (lent_walk (ends_in P.Inx.number it.chains.now)
-        (option_map P.Inx.number it.start) (option_map P.Inx.number it.at)) };
+    ghost invariant = { λ it. IsEnding it.chains.now
+        (lent_walk (ends_in it.chains.now)
+        it.start it.at) };
 }
 
 // Where a walk that began there goes on from a link with these neighbors. With it comes where the
@@ -63,12 +63,12 @@ fn onward<I: PtrInxCore<Word = W>, W: Copy + Drop>(
     next: OptionalInx<I, W>,
 ) -> (OptionalInx<I, W>, OptionalInx<I, W>)
     ensures { (ends : ℕ → Option Ends) (i : ℕ)
-        → ends i ≡ Some (option_map I.number prev, option_map I.number next)
-        → lent_walk ends (option_map I.number result.0) (option_map I.number result.1)
-        ≡ settled (past_index ends (lent_walk ends (option_map I.number start) (Some i)) i) }
+        → ends i ≡ Some (prev, next)
+        → lent_walk ends result.0 result.1
+        ≡ settled (past_index ends (lent_walk ends start (Some i)) i) }
 {
     let to = if start.is_none() { prev } else { next };
-    if to == start {
+    if to.get() == start.get() {
         (OptionalInx::none(), OptionalInx::none())
     } else {
         (start, to)
@@ -86,10 +86,8 @@ impl<P: PtrCore, T: Drop, S: ChainSlots<P, T>> ChainArena<P, T, S> {
         OptionalInx<P::Inx, <P::Inx as PtrInxCore>::Word>,
         OptionalInx<P::Inx, <P::Inx as PtrInxCore>::Word>,
     )
-        ensures same { lent_walk (ends_in P.Inx.number self.now)
-            (option_map P.Inx.number result.0) (option_map P.Inx.number result.1)
-            ≡ lent_walk (ends_in P.Inx.number self.now)
-            (option_map P.Inx.number start) (option_map P.Inx.number at) }
+        ensures same { lent_walk (ends_in self.now) result.0 result.1 ≡ lent_walk (ends_in self.now)
+            start at }
         ensures over { result.1 ≡ None → result.0 ≡ None }
     {
         if !at.is_none() {
@@ -142,7 +140,7 @@ impl<P: PtrCore, T: Drop, S: ChainSlots<P, T>> ChainArena<P, T, S> {
     pub fn iter_chain(&self, p: P) -> Option<IterChain<'_, P, T, S>>
         ensures variant { IsSome result ↔ IsSome (get self.now (P.index p) (P.generation p)) }
         ensures along { IfSome result (λ it. (walk : List ℕ)
-            × IsWalkFrom (ends_in P.Inx.number self.now) (P.index p) walk
+            × IsWalkFrom (ends_in self.now) (P.index p) walk
             × (it ≡ links_along (entry_at self.now) walk)) }
     {
         let _ = self.advancer_chain(p)?;

@@ -1,7 +1,9 @@
 //! A link that moves to another place, under its pointer.
 ghost use Rattle.std.specs.Prelude.{◌≡◌, ◌≢◌, ◌↔◌, ℕ, Some, IsSome, IfSome, IfNone, OnSome, IsTrue};
+ghost use Rattle.std.specs.Option.{option_map};
 ghost use Rattle.triple_arena.specs.Content.{entry_at, get};
 ghost use Rattle.triple_arena_chain.specs.declared.gap.Gap.TheVariants.{Between};
+ghost use Rattle.triple_arena_chain.specs.Kinds.{gap_by};
 ghost use Rattle.triple_arena_chain.specs.Links.{with_next_of, with_prev_of, joined_to};
 ghost use Rattle.triple_arena_chain.specs.LinkShape.{IndexLink};
 ghost use Rattle.triple_arena_chain.specs.Links.{bridged_over, IsChained};
@@ -19,9 +21,9 @@ fn bridge_over<P: PtrCore, T: Drop, S: ChainSlots<P, T>>(
     i: P::Inx,
 )
     requires live { IsSome (entry_at arena.old (P.Inx.number i)) }
-    requires chained { IsChained P.Inx.number arena.old }
-    ensures { (e : ℕ × IndexLink P.Inx T) → entry_at arena.old (P.Inx.number i) ≡ Some e
-        → arena.new ≡ bridged_over P.Inx.number arena.old e.1 }
+    requires chained { IsChained arena.old }
+    ensures { (e : ℕ × IndexLink T) → entry_at arena.old (P.Inx.number i) ≡ Some e
+        → arena.new ≡ bridged_over arena.old e.1 }
 {
     let (before, after) = arena.get_inx_unwrap(i).prev_next();
     follow(arena, before, after);
@@ -37,10 +39,12 @@ fn put_back<P: PtrCore, T: Drop, S: ChainSlots<P, T>>(
     next: Option<P::Inx>,
 )
     requires own { IsSome (entry_at arena.old (P.Inx.number i)) }
-    requires before { IfSome prev (λ j. IsSome (entry_at arena.old (P.Inx.number j))) }
-    requires after { IfSome next (λ j. IsSome (entry_at arena.old (P.Inx.number j))) }
-    ensures { arena.new ≡ joined_to P.Inx.number (with_prev_of P.Inx.number
-        (with_next_of P.Inx.number arena.old (Some i) next) (Some i) prev) (Between prev next) i }
+    requires before { IfSome (option_map P.Inx.number prev) (λ j. IsSome (entry_at arena.old j)) }
+    requires after { IfSome (option_map P.Inx.number next) (λ j. IsSome (entry_at arena.old j)) }
+    ensures { arena.new ≡ joined_to (with_prev_of
+        (with_next_of arena.old (Some (P.Inx.number i)) (option_map P.Inx.number next))
+        (Some (P.Inx.number i)) (option_map P.Inx.number prev))
+        (gap_by P.Inx.number (Between prev next)) (P.Inx.number i) }
 {
     set_next(arena, Some(i), next);
     set_prev(arena, Some(i), prev);
@@ -55,9 +59,9 @@ impl<P: PtrCore, T: Drop, S: ChainSlots<P, T>> ChainArena<P, T, S> {
     pub fn move_next_to(&mut self, p: P, q: P) -> Option<()>
         ensures variant { IsSome result ↔ ((IsSome (get self.old (P.index p) (P.generation p))
             × IsSome (get self.old (P.index q) (P.generation q))) × (P.index p ≢ P.index q)) }
-        ensures moved { OnSome result (IsMoved P.Inx.number (P.index p)
-            (gap_after P.Inx.number self.old (P.index p) (P.index q)) self.old self.new) }
-        ensures formed { IsChained P.Inx.number self.new }
+        ensures moved { OnSome result (IsMoved (P.index p)
+            (gap_after self.old (P.index p) (P.index q)) self.old self.new) }
+        ensures formed { IsChained self.new }
         ensures none { IfNone result (self.new ≡ self.old) }
     {
         if !self.can_move(p, q) {
@@ -71,13 +75,15 @@ impl<P: PtrCore, T: Drop, S: ChainSlots<P, T>> ChainArena<P, T, S> {
         Some(())
     }
 
-    /// Moves the link at `p` directly before the one at `q`, as `move_next_to` does behind it.
+    /// Moves the link at `p` directly before the one at `q`, under its pointer: what stood on both
+    /// sides of `p` is joined, and `p` follows what came before `q`. It returns `None`, and changes
+    /// nothing, if one of them is invalid, or if both are one.
     pub fn move_prev_to(&mut self, p: P, q: P) -> Option<()>
         ensures variant { IsSome result ↔ ((IsSome (get self.old (P.index p) (P.generation p))
             × IsSome (get self.old (P.index q) (P.generation q))) × (P.index p ≢ P.index q)) }
-        ensures moved { OnSome result (IsMoved P.Inx.number (P.index p)
-            (gap_before P.Inx.number self.old (P.index p) (P.index q)) self.old self.new) }
-        ensures formed { IsChained P.Inx.number self.new }
+        ensures moved { OnSome result (IsMoved (P.index p)
+            (gap_before self.old (P.index p) (P.index q)) self.old self.new) }
+        ensures formed { IsChained self.new }
         ensures none { IfNone result (self.new ≡ self.old) }
     {
         if !self.can_move(p, q) {
@@ -96,7 +102,7 @@ impl<P: PtrCore, T: Drop, S: ChainSlots<P, T>> ChainArena<P, T, S> {
     fn can_move(&self, p: P, q: P) -> bool
         ensures says { IsTrue result ↔ ((IsSome (get self.now (P.index p) (P.generation p))
             × IsSome (get self.now (P.index q) (P.generation q))) × (P.index p ≢ P.index q)) }
-        ensures formed { IsChained P.Inx.number self.now }
+        ensures formed { IsChained self.now }
     {
         // The interlinks agree.
         self.recall_chained();

@@ -1,9 +1,8 @@
 //! Links with their neighbors.
 ghost use Rattle.std.specs.Prelude.{◌≡◌, Some};
 ghost use Rattle.std.specs.Option.{option_map};
-ghost use Rattle.triple_arena.specs.Content.{get};
 ghost use Rattle.triple_arena_chain.specs.Kinds.{ends_by};
-ghost use Rattle.triple_arena_chain.specs.Links.{ends_found, ends_in, prev_next_of};
+ghost use Rattle.triple_arena_chain.specs.Links.{ends_found, ends_in};
 ghost use Rattle.triple_arena_chain.specs.Values.{ptr_to};
 
 use crate::{ChainArena, ChainSlots};
@@ -12,10 +11,8 @@ use triple_arena::{ArenaTrait, PtrCore};
 impl<P: PtrCore, T: Drop, S: ChainSlots<P, T>> ChainArena<P, T, S> {
     // The previous and the next index of the link that `p` points to.
     pub(crate) fn ends_of(&self, p: P) -> Option<(Option<P::Inx>, Option<P::Inx>)>
-        ensures value { result
-            ≡ option_map prev_next_of (get self.now (P.index p) (P.generation p)) }
-        ensures numbers { option_map (ends_by P.Inx.number) result
-            ≡ ends_found P.Inx.number self.now (P.index p) (P.generation p) }
+        ensures { option_map (ends_by P.Inx.number) result
+            ≡ ends_found self.now (P.index p) (P.generation p) }
     {
         match self.arena.get(p) {
             Some(link) => Some((link.prev(), link.next())),
@@ -25,8 +22,7 @@ impl<P: PtrCore, T: Drop, S: ChainSlots<P, T>> ChainArena<P, T, S> {
 
     // Those of the link at an index.
     pub(crate) fn ends_at(&self, i: P::Inx) -> Option<(Option<P::Inx>, Option<P::Inx>)>
-        ensures { option_map (ends_by P.Inx.number) result
-            ≡ ends_in P.Inx.number self.now (P.Inx.number i) }
+        ensures { option_map (ends_by P.Inx.number) result ≡ ends_in self.now (P.Inx.number i) }
     {
         match self.arena.get_inx(i) {
             Some((_, link)) => Some((link.prev(), link.next())),
@@ -37,7 +33,7 @@ impl<P: PtrCore, T: Drop, S: ChainSlots<P, T>> ChainArena<P, T, S> {
     // The pointer to the link at an index, if it is live.
     pub(crate) fn ptr_at(&self, at: Option<P::Inx>) -> Option<P>
         ensures { option_map (λ p. (P.index p, P.generation p)) result
-            ≡ ptr_to P.Inx.number self.now at }
+            ≡ ptr_to self.now (option_map P.Inx.number at) }
     {
         let i = at?;
         match self.arena.get_inx(i) {

@@ -8,7 +8,7 @@ use crate::{ChainArena, ChainSlots, IndexLink};
 use triple_arena::{ArenaTrait, PtrCore, PtrInxCore, Recast, Recaster};
 use triple_arena_ptr::OptionalInx;
 
-/// The items are those of the value.
+/// A recast renames the items that the value holds.
 impl<N, I: PtrInxCore<Word = W>, W: Copy, T: Recast<N>> Recast<N>
     for IndexLink<OptionalInx<I, W>, T> {
     ghost items = { link_items T.items };
@@ -22,7 +22,8 @@ impl<N, I: PtrInxCore<Word = W>, W: Copy, T: Recast<N>> Recast<N>
     }
 }
 
-/// The items are those of the values, in the order of the indexes. The interlinks stay.
+/// A recast renames the items that the values hold, in the order of the indexes. The interlinks
+/// stay.
 impl<N, P: PtrCore, T: Recast<N> + Drop, S: ChainSlots<P, T>> Recast<N> for ChainArena<P, T, S> {
     ghost items = { content_items (link_items T.items) };
 

@@ -30,14 +30,13 @@ pub struct ChainPtrAdvancer<P: PtrCore> {
 }
 
 impl<P: PtrCore> Model for ChainPtrAdvancer<P> {
-    ghost use Rattle.std.specs.Option.{option_map};
     ghost use Rattle.triple_arena_chain.specs.Walks.{ChainWalk};
 
     ghost Value = { ChainWalk };
 
     ghost view = { λ a. record {
       start = P.index a.start;
-      at = option_map P.Inx.number a.at;
+      at = a.at;
       back = a.back;
     } };
 }
@@ -61,14 +60,13 @@ impl<P: PtrCore> ChainPtrAdvancer<P> {
         prev: OptionalInx<P::Inx, <P::Inx as PtrInxCore>::Word>,
         next: OptionalInx<P::Inx, <P::Inx as PtrInxCore>::Word>,
     )
-        ensures { (i : ℕ) → ends_in P.Inx.number chains.now i
-            ≡ Some (option_map P.Inx.number prev, option_map P.Inx.number next)
-            → self.new ≡ past_index (ends_in P.Inx.number chains.now) self.old i }
+        ensures { (i : ℕ) → ends_in chains.now i ≡ Some (prev, next)
+            → self.new ≡ past_index (ends_in chains.now) self.old i }
     {
         let start = self.start.inx();
         if self.back {
             self.at = prev;
-        } else if next == OptionalInx::some(start) {
+        } else if next.get() == Some(start) {
             self.at = OptionalInx::none();
         } else if next.is_none() {
             self.at = OptionalInx::of(chains.prev_of(start));
@@ -85,7 +83,7 @@ impl<P: PtrCore, T: Drop, S: ChainSlots<P, T>> Advancer<ChainArena<P, T, S>>
 
     ghost remaining = { λ a _. left_to a.at };
 
-    ghost advance_gives = { λ before c given after. ChainSteps (ends_in P.Inx.number c)
+    ghost advance_gives = { λ before c given after. ChainSteps (ends_in c)
         (values_in c)
         before (option_map (λ p. (P.index p, P.generation p)) given) after };
 
@@ -115,8 +113,7 @@ impl<P: PtrCore, T: Drop, S: ChainSlots<P, T>> Advancer<ChainArena<P, T, S>>
 impl<P: PtrCore, T: Drop, S: ChainSlots<P, T>> ChainArena<P, T, S> {
     // The previous index of the link at an index.
     pub(crate) fn prev_of(&self, i: P::Inx) -> Option<P::Inx>
-        ensures { option_map P.Inx.number result
-            ≡ prev_at (ends_in P.Inx.number self.now) (P.Inx.number i) }
+        ensures { option_map P.Inx.number result ≡ prev_at (ends_in self.now) (P.Inx.number i) }
     {
         match self.ends_at(i) {
             Some((prev, _)) => prev,

@@ -26,6 +26,7 @@ use crate::ord_arena::mapping::compact_nodes;
 use crate::ord_arena::removal::neighbors;
 use crate::rebuild::rebuild;
 use crate::{OrdSlots, SimpleOrdArena};
+use proof_marks::recall;
 use triple_arena::arena_iterators::PtrAdvancer;
 use triple_arena::{
     ArenaTrait, CompactArenaTrait, InvalidationOption, InvalidationResult, PtrCore,
@@ -37,7 +38,7 @@ impl<P: PtrCore, T: Drop, S: OrdSlots<P, T>> SimpleOrdArena<P, T, S> {
     // Tells the proof what holds of every ordered arena. It does nothing.
     #[inline(always)]
     fn recall_formed(&self)
-        ensures { IsFormed P.Inx.number self.now }
+        ensures { IsFormed self.now }
     {
         let _len = self.chains.len();
     }
@@ -70,7 +71,7 @@ impl<P: PtrCore, T: Drop, S: OrdSlots<P, T>> ArenaTrait<P, T> for SimpleOrdArena
 
     ghost with_value = { with_item };
 
-    ghost is_removed = { λ o i new. IsEntryRemoved P.Inx.number P.Gen.last i o new };
+    ghost is_removed = { λ o i new. IsEntryRemoved P.Gen.last i o new };
 
     ghost invalidated = { invalidated_in P.Gen.last };
 
@@ -78,10 +79,10 @@ impl<P: PtrCore, T: Drop, S: OrdSlots<P, T>> ArenaTrait<P, T> for SimpleOrdArena
 
     ghost drained = { drained_in P.Gen.last };
 
-    ghost is_compressed = { λ o reset items new. IsCompressedInOrder P.Inx.number P.Gen.last reset
+    ghost is_compressed = { λ o reset items new. IsCompressedInOrder P.Gen.last reset
         items o new };
 
-    ghost is_formed = { IsFormed P.Inx.number };
+    ghost is_formed = { IsFormed };
 
     ghost walk = { λ a. a };
 
@@ -107,7 +108,7 @@ impl<P: PtrCore, T: Drop, S: OrdSlots<P, T>> ArenaTrait<P, T> for SimpleOrdArena
 
     ghost room_with_value = { room-with_item };
 
-    ghost drains = { drained-leaves _ _ P.Gen.last };
+    ghost drains = { drained-leaves _ P.Gen.last };
 
     fn new(alloc: S::Alloc) -> Self {
         SimpleOrdArena {
@@ -216,7 +217,7 @@ impl<P: PtrCore, T: Drop, S: OrdSlots<P, T>> ArenaTrait<P, T> for SimpleOrdArena
         self.last = ends.1;
         self.root = rebuild(&mut self.chains, ends.0);
         // The links are as they must be.
-        let _ = self.chains.len();
+        recall!(self.chains.len());
         answer
     }
 }

@@ -95,8 +95,8 @@ impl<P: PtrCore, T: Drop, S: OrdSlots<P, T>> SimpleOrdArena<P, T, S> {
     ) -> bool
     where
         T: PartialEq,
-        ensures { result ≡ pointwise (by_item T.eq) (ordered_entries P.Inx.number self.now)
-            (ordered_entries Q.Inx.number other.now) }
+        ensures { result ≡ pointwise (by_item T.eq) (ordered_entries self.now)
+            (ordered_entries other.now) }
     {
         same(self.iter_ordered(), other.iter_ordered())
     }
@@ -110,7 +110,7 @@ impl<P: PtrCore, T: Drop, S: OrdSlots<P, T>> SimpleOrdArena<P, T, S> {
     where
         T: PartialOrd,
         ensures { result ≡ slice_partial_cmp (by_item T.partial_cmp)
-            (ordered_entries P.Inx.number self.now) (ordered_entries Q.Inx.number other.now) }
+            (ordered_entries self.now) (ordered_entries other.now) }
     {
         partial_order(self.iter_ordered(), other.iter_ordered())
     }
@@ -123,8 +123,8 @@ impl<P: PtrCore, T: Drop, S: OrdSlots<P, T>> SimpleOrdArena<P, T, S> {
     ) -> Ordering
     where
         T: Ord,
-        ensures { result ≡ slice_cmp (by_item T.cmp) (ordered_entries P.Inx.number self.now)
-            (ordered_entries Q.Inx.number other.now) }
+        ensures { result ≡ slice_cmp (by_item T.cmp) (ordered_entries self.now)
+            (ordered_entries other.now) }
     {
         order(self.iter_ordered(), other.iter_ordered())
     }

@@ -11,6 +11,7 @@ ghost use Rattle.triple_arena_ord.specs.CanonicalLayout.{IsLaidInOrder};
 
 use crate::rebuild_run::rebuild_run;
 use crate::{OrdSlots, SimpleOrdArena};
+use proof_marks::recall;
 use std::num::NonZeroUsize;
 use triple_arena::{ArenaTrait, InvalidationOption, PtrCore, PtrInxCore};
 
@@ -31,17 +32,16 @@ pub(crate) fn ends_of_run<I: PtrInxCore>(len: usize) -> (Option<I>, Option<I>)
 
 impl<P: PtrCore, T: Drop, S: OrdSlots<P, T>> SimpleOrdArena<P, T, S> {
     /// Moves the entries to the indexes from 1 on, in the order of the list, and writes the tree
-    /// anew. The generations are renewed as by a compression, and so is the answer. No memory is
-    /// taken.
+    /// anew. The generations and the answer are as by `compress`. No memory is taken.
     pub fn compress_canonical(&mut self, reset: bool) -> InvalidationOption<()>
         ensures overflow { overflowed result
             ≡ renewal_wraps P.Gen.last reset self.old.chains.counter }
-        ensures laid { IsLaidInOrder P.Inx.number P.Gen.last reset self.old self.new }
-        ensures ordered { IsOrdered P.Inx.number self.new }
+        ensures laid { IsLaidInOrder P.Gen.last reset self.old self.new }
+        ensures ordered { IsOrdered self.new }
     {
         let answer = self.chains.compress_canonical(reset);
         // So many indexes are the pointers'.
-        let _ = self.chains.capacity();
+        recall!(self.chains.capacity());
         let (first, last) = ends_of_run(self.chains.len());
         self.first = first;
         self.last = last;

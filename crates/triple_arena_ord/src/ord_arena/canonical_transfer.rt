@@ -13,6 +13,7 @@ use crate::ord_arena::canonical_layout::ends_of_run;
 use crate::ord_arena::link_moves::move_items;
 use crate::rebuild_run::rebuild_run;
 use crate::{OrdSlots, SimpleOrdArena, SimpleOrdArenaNode};
+use proof_marks::recall;
 use triple_arena::{ArenaTrait, InvalidationOption, PtrCore, ReallocationError};
 use triple_arena_chain::ChainArena;
 
@@ -25,7 +26,7 @@ impl<P: PtrCore, T: Drop, S: OrdSlots<P, T>> SimpleOrdArena<P, T, S> {
     /// `map` is called once for each entry, along the list, with the pointer that it had in
     /// `source`, the item, and the pointer that it gets. `source` is left with no entry and no slot
     /// in the room that it had, and its counter is stepped once for each entry: if that step
-    /// started the generations again, `map` gets the item as a `GenerationOverflow`.
+    /// wrapped, `map` gets the item as a `GenerationOverflow`.
     ///
     /// A pointer of what this arena held before may find an entry that came in, if `new_generation`
     /// is its generation.
@@ -46,13 +47,13 @@ impl<P: PtrCore, T: Drop, S: OrdSlots<P, T>> SimpleOrdArena<P, T, S> {
         F: FnMut(Q, InvalidationOption<U>, P) -> T,
         requires { F.IsAlwaysCallable map }
         ensures moved { OnOk result (IsTransferredInOrder Q.index Q.generation P.index P.generation
-            Q.Inx.number P.Inx.number F.step map Q.Gen.last source.old self.new) }
+            F.step map Q.Gen.last source.old self.new) }
         ensures filled { OnOk result (IsFilled entry_in size_in counter_in room_in indexed
             (size_in source.old) (P.Gen.number new_generation)
             (room_with (size_in source.old) (room_in self.old)) self.old self.new) }
         ensures source_exact { OnOk result (source.new ≡ drained_in Q.Gen.last source.old) }
-        ensures ordered { IsOrdered P.Inx.number self.new }
-        ensures source_ordered { IsOrdered Q.Inx.number source.new }
+        ensures ordered { IsOrdered self.new }
+        ensures source_ordered { IsOrdered source.new }
 
         // No memory is asked for if the entries fit.
         ensures succeeds { size_in source.old ≤ capacity_of (room_in self.old) → IsOk result }
@@ -78,7 +79,7 @@ impl<P: PtrCore, T: Drop, S: OrdSlots<P, T>> SimpleOrdArena<P, T, S> {
         source.first = None;
         source.last = None;
         // So many indexes are the pointers'.
-        let _ = self.chains.capacity();
+        recall!(self.chains.capacity());
         let (first, last) = ends_of_run(self.chains.len());
         self.first = first;
         self.last = last;

@@ -12,7 +12,7 @@ impl<P: PtrCore, T: SimpleOrdItem + Drop, S: OrdSlots<P, T>> SimpleOrdArena<P, T
     /// ordering". All else that an arena keeps, its tree, ranks and list, needs no look: no call
     /// can break it.
     pub fn _check_invariants(this: &Self) -> Result<(), &'static str>
-        ensures ascends { IsOk result ↔ IsAscending P.Inx.number T.Key.cmp T.key_of this.now }
+        ensures ascends { IsOk result ↔ IsAscending T.Key.cmp T.key_of this.now }
         ensures error { IfErr result (λ e. e.now ≡ codes "incorrect ordering") }
     {
         let Some(first) = this.first else {

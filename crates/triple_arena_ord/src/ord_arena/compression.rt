@@ -27,11 +27,11 @@ fn noted<I: PtrInxCore>(end: Option<I>, neighbor: Option<I>, i: I) -> Option<I>
 pub(crate) fn ends_of_list<P: PtrCore, T: Drop, S: OrdSlots<P, T>>(
     chains: &ChainArena<P, SimpleOrdArenaNode<P, T>, S>,
 ) -> (Option<P::Inx>, Option<P::Inx>)
-    ensures first { (w : List ℕ) → IsLinear (ends_in P.Inx.number chains.now) w
-        → ((k : ℕ) → IsSome (ends_in P.Inx.number chains.now k) → On w k)
+    ensures first { (w : List ℕ) → IsLinear (ends_in chains.now) w
+        → ((k : ℕ) → IsSome (ends_in chains.now k) → On w k)
         → option_map P.Inx.number result.0 ≡ first_or w None }
-    ensures last { (w : List ℕ) → IsLinear (ends_in P.Inx.number chains.now) w
-        → ((k : ℕ) → IsSome (ends_in P.Inx.number chains.now k) → On w k)
+    ensures last { (w : List ℕ) → IsLinear (ends_in chains.now) w
+        → ((k : ℕ) → IsSome (ends_in chains.now k) → On w k)
         → option_map P.Inx.number result.1 ≡ last_or None w }
 {
     let mut first = None;

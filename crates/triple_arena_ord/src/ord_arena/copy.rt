@@ -34,9 +34,9 @@ impl<P: PtrCore, T: Drop, S: OrdSlots<P, T>> LinkCloneSource<P> for SimpleOrdAre
 
     ghost links = { λ o. o.chains };
 
-    ghost ends = { λ o. ends_in P.Inx.number o.chains };
+    ghost ends = { λ o. ends_in o.chains };
 
-    ghost linked = { λ o i. listed_ends-is P.Inx.number o.chains i };
+    ghost linked = { λ o i. listed_ends-is o.chains i };
 
     fn links(&self) -> &Arena<P, LinkNoGen<P, SimpleOrdArenaNode<P, T>>, S> {
         self.chains.links()
@@ -60,11 +60,10 @@ impl<P: PtrCore, T: Drop, S: OrdSlots<P, T>> SimpleOrdArena<P, T, S> {
         requires { F.IsAlwaysCallable map }
         ensures mapped { OnOk result (IsMappedCopy P.index P.generation F.step map
             (indexed self.now) (listed_values target.new)) }
-        ensures copied { OnOk result (IsChainCopy P.Inx.number (entry_at self.now.chains)
+        ensures copied { OnOk result (IsChainCopy (entry_at self.now.chains)
             (size_in self.now) (last_inx self.now) (counter_in self.now)
-            (ends_in P.Inx.number self.now.chains) target.old target.new) }
-        ensures list { OnOk result (IsLinear (ends_in P.Inx.number target.new)
-            (order_in P.Inx.number self.now)) }
+            (ends_in self.now.chains) target.old target.new) }
+        ensures list { OnOk result (IsLinear (ends_in target.new) (order_in self.now)) }
         ensures succeeds { last_inx self.now ≤ capacity_of (chain_room target.old)
             → NeverRefuses F.step → IsOk result }
         ensures beyond { IsErrOf result ReallocationError.BeyondMaxCapacity
@@ -77,7 +76,7 @@ impl<P: PtrCore, T: Drop, S: OrdSlots<P, T>> SimpleOrdArena<P, T, S> {
             (λ c. cleared P.Gen.last (reallocated c (last_inx self.now)))
             (IsRefusedCopy P.index P.generation F.step map (indexed self.now))
             target.old target.new }
-        ensures formed { IsChained P.Inx.number target.new }
+        ensures formed { IsChained target.new }
     {
         copy_items::<
             P,
@@ -101,7 +100,7 @@ impl<P: PtrCore, T: Clone, S: OrdSlots<P, T>> SimpleOrdArena<P, T, S> {
     pub fn clone(&self, alloc: S::Alloc) -> Result<Self, ReallocationError>
         requires { (x y : T) → T.is_clone x y → y ≡ x }
         ensures cloned { IfOk result
-            (λ o. IsClone P.Inx.number (empty (second_generation P.Gen.last)
+            (λ o. IsClone (empty (second_generation P.Gen.last)
             (room_of P.Inx.greatest (S.room_at (last_inx self.now)))) self.now o) }
         ensures succeeds { last_inx self.now ≤ capacity_of (room_of P.Inx.greatest (S.room_at 0))
             → ((x : T) → T.is_infallible x) → IsOk result }
@@ -112,7 +111,7 @@ impl<P: PtrCore, T: Clone, S: OrdSlots<P, T>> SimpleOrdArena<P, T, S> {
             → (IsTrue S.takes_memory
             × (capacity_of (room_of P.Inx.greatest (S.room_at 0)) < last_inx self.now))
             ⊎ MayRefuse T.is_infallible (indexed self.now) }
-        ensures ordered { IfOk result (λ o. IsOrdered P.Inx.number o) }
+        ensures ordered { IfOk result (λ o. IsOrdered o) }
     {
         match self.chains.clone(alloc) {
             Ok(chains) => Ok(SimpleOrdArena {
@@ -138,7 +137,7 @@ impl<P: PtrCore, T: Clone, S: OrdSlots<P, T>> SimpleOrdArena<P, T, S> {
     /// index and cleared.
     pub fn clone_from(&mut self, source: &Self) -> Result<(), ReallocationError>
         requires { (x y : T) → T.is_clone x y → y ≡ x }
-        ensures cloned { OnOk result (IsClone P.Inx.number self.old.chains source.now self.new) }
+        ensures cloned { OnOk result (IsClone self.old.chains source.now self.new) }
         ensures succeeds { last_inx source.now ≤ capacity_of (room_in self.old)
             → ((x : T) → T.is_infallible x) → IsOk result }
         ensures beyond { IsErrOf result ReallocationError.BeyondMaxCapacity
@@ -148,7 +147,7 @@ impl<P: PtrCore, T: Clone, S: OrdSlots<P, T>> SimpleOrdArena<P, T, S> {
             → IsUnmadeCopy entry_in size_in counter_in room_in S.takes_memory P.Gen.last
             (last_inx source.now) (emptied_to P.Gen.last (last_inx source.now))
             (MayRefuse T.is_infallible (indexed source.now)) self.old self.new }
-        ensures ordered { IsOrdered P.Inx.number self.new }
+        ensures ordered { IsOrdered self.new }
     {
         match self.chains.clone_from(&source.chains) {
             Ok(()) => {

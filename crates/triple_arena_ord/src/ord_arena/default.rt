@@ -17,7 +17,7 @@ impl<P: PtrCore, T: Drop, const LIMIT: usize> Default
     > {
     ghost is_default = { λ o. (o.chains ≡ empty (second_generation P.Gen.last)
         (room_of P.Inx.greatest (record { reserved = LIMIT; limit = Some LIMIT })))
-        × IsOrdered P.Inx.number o };
+        × IsOrdered o };
 
     /// An arena without an entry, in an array.
     fn default() -> Self {

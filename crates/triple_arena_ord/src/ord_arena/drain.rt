@@ -13,8 +13,8 @@ use triple_arena::{ArenaTrait, InvalidationOption, PtrCore};
 /// Takes the entries out of an arena, from the first of the list to the last.
 ///
 /// Each item is one removal, which steps the counter; it is `GenerationOverflow` if that step
-/// started the generations again. Dropped, at whatever item, it clears the arena: the entries that
-/// are left go at once, by one step of the counter more, which is made also if none is left, and no
+/// wrapped. If the iterator is dropped, at whatever item, it clears the arena: the entries that are
+/// left go at once, by one step of the counter more, which is made also if none is left, and no
 /// slot stays.
 pub struct OrderedDrain<'a, P: PtrCore, T: Drop, S: OrdSlots<P, T>> {
     arena: &'a mut SimpleOrdArena<P, T, S>,
@@ -27,7 +27,7 @@ impl<P: PtrCore, T: Drop, S: OrdSlots<P, T>> SimpleOrdArena<P, T, S> {
     pub fn drain_ordered(&mut self) -> OrderedDrain<'_, P, T, S>
         ensures entries { drain_arena result ≡ self.old }
         ensures same_reference { drain_lender result ≡ self.entry.ghost_name }
-        ensures stays { DrainKeepsAlong P.Gen.last P.Inx.number P.index P.generation result }
+        ensures stays { DrainKeepsAlong P.Gen.last P.index P.generation result }
     {
         OrderedDrain { arena: self }
     }
@@ -36,7 +36,7 @@ impl<P: PtrCore, T: Drop, S: OrdSlots<P, T>> SimpleOrdArena<P, T, S> {
 impl<'a, P: PtrCore, T: Drop, S: OrdSlots<P, T>> Drop for OrderedDrain<'a, P, T, S> {
     fn drop(self)
         ensures value { self.exit.0.now ≡ drain_leaves P.Gen.last self.entry }
-        ensures ordered { IsOrdered P.Inx.number self.exit.0.now }
+        ensures ordered { IsOrdered self.exit.0.now }
     {
         let OrderedDrain { arena } = self;
         drop(arena.clear());
@@ -46,19 +46,17 @@ impl<'a, P: PtrCore, T: Drop, S: OrdSlots<P, T>> Drop for OrderedDrain<'a, P, T,
 impl<'a, P: PtrCore, T: Drop, S: OrdSlots<P, T>> Iterator for OrderedDrain<'a, P, T, S> {
     type Item = InvalidationOption<(P, T)>;
 
-    ghost next_gives = { DrainSteps P.Gen.last P.Inx.number P.index P.generation };
+    ghost next_gives = { DrainSteps P.Gen.last P.index P.generation };
 
-    ghost remaining = { item_count (drain_rest P.Gen.last P.Inx.number) };
+    ghost remaining = { item_count (drain_rest P.Gen.last) };
 
     fn next(&mut self) -> Option<InvalidationOption<(P, T)>> {
         self.arena.pop_first()
     }
 
     fn size_hint(&self) -> (usize, Option<usize>)
-        ensures lower { IsWithinCount result.0
-            (item_count (drain_rest P.Gen.last P.Inx.number) self.now) }
-        ensures upper { IfSome result.1
-            (UpTo (item_count (drain_rest P.Gen.last P.Inx.number) self.now)) }
+        ensures lower { IsWithinCount result.0 (item_count (drain_rest P.Gen.last) self.now) }
+        ensures upper { IfSome result.1 (UpTo (item_count (drain_rest P.Gen.last) self.now)) }
         ensures exact { result
             ≡ (size_in (drain_arena self.now), Some (size_in (drain_arena self.now))) }
     {

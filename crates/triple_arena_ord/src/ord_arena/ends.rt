@@ -13,18 +13,16 @@ use triple_arena::PtrCore;
 impl<P: PtrCore, T: Drop, S: OrdSlots<P, T>> SimpleOrdArena<P, T, S> {
     // The index of the first entry.
     pub(crate) fn first_index(&self) -> Option<P::Inx>
-        ensures at { option_map P.Inx.number result
-            ≡ first_or (order_in P.Inx.number self.now) None }
-        ensures ordered { IsOrdered P.Inx.number self.now }
+        ensures at { option_map P.Inx.number result ≡ first_or (order_in self.now) None }
+        ensures ordered { IsOrdered self.now }
     {
         self.first
     }
 
     // The index of the last entry.
     pub(crate) fn last_index(&self) -> Option<P::Inx>
-        ensures at { option_map P.Inx.number result
-            ≡ last_or None (order_in P.Inx.number self.now) }
-        ensures ordered { IsOrdered P.Inx.number self.now }
+        ensures at { option_map P.Inx.number result ≡ last_or None (order_in self.now) }
+        ensures ordered { IsOrdered self.now }
     {
         self.last
     }
@@ -42,8 +40,7 @@ impl<P: PtrCore, T: Drop, S: OrdSlots<P, T>> SimpleOrdArena<P, T, S> {
 
     /// The pointer to the first entry of the list, or `None` if there is no entry.
     pub fn first(&self) -> Option<P>
-        ensures { IsEnd P.index P.generation (first_or (order_in P.Inx.number self.now) None)
-            result self.now }
+        ensures { IsEnd P.index P.generation (first_or (order_in self.now) None) result self.now }
     {
         match self.first_index() {
             Some(i) => Some(self.ptr_to(i)),
@@ -53,8 +50,7 @@ impl<P: PtrCore, T: Drop, S: OrdSlots<P, T>> SimpleOrdArena<P, T, S> {
 
     /// The pointer to the last entry of the list, or `None` if there is no entry.
     pub fn last(&self) -> Option<P>
-        ensures { IsEnd P.index P.generation (last_or None (order_in P.Inx.number self.now))
-            result self.now }
+        ensures { IsEnd P.index P.generation (last_or None (order_in self.now)) result self.now }
     {
         match self.last_index() {
             Some(i) => Some(self.ptr_to(i)),

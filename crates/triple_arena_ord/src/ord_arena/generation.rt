@@ -19,16 +19,16 @@ impl<P: PtrCore, T: Drop, S: OrdSlots<P, T>> SimpleOrdArena<P, T, S> {
     /// Sets the counter. A pointer that ended may be given again if the counter goes back.
     pub fn set_generation(&mut self, generation: P::Gen)
         ensures exact { self.new ≡ with_counter_in self.old (P.Gen.number generation) }
-        ensures ordered { IsOrdered P.Inx.number self.new }
+        ensures ordered { IsOrdered self.new }
     {
         self.chains.set_generation(generation);
     }
 
-    /// Steps the counter once, as a removal does, and says whether the generations started again.
+    /// Steps the counter once, as a removal does, and says whether the generations wrapped.
     pub fn inc_generation(&mut self) -> InvalidationOption<()>
         ensures exact { self.new ≡ stepped_in P.Gen.last self.old }
         ensures overflow { overflowed result ≡ next_wraps P.Gen.last self.old.chains.counter }
-        ensures ordered { IsOrdered P.Inx.number self.new }
+        ensures ordered { IsOrdered self.new }
     {
         self.chains.inc_generation()
     }

@@ -4,9 +4,9 @@ ghost use Rattle.triple_arena.specs.Entries.{value_if};
 ghost use Rattle.triple_arena_ord.specs.Ordered.{entry_in};
 
 use crate::{OrdSlots, SimpleOrdArena};
+use proof_marks::unreached;
 use std::ops::{Index, IndexMut};
 use triple_arena::{ArenaTrait, PtrCore};
-use unreached::unreached;
 
 impl<P: PtrCore, T: Drop, S: OrdSlots<P, T>> Index<P> for SimpleOrdArena<P, T, S> {
     type Output = T;

@@ -2,7 +2,7 @@
 ghost use Rattle.std.specs.Prelude.{◌≡◌, ◌↔◌, ◌<◌, Some, None, IsTrue, IsSome, IfSome};
 ghost use Rattle.std.specs.Option.{option_map};
 ghost use Rattle.triple_arena.specs.Content.{arena_capacity};
-ghost use Rattle.triple_arena_ord.specs.Node.{knots_in};
+ghost use Rattle.triple_arena_ord.specs.Node.{nodes_in};
 ghost use Rattle.rank_tree.specs.Search.{IsFreeAt};
 ghost use Rattle.triple_arena_ord.specs.Ordered.{IsOrdered, size_in};
 ghost use Rattle.triple_arena_ord.specs.Inserted.{IsRenewed, IsReplaced, Replaces};
@@ -16,13 +16,13 @@ mod placing;
 mod settle;
 
 use crate::{OrdSlots, SimpleOrdArena, SimpleOrdArenaNode, SimpleOrdItem};
+use proof_marks::unreached;
 use rank_tree::Side;
 use std::cmp::Ordering;
 use std::mem;
 use triple_arena::{ArenaTrait, PtrCore, PtrInxCore, ReallocationError};
 use triple_arena_chain::ChainArena;
 use triple_arena_ptr::{OrdInsertionError, Probes};
-use unreached::unreached;
 
 // Another item in a node, and the one that it had.
 fn renew<P: PtrCore, T: Drop, S: OrdSlots<P, T>>(
@@ -30,9 +30,9 @@ fn renew<P: PtrCore, T: Drop, S: OrdSlots<P, T>>(
     i: P::Inx,
     t: T,
 ) -> (P, T)
-    requires { IsSome (knots_in P.Inx.number chains.old (P.Inx.number i)) }
+    requires { IsSome (nodes_in chains.old (P.Inx.number i)) }
     ensures index { P.index result.0 ≡ P.Inx.number i }
-    ensures renewed { IsRenewed P.Inx.number (P.index result.0)
+    ensures renewed { IsRenewed (P.index result.0)
         (P.generation result.0) t result.1 chains.old chains.new }
 {
     match chains.get_inx(i) {
@@ -71,11 +71,11 @@ pub(crate) fn replaces<I: PtrInxCore>(place: Option<(I, Ordering)>) -> bool
 impl<P: PtrCore, T: Drop, S: OrdSlots<P, T>> SimpleOrdArena<P, T, S> {
     // Another item at an index, and the one that stood there.
     pub(crate) fn replace_item(&mut self, i: P::Inx, t: T) -> (P, T)
-        requires { IsSome (knots_in P.Inx.number self.old.chains (P.Inx.number i)) }
+        requires { IsSome (nodes_in self.old.chains (P.Inx.number i)) }
         ensures index { P.index result.0 ≡ P.Inx.number i }
-        ensures replaced { IsReplaced P.Inx.number (P.index result.0)
+        ensures replaced { IsReplaced (P.index result.0)
             (P.generation result.0) t result.1 self.old self.new }
-        ensures ordered { IsOrdered P.Inx.number self.new }
+        ensures ordered { IsOrdered self.new }
     {
         renew(&mut self.chains, i, t)
     }
@@ -84,11 +84,11 @@ impl<P: PtrCore, T: Drop, S: OrdSlots<P, T>> SimpleOrdArena<P, T, S> {
     #[inline(always)]
     pub(crate) fn put_at(&mut self, place: Option<(P::Inx, Ordering)>, t: T) -> P
         requires free { IfSome place
-            (λ a. IsFreeAt a.1 (knots_in P.Inx.number self.old.chains (P.Inx.number a.0))) }
+            (λ a. IsFreeAt a.1 (nodes_in self.old.chains (P.Inx.number a.0))) }
         requires empty { place ≡ None → self.old.root ≡ None }
         requires new { Replaces (option_map (λ a. (P.Inx.number a.0, a.1)) place) → ⊥ }
         requires room { size_in self.old < arena_capacity self.old.chains }
-        ensures { AddsAt P.Inx.number (option_map (λ a. (P.Inx.number a.0, a.1)) place)
+        ensures { AddsAt (option_map (λ a. (P.Inx.number a.0, a.1)) place)
             (P.index result) (P.generation result) t self.old self.new }
     {
         match place {
@@ -109,10 +109,10 @@ impl<P: PtrCore, T: Drop, S: OrdSlots<P, T>> SimpleOrdArena<P, T, S> {
         t: T,
     ) -> Result<(P, Option<T>), OrdInsertionError>
         requires free { IfSome place
-            (λ a. IsFreeAt a.1 (knots_in P.Inx.number self.old.chains (P.Inx.number a.0))) }
+            (λ a. IsFreeAt a.1 (nodes_in self.old.chains (P.Inx.number a.0))) }
         requires empty { place ≡ None → self.old.root ≡ None }
         requires new { Replaces (option_map (λ a. (P.Inx.number a.0, a.1)) place) → ⊥ }
-        ensures { InsertsAt P.Inx.number P.index P.generation None
+        ensures { InsertsAt P.index P.generation None
             (option_map (λ a. (P.Inx.number a.0, a.1)) place) t result self.old self.new }
     {
         if self.chains.len() >= self.chains.capacity() {
@@ -129,10 +129,10 @@ impl<P: PtrCore, T: Drop, S: OrdSlots<P, T>> SimpleOrdArena<P, T, S> {
         t: T,
     ) -> Result<(P, Option<T>), OrdInsertionError>
         requires free { IfSome place
-            (λ a. IsFreeAt a.1 (knots_in P.Inx.number self.old.chains (P.Inx.number a.0))) }
+            (λ a. IsFreeAt a.1 (nodes_in self.old.chains (P.Inx.number a.0))) }
         requires empty { place ≡ None → self.old.root ≡ None }
         requires new { Replaces (option_map (λ a. (P.Inx.number a.0, a.1)) place) → ⊥ }
-        ensures { InsertsAt P.Inx.number P.index P.generation (Some S.takes_memory)
+        ensures { InsertsAt P.index P.generation (Some S.takes_memory)
             (option_map (λ a. (P.Inx.number a.0, a.1)) place) t result self.old self.new }
     {
         match self.make_room() {
@@ -149,9 +149,9 @@ impl<P: PtrCore, T: Drop, S: OrdSlots<P, T>> SimpleOrdArena<P, T, S> {
         t: T,
     ) -> Result<(P, Option<T>), OrdInsertionError>
         requires free { IfSome place
-            (λ a. IsFreeAt a.1 (knots_in P.Inx.number self.old.chains (P.Inx.number a.0))) }
+            (λ a. IsFreeAt a.1 (nodes_in self.old.chains (P.Inx.number a.0))) }
         requires empty { place ≡ None → self.old.root ≡ None }
-        ensures { InsertsAt P.Inx.number P.index P.generation None
+        ensures { InsertsAt P.index P.generation None
             (option_map (λ a. (P.Inx.number a.0, a.1)) place) t result self.old self.new }
     {
         if let Some((i, Ordering::Equal)) = place {
@@ -168,9 +168,9 @@ impl<P: PtrCore, T: Drop, S: OrdSlots<P, T>> SimpleOrdArena<P, T, S> {
         t: T,
     ) -> Result<(P, Option<T>), OrdInsertionError>
         requires free { IfSome place
-            (λ a. IsFreeAt a.1 (knots_in P.Inx.number self.old.chains (P.Inx.number a.0))) }
+            (λ a. IsFreeAt a.1 (nodes_in self.old.chains (P.Inx.number a.0))) }
         requires empty { place ≡ None → self.old.root ≡ None }
-        ensures { InsertsAt P.Inx.number P.index P.generation (Some S.takes_memory)
+        ensures { InsertsAt P.index P.generation (Some S.takes_memory)
             (option_map (λ a. (P.Inx.number a.0, a.1)) place) t result self.old self.new }
     {
         if replaces(place) {
@@ -186,7 +186,7 @@ impl<P: PtrCore, T: SimpleOrdItem + Drop, S: OrdSlots<P, T>> SimpleOrdArena<P, T
     /// is room. Else there is a new entry; `NotWithinCapacity`, if there is no room for it, changes
     /// nothing, and `t` is dropped. A list whose keys ascend still does.
     pub fn insert_within_capacity(&mut self, t: T) -> Result<(P, Option<T>), OrdInsertionError>
-        ensures { InsertsByKey P.Inx.number T.Key.cmp T.key_of P.index P.generation None
+        ensures { InsertsByKey T.Key.cmp T.key_of P.index P.generation None
             t result self.old self.new }
     {
         let place = self.seek(t.key(), &mut Probes::new());
@@ -199,16 +199,19 @@ impl<P: PtrCore, T: SimpleOrdItem + Drop, S: OrdSlots<P, T>> SimpleOrdArena<P, T
     /// entries are live as the greatest capacity, and `AllocError`, if the memory was refused,
     /// change nothing, and `t` is dropped.
     pub fn insert_reallocating(&mut self, t: T) -> Result<(P, Option<T>), OrdInsertionError>
-        ensures { InsertsByKey P.Inx.number T.Key.cmp T.key_of P.index P.generation
+        ensures { InsertsByKey T.Key.cmp T.key_of P.index P.generation
             (Some S.takes_memory) t result self.old self.new }
     {
         let found = self.seek(t.key(), &mut Probes::new());
         self.insert_at_reallocating(found, t)
     }
 
-    /// Puts an item in by its key, and grows: another name of `insert_reallocating`.
+    /// Puts an item in by its key, and returns the pointer to it, and the item that it replaced if
+    /// an entry with an equal key is found: another name of `insert_reallocating`. If there is no
+    /// room for a new entry, the arena grows. `BeyondMaxCapacity` and `AllocError` change nothing,
+    /// and `t` is dropped.
     pub fn insert(&mut self, t: T) -> Result<(P, Option<T>), OrdInsertionError>
-        ensures { InsertsByKey P.Inx.number T.Key.cmp T.key_of P.index P.generation
+        ensures { InsertsByKey T.Key.cmp T.key_of P.index P.generation
             (Some S.takes_memory) t result self.old self.new }
     {
         self.insert_reallocating(t)

@@ -22,7 +22,7 @@ impl<P: PtrCore, T: Drop, S: OrdSlots<P, T>> Model for CapacityDrain<P, T, S> {
 
     ghost Value = { List (ℕ × (ℕ × T)) };
 
-    ghost view = { λ it. ordered_entries P.Inx.number it.arena };
+    ghost view = { λ it. ordered_entries it.arena };
 }
 
 impl<P: PtrCore, T: Drop, S: OrdSlots<P, T>> Iterator for CapacityDrain<P, T, S> {
@@ -61,7 +61,7 @@ impl<P: PtrCore, T: Drop, S: OrdSlots<P, T>> IntoIterator for SimpleOrdArena<P, 
 
     type IntoIter = CapacityDrain<P, T, S>;
 
-    ghost into_iter_gives = { λ arena it. it ≡ ordered_entries P.Inx.number arena };
+    ghost into_iter_gives = { λ arena it. it ≡ ordered_entries arena };
 
     fn into_iter(self) -> CapacityDrain<P, T, S> {
         CapacityDrain { arena: self }

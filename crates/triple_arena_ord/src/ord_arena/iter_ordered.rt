@@ -1,4 +1,4 @@
-//! Going over the entries of an arena that is lent for reading, along the list.
+//! Going over the entries of an arena that is borrowed for reading, along the list.
 ghost use Rattle.std.specs.Prelude.{◌≡◌, length};
 ghost use Rattle.std.specs.Iterator.{YieldsFirstBy, item_count};
 ghost use Rattle.triple_arena.specs.Iterators.{IsExact};
@@ -34,10 +34,10 @@ where
 
     ghost Value = { List (ℕ × (ℕ × T)) };
 
-    ghost view = { λ it. entries_left P.Inx.number it.arena.now it.advancer };
+    ghost view = { λ it. entries_left it.arena.now it.advancer };
 
     ghost invariant = { λ it. it.left
-        ≡ length (entries_left P.Inx.number it.arena.now it.advancer) };
+        ≡ length (entries_left it.arena.now it.advancer) };
 }
 
 impl<'a, P: PtrCore, T: Drop, S: OrdSlots<P, T>> Iterator for Iter<'a, P, T, S>
@@ -84,7 +84,7 @@ where
 impl<P: PtrCore, T: Drop, S: OrdSlots<P, T>> SimpleOrdArena<P, T, S> {
     /// The pointers and the items of the entries, from the first of the list to the last.
     pub fn iter_ordered(&self) -> Iter<'_, P, T, S>
-        ensures { result ≡ ordered_entries P.Inx.number self.now }
+        ensures { result ≡ ordered_entries self.now }
     {
         Iter {
             advancer: OrderedPtrAdvancer::from(self.first_index(), false),
@@ -103,7 +103,7 @@ where
 
     type IntoIter = Iter<'a, P, T, S>;
 
-    ghost into_iter_gives = { λ arena it. it ≡ ordered_entries P.Inx.number arena.now };
+    ghost into_iter_gives = { λ arena it. it ≡ ordered_entries arena.now };
 
     fn into_iter(self) -> Iter<'a, P, T, S> {
         self.iter_ordered()

@@ -70,7 +70,7 @@ where
 
     ghost values = { listed_values };
 
-    ghost is_copied = { λ a old new. IsChainCopy P.Inx.number (A.Links.entry_at (A.links a))
+    ghost is_copied = { λ a old new. IsChainCopy (A.Links.entry_at (A.links a))
         (A.Links.live_count (A.links a)) (last_listed (A.Links.live_entries (A.links a)))
         (A.Links.counter (A.links a)) (A.ends a) old new };
 
@@ -90,7 +90,7 @@ where
         × (new ≡ cleared P.Gen.last
         (reallocated old (last_listed (A.Links.live_entries (A.links a))))) };
 
-    ghost is_formed = { λ b. IsChained P.Inx.number b };
+    ghost is_formed = { λ b. IsChained b };
 
     fn copy_from<G>(&mut self, source: &A, map: G) -> Result<(), ReallocationError>
     where

@@ -110,7 +110,7 @@ where
 
     ghost counter = { some_counter };
 
-    ghost is_moved = { λ a order b. IsMovedAlong Q.Inx.number P.Inx.number order a b };
+    ghost is_moved = { λ a order b. IsMovedAlong order a b };
 
     ghost is_filled = { λ g a old new. IsFilled values_in live_count some_counter room_in
         listed_values
@@ -124,9 +124,9 @@ where
 
     ghost takes_memory = { IsTrue S.takes_memory };
 
-    ghost is_formed = { λ b. IsChained P.Inx.number b };
+    ghost is_formed = { λ b. IsChained b };
 
-    ghost is_source_formed = { λ a. IsChained Q.Inx.number a };
+    ghost is_source_formed = { λ a. IsChained a };
 
     fn move_from<G>(
         &mut self,

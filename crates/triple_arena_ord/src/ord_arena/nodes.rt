@@ -16,7 +16,7 @@ impl<P: PtrCore, T: Drop, S: OrdSlots<P, T>> SimpleOrdArena<P, T, S> {
     pub fn get_inx_link_no_gen(&self, i: P::Inx) -> Option<(P::Gen, LinkNoGen<P, &T>)>
         ensures link { option_map (λ e. (P.Gen.number e.0, read_link e.1)) result
             ≡ option_map bare (entry_at self.now.chains (P.Inx.number i)) }
-        ensures ordered { IsOrdered P.Inx.number self.now }
+        ensures ordered { IsOrdered self.now }
     {
         match self.get_inx_node(i) {
             Some((generation, link)) => {
@@ -37,7 +37,7 @@ impl<P: PtrCore, T: Drop, S: OrdSlots<P, T>> SimpleOrdArena<P, T, S> {
     ) -> Option<(P::Gen, &LinkNoGen<P, SimpleOrdArenaNode<P, T>>)>
         ensures node { option_map (λ e. (P.Gen.number e.0, e.1.now)) result
             ≡ entry_at self.now.chains (P.Inx.number i) }
-        ensures ordered { IsOrdered P.Inx.number self.now }
+        ensures ordered { IsOrdered self.now }
     {
         self.chains.get_inx_link_no_gen(i)
     }

@@ -1,6 +1,6 @@
 //! Removals at the ends of the list.
 ghost use Rattle.std.specs.Prelude.{IsSome};
-ghost use Rattle.triple_arena_ord.specs.Node.{knots_in};
+ghost use Rattle.triple_arena_ord.specs.Node.{nodes_in};
 ghost use Rattle.triple_arena_ord.specs.OrderedDrains.{IsTaken, TakesFirst, TakesLast};
 
 use crate::ord_arena::removal::neighbors;
@@ -10,8 +10,8 @@ use triple_arena::{InvalidationOption, PtrCore};
 impl<P: PtrCore, T: Drop, S: OrdSlots<P, T>> SimpleOrdArena<P, T, S> {
     // The entry at a live index leaves, and is given with the pointer to it.
     fn take_live(&mut self, i: P::Inx) -> InvalidationOption<(P, T)>
-        requires { IsSome (knots_in P.Inx.number self.old.chains (P.Inx.number i)) }
-        ensures { IsTaken P.Inx.number P.Gen.last P.index P.generation (P.Inx.number i) result
+        requires { IsSome (nodes_in self.old.chains (P.Inx.number i)) }
+        ensures { IsTaken P.Gen.last P.index P.generation (P.Inx.number i) result
             self.old self.new }
     {
         let (prev, next) = neighbors(&self.chains, i);
@@ -25,22 +25,22 @@ impl<P: PtrCore, T: Drop, S: OrdSlots<P, T>> SimpleOrdArena<P, T, S> {
     }
 
     /// Removes the first entry of the list, which has the least key if the keys ascend, and returns
-    /// it with its pointer; `None` if there is no entry. It looks for nothing and compares no key.
+    /// it with its pointer; `None` if there is no entry. It makes no search and compares no key.
     /// Like each removal it steps the counter, and `GenerationOverflow` says that the generations
-    /// started again.
+    /// wrapped.
     pub fn pop_first(&mut self) -> Option<InvalidationOption<(P, T)>>
-        ensures { TakesFirst P.Inx.number P.Gen.last P.index P.generation result self.old self.new }
+        ensures { TakesFirst P.Gen.last P.index P.generation result self.old self.new }
     {
         let i = self.first_index()?;
         Some(self.take_live(i))
     }
 
     /// Removes the last entry of the list, which has the greatest key if the keys ascend, and
-    /// returns it with its pointer; `None` if there is no entry. It looks for nothing and compares
-    /// no key. Like each removal it steps the counter, and `GenerationOverflow` says that the
-    /// generations started again.
+    /// returns it with its pointer; `None` if there is no entry. It makes no search and compares no
+    /// key. Like each removal it steps the counter, and `GenerationOverflow` says that the
+    /// generations wrapped.
     pub fn pop_last(&mut self) -> Option<InvalidationOption<(P, T)>>
-        ensures { TakesLast P.Inx.number P.Gen.last P.index P.generation result self.old self.new }
+        ensures { TakesLast P.Gen.last P.index P.generation result self.old self.new }
     {
         let i = self.last_index()?;
         Some(self.take_live(i))

@@ -6,7 +6,7 @@ use crate::{IndexNode, OrdSlots, SimpleOrdArena};
 use triple_arena::{PtrCore, PtrInxCore, Recast, Recaster};
 use triple_arena_ptr::OptionalInx;
 
-/// What is renamed is what the item of the node holds. The place in the tree stays.
+/// A recast renames what the item of the node holds. The place in the tree stays.
 impl<N, I: PtrInxCore<Word = W>, W: Copy, T: Recast<N>> Recast<N>
     for IndexNode<OptionalInx<I, W>, T> {
     ghost items = { node_items T.items };
@@ -20,8 +20,8 @@ impl<N, I: PtrInxCore<Word = W>, W: Copy, T: Recast<N>> Recast<N>
     }
 }
 
-/// What is renamed is what the items of the arena hold, in the order of the indexes. The list and
-/// the tree stay.
+/// A recast renames what the items of the arena hold, in the order of the indexes. The list and the
+/// tree stay.
 impl<N, P: PtrCore, T: Recast<N> + Drop, S: OrdSlots<P, T>> Recast<N> for SimpleOrdArena<P, T, S> {
     ghost items = { items_of T.items };
 

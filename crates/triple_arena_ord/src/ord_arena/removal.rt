@@ -3,23 +3,23 @@ ghost use Rattle.std.specs.Prelude.{◌≡◌, Some, IsSome};
 ghost use Rattle.std.specs.Option.{option_map};
 ghost use Rattle.triple_arena_ptr.specs.Generation.{next_wraps};
 ghost use Rattle.triple_arena_chain.specs.Links.{ends_in};
-ghost use Rattle.triple_arena_ord.specs.Node.{knots_in};
+ghost use Rattle.triple_arena_ord.specs.Node.{nodes_in};
 ghost use Rattle.triple_arena_ord.specs.Ordered.{IsOrdered, entry_in};
 ghost use Rattle.triple_arena_ord.specs.Removal.{IsEntryRemoved, ended};
 
 use crate::uprooting::take_entry;
 use crate::{OrdSlots, SimpleOrdArena, SimpleOrdArenaNode};
+use proof_marks::unreached;
 use triple_arena::{PtrCore, PtrInxCore};
 use triple_arena_chain::{ChainArena, ChainArenaTrait};
-use unreached::unreached;
 
 // The neighbors of an index in the list.
 pub(crate) fn neighbors<P: PtrCore, T: Drop, S: OrdSlots<P, T>>(
     chains: &ChainArena<P, SimpleOrdArenaNode<P, T>, S>,
     i: P::Inx,
 ) -> (Option<P::Inx>, Option<P::Inx>)
-    requires { IsSome (knots_in P.Inx.number chains.now (P.Inx.number i)) }
-    ensures { ends_in P.Inx.number chains.now (P.Inx.number i)
+    requires { IsSome (nodes_in chains.now (P.Inx.number i)) }
+    ensures { ends_in chains.now (P.Inx.number i)
         ≡ Some (option_map P.Inx.number result.0, option_map P.Inx.number result.1) }
 {
     match chains.get_inx_link_no_gen(i) {
@@ -42,7 +42,7 @@ fn leave_end<I: PtrInxCore>(end: &mut Option<I>, gone: I, neighbor: Option<I>)
 
 impl<P: PtrCore, T: Drop, S: OrdSlots<P, T>> SimpleOrdArena<P, T, S> {
     // The entry at a live index leaves: its generation and its item, and whether the generations
-    // started again. `prev` and `next` are its neighbors in the list.
+    // wrapped. `prev` and `next` are its neighbors in the list.
     #[inline(always)]
     pub(crate) fn remove_live(
         &mut self,
@@ -50,15 +50,14 @@ impl<P: PtrCore, T: Drop, S: OrdSlots<P, T>> SimpleOrdArena<P, T, S> {
         prev: Option<P::Inx>,
         next: Option<P::Inx>,
     ) -> ((P::Gen, T), bool)
-        requires live { IsSome (knots_in P.Inx.number self.old.chains (P.Inx.number gone)) }
-        requires ends { ends_in P.Inx.number self.old.chains (P.Inx.number gone)
+        requires live { IsSome (nodes_in self.old.chains (P.Inx.number gone)) }
+        requires ends { ends_in self.old.chains (P.Inx.number gone)
             ≡ Some (option_map P.Inx.number prev, option_map P.Inx.number next) }
-        ensures removed { IsEntryRemoved P.Inx.number P.Gen.last
-            (P.Inx.number gone) self.old self.new }
+        ensures removed { IsEntryRemoved P.Gen.last (P.Inx.number gone) self.old self.new }
         ensures value { Some (P.Gen.number result.0.0, result.0.1)
             ≡ entry_in self.old (P.Inx.number gone) }
         ensures overflow { result.1 ≡ next_wraps P.Gen.last self.old.chains.counter }
-        ensures ordered { IsOrdered P.Inx.number self.new }
+        ensures ordered { IsOrdered self.new }
     {
         let taken = take_entry(&mut self.chains, &mut self.root, gone, next);
         leave_end(&mut self.first, gone, next);

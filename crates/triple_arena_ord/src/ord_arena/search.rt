@@ -4,7 +4,7 @@ ghost use Rattle.std.specs.Option.{option_map};
 ghost use Rattle.std.specs.declared.cmp.Ordering.{Ordering as Way};
 ghost use Rattle.rank_tree.specs.Comparisons.{most_comparisons};
 ghost use Rattle.rank_tree.specs.Tree.{rank_of};
-ghost use Rattle.triple_arena_ord.specs.Node.{knots_in};
+ghost use Rattle.triple_arena_ord.specs.Node.{nodes_in};
 ghost use Rattle.rank_tree.specs.Search.{IsAnswer, IsFreeAt, asked_down};
 ghost use Rattle.triple_arena_ord.specs.Ordered.{IsOrdered, IsAscending, tree_in, size_in};
 ghost use Rattle.triple_arena_ord.specs.Ordered.{asked_at};
@@ -26,14 +26,14 @@ impl<P: PtrCore, T: SimpleOrdItem + Drop, S: OrdSlots<P, T>> SimpleOrdArena<P, T
     // Where a search by key ends, with the last answer.
     pub(crate) fn seek(&self, k: &T::Key, probes: &mut Probes) -> Option<(P::Inx, Ordering)>
         ensures answer { IsAnswer (asked_at T.Key.cmp T.key_of k.now self.now)
-            (tree_in P.Inx.number self.now) (option_map (λ a. (P.Inx.number a.0, a.1)) result) }
+            (tree_in self.now) (option_map (λ a. (P.Inx.number a.0, a.1)) result) }
         ensures free { IfSome result
-            (λ a. IsFreeAt a.1 (knots_in P.Inx.number self.now.chains (P.Inx.number a.0))) }
+            (λ a. IsFreeAt a.1 (nodes_in self.now.chains (P.Inx.number a.0))) }
         ensures ticks { probes.new ≡ probes.old
             + asked_down (asked_at T.Key.cmp T.key_of k.now self.now)
-            (tree_in P.Inx.number self.now) }
-        ensures bound { probes.new ≤ probes.old + rank_of (tree_in P.Inx.number self.now) }
-        ensures ordered { IsOrdered P.Inx.number self.now }
+            (tree_in self.now) }
+        ensures bound { probes.new ≤ probes.old + rank_of (tree_in self.now) }
+        ensures ordered { IsOrdered self.now }
     {
         let mut link = OptionalInx::of(self.root);
         let mut place = None;
@@ -66,20 +66,21 @@ impl<P: PtrCore, T: SimpleOrdItem + Drop, S: OrdSlots<P, T>> SimpleOrdArena<P, T
     /// in an empty arena.
     pub fn find_key_counted(&self, k: &T::Key, probes: &mut Probes) -> Option<P>
         ensures found { IsFound P.index P.generation (asked_at T.Key.cmp T.key_of k.now self.now)
-            (IsAscending P.Inx.number T.Key.cmp T.key_of self.now) result self.now }
+            (IsAscending T.Key.cmp T.key_of self.now) result self.now }
         ensures ticks { probes.new ≡ probes.old
             + asked_down (asked_at T.Key.cmp T.key_of k.now self.now)
-            (tree_in P.Inx.number self.now) }
+            (tree_in self.now) }
         ensures bound { probes.new ≤ probes.old + most_comparisons (size_in self.now) }
     {
         let place = self.seek(k, probes);
         found_at(&self.chains, place)
     }
 
-    /// What `find_key_counted` finds, with no count.
+    /// The pointer to an entry with an equal key. If the keys ascend, `None` means that there is
+    /// none.
     pub fn find_key(&self, k: &T::Key) -> Option<P>
         ensures { IsFound P.index P.generation (asked_at T.Key.cmp T.key_of k.now self.now)
-            (IsAscending P.Inx.number T.Key.cmp T.key_of self.now) result self.now }
+            (IsAscending T.Key.cmp T.key_of self.now) result self.now }
     {
         self.find_key_counted(k, &mut Probes::new())
     }
@@ -89,23 +90,24 @@ impl<P: PtrCore, T: SimpleOrdItem + Drop, S: OrdSlots<P, T>> SimpleOrdArena<P, T
     /// ascend, it is some entry. Each comparison is a tick, and there are as many at most as
     /// `find_key_counted` says.
     pub fn find_similar_key_counted(&self, k: &T::Key, probes: &mut Probes) -> Option<(P, Ordering)>
-        ensures similar { IsSimilar P.index P.generation P.Inx.number
+        ensures similar { IsSimilar P.index P.generation
             (asked_at T.Key.cmp T.key_of k.now self.now)
-            (IsAscending P.Inx.number T.Key.cmp T.key_of self.now) result self.now }
+            (IsAscending T.Key.cmp T.key_of self.now) result self.now }
         ensures ticks { probes.new ≡ probes.old
             + asked_down (asked_at T.Key.cmp T.key_of k.now self.now)
-            (tree_in P.Inx.number self.now) }
+            (tree_in self.now) }
         ensures bound { probes.new ≤ probes.old + most_comparisons (size_in self.now) }
     {
         let place = self.seek(k, probes);
         similar_at(&self.chains, place)
     }
 
-    /// What `find_similar_key_counted` finds, with no count.
+    /// The pointer to an entry with an equal key, or else to one beside which the key belongs, and
+    /// what the key compares as with the entry's; `None` if there is no entry. If the keys do not
+    /// ascend, it is some entry.
     pub fn find_similar_key(&self, k: &T::Key) -> Option<(P, Ordering)>
-        ensures { IsSimilar P.index P.generation P.Inx.number
-            (asked_at T.Key.cmp T.key_of k.now self.now)
-            (IsAscending P.Inx.number T.Key.cmp T.key_of self.now) result self.now }
+        ensures { IsSimilar P.index P.generation (asked_at T.Key.cmp T.key_of k.now self.now)
+            (IsAscending T.Key.cmp T.key_of self.now) result self.now }
     {
         self.find_similar_key_counted(k, &mut Probes::new())
     }

@@ -5,6 +5,7 @@ ghost use Rattle.triple_arena.specs.Entries.{value_if};
 ghost use Rattle.triple_arena_chain.specs.Walks.{left_to};
 ghost use Rattle.triple_arena_ord.specs.Ordered.{IsOrdered, order_in, entry_in};
 ghost use Rattle.triple_arena_ord.specs.OrderedWalks.{OrderedSteps, IsFrom, walk_at, left_over};
+ghost use Rattle.triple_arena_chain.specs.Kinds.{ends_by};
 
 use crate::{OrdSlots, SimpleOrdArena};
 use std::marker::Model;
@@ -33,7 +34,8 @@ impl<P: PtrCore> Model for OrderedPtrAdvancer<P> {
 
 // The neighbor to which a walk goes, of these two.
 fn toward<I: PtrInxCore>(back: bool, ends: (Option<I>, Option<I>)) -> Option<I>
-    ensures { result ≡ (if back then ends.0 else ends.1) }
+    ensures { option_map I.number result
+        ≡ (if back then (ends_by I.number ends).0 else (ends_by I.number ends).1) }
 {
     if back { ends.0 } else { ends.1 }
 }
@@ -52,7 +54,7 @@ impl<P: PtrCore> OrderedPtrAdvancer<P> {
         &mut self,
         arena: &'a SimpleOrdArena<P, T, S>,
     ) -> Option<(P, &'a T)>
-        ensures steps { OrderedSteps P.Inx.number arena.now self.old
+        ensures steps { OrderedSteps arena.now self.old
             (option_map (λ e. (P.index e.0, P.generation e.0)) result) self.new }
         ensures item { IfSome result
             (λ e. entry_in arena.now (P.index e.0) ≡ Some (P.generation e.0, e.1.now)) }
@@ -78,7 +80,7 @@ impl<P: PtrCore, T: Drop, S: OrdSlots<P, T>> Advancer<SimpleOrdArena<P, T, S>>
 
     ghost remaining = { λ a _. left_to a.at };
 
-    ghost advance_gives = { λ before o given after. OrderedSteps P.Inx.number o before
+    ghost advance_gives = { λ before o given after. OrderedSteps o before
         (option_map (λ p. (P.index p, P.generation p)) given) after };
 
     fn advance(&mut self, arena: &SimpleOrdArena<P, T, S>) -> Option<P> {
@@ -101,7 +103,7 @@ impl<P: PtrCore, T: Drop, S: OrdSlots<P, T>> SimpleOrdArena<P, T, S> {
     fn finds(&self, p: P) -> bool
         ensures found { IsTrue result
             ↔ IsSome (value_if (P.generation p) (entry_in self.now (P.index p))) }
-        ensures ordered { IsOrdered P.Inx.number self.now }
+        ensures ordered { IsOrdered self.now }
     {
         self.chains.contains(p)
     }
@@ -113,9 +115,9 @@ impl<P: PtrCore, T: Drop, S: OrdSlots<P, T>> SimpleOrdArena<P, T, S> {
         ensures variant { IsSome result
             ↔ IsSome (value_if (P.generation p) (entry_in self.now (P.index p))) }
         ensures from { IfSome result (λ a. a ≡ walk_at (P.index p) rev) }
-        ensures along { IfSome result (λ a. IsFrom (order_in P.Inx.number self.now) (P.index p) rev
-            (left_over P.Inx.number self.now a)) }
-        ensures ordered { IsOrdered P.Inx.number self.now }
+        ensures along { IfSome result (λ a. IsFrom (order_in self.now) (P.index p) rev
+            (left_over self.now a)) }
+        ensures ordered { IsOrdered self.now }
     {
         if self.finds(p) {
             Some(OrderedPtrAdvancer::from(Some(p.inx()), rev))

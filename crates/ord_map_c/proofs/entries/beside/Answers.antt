@@ -20,8 +20,8 @@ returns-clause-entry c =
     c.args.entries.now 0 c.requires.map c.entries_stand_in_the_list.ensures i generation
     (pair c.args.key there.value) there.is c.args.back c.in-Some.walk c.advance.new.self
     c.advance-2.new.self c.advance.result c.advance-2.result
-    (subst (λ j. IsFrom (order_in non_zero_u32_get c.args.entries.now) j c.args.back
-    (left_over non_zero_u32_get c.args.entries.now c.in-Some.walk)) c._from_raw.ensures.has_index
+    (subst (λ j. IsFrom (order_in c.args.entries.now) j c.args.back
+    (left_over c.args.entries.now c.in-Some.walk)) c._from_raw.ensures.has_index
     c.in-Some.ensures.along)
     c.advance.ensures.given c.advance-2.ensures.given
 

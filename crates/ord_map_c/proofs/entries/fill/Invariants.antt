@@ -10,13 +10,13 @@ abbrev pub invariant-fill : goal.invariant-fill
 invariant-fill l =
     record {
       handles : map pair_of (take l.count l.handles)
-          ++ map pointer_of (entries_left non_zero_u32_get l.entries l.walk)
-          ≡ map pointer_of (entries_left non_zero_u32_get l.entries l.fn.walk);
-      keys : take l.count l.keys ++ map key_of (entries_left non_zero_u32_get l.entries l.walk)
-          ≡ map key_of (entries_left non_zero_u32_get l.entries l.fn.walk);
+          ++ map pointer_of (entries_left l.entries l.walk)
+          ≡ map pointer_of (entries_left l.entries l.fn.walk);
+      keys : take l.count l.keys ++ map key_of (entries_left l.entries l.walk)
+          ≡ map key_of (entries_left l.entries l.fn.walk);
       values : take l.count l.values
-          ++ map value_of (entries_left non_zero_u32_get l.entries l.walk)
-          ≡ map value_of (entries_left non_zero_u32_get l.entries l.fn.walk);
+          ++ map value_of (entries_left l.entries l.walk)
+          ≡ map value_of (entries_left l.entries l.fn.walk);
       within : l.count ≤ l.most;
       fits : length l.handles ≡ length l.fn.handles;
       fits_keys : length l.keys ≡ length l.fn.keys;

@@ -17,6 +17,6 @@ returns c =
     (put_is old new c.requires c.entries_stand_in_the_list.ensures
     (λ p. non_zero_u32_get p.inx) (λ p. non_zero_u32_get p.generation) c.args.key c.args.value
     c.insert.result
-    (subst (λ (t : Pair). InsertsByKey non_zero_u32_get nat_cmp key_in
+    (subst (λ (t : Pair). InsertsByKey nat_cmp key_in
     (λ p. non_zero_u32_get p.inx) (λ p. non_zero_u32_get p.generation) _ t c.insert.result old new)
     own c.insert.ensures))

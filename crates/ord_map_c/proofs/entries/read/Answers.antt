@@ -11,8 +11,8 @@ pub returns-clause-handles : goal.returns-clause-handles
 returns-clause-handles c =
     let n = c.fill-count.result in
     let hs = c.fill-count.new.handles in
-    let left = entries_left non_zero_u32_get c.args.entries.now c.fill-count.new.walk in
-    let run = entries_left non_zero_u32_get c.args.entries.now c.args.walk in
+    let left = entries_left c.args.entries.now c.fill-count.new.walk in
+    let run = entries_left c.args.entries.now c.args.walk in
     let fits = c.fill-count.ensures.fits.0 in
     let same = c.fill-count.ensures.lengths.0 in
     written pointer_of (map pair_of (take n hs)) left run n
@@ -23,8 +23,8 @@ pub returns-clause-keys : goal.returns-clause-keys
 returns-clause-keys c =
     let n = c.fill-count.result in
     let ks = c.fill-count.new.keys in
-    let left = entries_left non_zero_u32_get c.args.entries.now c.fill-count.new.walk in
-    let run = entries_left non_zero_u32_get c.args.entries.now c.args.walk in
+    let left = entries_left c.args.entries.now c.fill-count.new.walk in
+    let run = entries_left c.args.entries.now c.args.walk in
     let fits = c.fill-count.ensures.fits.1.0 in
     let same = c.fill-count.ensures.lengths.1.0 in
     written key_of (take n ks) left run n (taken_length ks n (omega (arith, fits, same)))
@@ -34,8 +34,8 @@ pub returns-clause-values : goal.returns-clause-values
 returns-clause-values c =
     let n = c.fill-count.result in
     let vs = c.fill-count.new.values in
-    let left = entries_left non_zero_u32_get c.args.entries.now c.fill-count.new.walk in
-    let run = entries_left non_zero_u32_get c.args.entries.now c.args.walk in
+    let left = entries_left c.args.entries.now c.fill-count.new.walk in
+    let run = entries_left c.args.entries.now c.args.walk in
     let fits = c.fill-count.ensures.fits.1.1 in
     let same = c.fill-count.ensures.lengths.1.1 in
     written value_of (take n vs) left run n (taken_length vs n (omega (arith, fits, same)))
@@ -45,8 +45,8 @@ pub returns-clause-next : goal.returns-clause-next
 returns-clause-next c =
     let n = c.fill-count.result in
     let hs = c.fill-count.new.handles in
-    let left = entries_left non_zero_u32_get c.args.entries.now c.fill-count.new.walk in
-    let run = entries_left non_zero_u32_get c.args.entries.now c.args.walk in
+    let left = entries_left c.args.entries.now c.fill-count.new.walk in
+    let run = entries_left c.args.entries.now c.args.walk in
     let fits = c.fill-count.ensures.fits.0 in
     let same = c.fill-count.ensures.lengths.0 in
     let rest = last_part (map pair_of (take n hs)) (map pointer_of left) (map pointer_of run) n
@@ -58,8 +58,8 @@ pub returns-clause-within : goal.returns-clause-within
 returns-clause-within c =
     let n = c.fill-count.result in
     let ks = c.fill-count.new.keys in
-    let left = entries_left non_zero_u32_get c.args.entries.now c.fill-count.new.walk in
-    let run = entries_left non_zero_u32_get c.args.entries.now c.args.walk in
+    let left = entries_left c.args.entries.now c.fill-count.new.walk in
+    let run = entries_left c.args.entries.now c.args.walk in
     let fits = c.fill-count.ensures.fits.1.0 in
     let same = c.fill-count.ensures.lengths.1.0 in
     let size = taken_length ks n (omega (arith, fits, same)) in
@@ -72,8 +72,8 @@ pub returns-clause-all : goal.returns-clause-all
 returns-clause-all c =
     let n = c.fill-count.result in
     let ks = c.fill-count.new.keys in
-    let left = entries_left non_zero_u32_get c.args.entries.now c.fill-count.new.walk in
-    let run = entries_left non_zero_u32_get c.args.entries.now c.args.walk in
+    let left = entries_left c.args.entries.now c.fill-count.new.walk in
+    let run = entries_left c.args.entries.now c.args.walk in
     let fits = c.fill-count.ensures.fits.1.0 in
     let same = c.fill-count.ensures.lengths.1.0 in
     let size = taken_length ks n (omega (arith, fits, same)) in

@@ -12,13 +12,13 @@ returns-in-Some-clause-left c =
     let law = c.entries_stand_in_the_list.ensures in
     let t = c.in-Some.field-0-2 in
     let result = c.advancer_ordered.result in
-    subst (λ l. IfSome result (λ w. entries_left non_zero_u32_get o w ≡ l))
+    subst (λ l. IfSome result (λ w. entries_left o w ≡ l))
     (sym (rest_is {P = Handle} (λ h. h.index) (λ h. h.generation) o 0
     c.requires law c.args.from.index c.args.from.generation t c.in-Some.ensures.made.0
     c.in-Some.ensures.entry))
     (rest_left {P = Handle} (λ h. h.index) (λ h. h.generation) o 0
     c.requires law c.args.from.index c.args.from.generation t c.in-Some.ensures.entry result
     (subst (λ j. IfSome result
-    (λ a. IsFrom (order_in non_zero_u32_get o) j false (left_over non_zero_u32_get o a)))
+    (λ a. IsFrom (order_in o) j false (left_over o a)))
     (c._from_raw.ensures.has_index ∙ c.in-Some.ensures.index)
     c.advancer_ordered.ensures.along))

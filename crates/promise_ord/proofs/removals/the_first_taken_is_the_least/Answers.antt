@@ -24,6 +24,6 @@ returns g c = λ old new item takes ascending.
     let key = g.T.SimpleOrdItem.key_of in
     let cmp = g.T.Key.Ord.cmp in
     none_less cmp g.met.T.Key.Ord.total (λ (e : ℕ × (ℕ × g.row.T.Denot)). key e.1.1) _
-    (ordered_entries g.P.Inx.PtrInxCore.number new)
+    (ordered_entries new)
     (subst (IsSorted (λ (x y : ℕ × (ℕ × g.row.T.Denot)). cmp (key x.1.1) (key y.1.1))) takes.first
     ascending)

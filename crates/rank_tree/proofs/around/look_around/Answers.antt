@@ -11,7 +11,7 @@ use Rattle.rank_tree.proofs.around.look_around.Goals as goal
 
 -- what was read is what stands there
 read : (g : _) (c : After-side_of-side g) (root : Option ℕ)
-    (spot : Spot (g.K.Knots.knots c.args.knots.now) root (g.P.Inx.PtrInxCore.number c.args.low))
+    (spot : Spot (g.K.NodeStore.nodes c.args.nodes.now) root (g.P.Inx.PtrInxCore.number c.args.low))
     → Reads _ _ _ spot (named g.P.Inx.PtrInxCore.number c.read-below.result)
     (named g.P.Inx.PtrInxCore.number c.read-above.result)
     (g.P.Inx.PtrInxCore.number c.in-Some.high) c.side_of-side.result
@@ -35,13 +35,13 @@ read-above-requires-clause-live g c =
 
 pub rank_at-requires-clause-live : goal.rank_at-requires-clause-live
 rank_at-requires-clause-live g c =
-    if_live g.P.Inx.PtrInxCore.number (g.K.Knots.knots c.args.knots.now) c.child-outer.result
+    if_live g.P.Inx.PtrInxCore.number (g.K.NodeStore.nodes c.args.nodes.now) c.child-outer.result
     (λ i e. spot_child _ _ _ _ _ c.read-below.ensures c.requires.spot.1 i
     (sym c.child-outer.ensures ∙ e))
 
 pub rank_at-requires-2-clause-live : goal.rank_at-requires-2-clause-live
 rank_at-requires-2-clause-live g c =
-    if_live g.P.Inx.PtrInxCore.number (g.K.Knots.knots c.args.knots.now) c.child-inner.result
+    if_live g.P.Inx.PtrInxCore.number (g.K.NodeStore.nodes c.args.nodes.now) c.child-inner.result
     (λ i e. spot_child _ _ _ _ _ c.read-below.ensures c.requires.spot.1 i
     (sym c.child-inner.ensures ∙ e))
 
@@ -51,7 +51,7 @@ rank_at-requires-3-clause-live g c =
     c.requires.spot.1 in
     let away = ap (λ z. child_of z (named g.P.Inx.PtrInxCore.number c.read-above.result))
     c.other-away.ensures in
-    if_live g.P.Inx.PtrInxCore.number (g.K.Knots.knots c.args.knots.now) c.child-far.result
+    if_live g.P.Inx.PtrInxCore.number (g.K.NodeStore.nodes c.args.nodes.now) c.child-far.result
     (λ i e. spot_far _ _ _ c.requires.spot.1 _ _ _ _ r i (sym away ∙ sym c.child-far.ensures ∙ e))
 
 pub returns : goal.returns

@@ -11,7 +11,7 @@ use Rattle.rank_tree.proofs.insertion_repair.is_two_lower.Goals as goal
 
 -- the lower of the two ranks
 lower : (g : _) (c : After-rank_at-right g) (root : Option ℕ) (low : ℕ) (w : List ℕ) (high : ℕ)
-    (h : Climbing (g.K.Knots.knots c.args.knots.now) root low w high)
+    (h : Climbing (g.K.NodeStore.nodes c.args.nodes.now) root low w high)
     → IsLevel _ _ _ _ _ h (named g.P.Inx.PtrInxCore.number c.args.above) c.args.rank
     → min c.rank_at-left.result c.rank_at-right.result ≡ min c.args.rank (rank_of h.far)
 lower g c root low w high h level =
@@ -46,13 +46,13 @@ returns-else-is_none g c = λ root low w high h level. (
 pub rank_at-left-requires-clause-live : goal.rank_at-left-requires-clause-live
 rank_at-left-requires-clause-live g c =
     let level = c.requires.level.5 in
-    if_live g.P.Inx.PtrInxCore.number (g.K.Knots.knots c.args.knots.now) c.args.above.left
+    if_live g.P.Inx.PtrInxCore.number (g.K.NodeStore.nodes c.args.nodes.now) c.args.above.left
     (children_live _ _ _ _ _ Left level.at_high _ c.requires.level.4)
 
 pub rank_at-right-requires-clause-live : goal.rank_at-right-requires-clause-live
 rank_at-right-requires-clause-live g c =
     let level = c.requires.level.5 in
-    if_live g.P.Inx.PtrInxCore.number (g.K.Knots.knots c.args.knots.now) c.args.above.right
+    if_live g.P.Inx.PtrInxCore.number (g.K.NodeStore.nodes c.args.nodes.now) c.args.above.right
     (children_live _ _ _ _ _ Right level.at_high _ c.requires.level.4)
 
 pub overflow_add-result : goal.overflow_add-result

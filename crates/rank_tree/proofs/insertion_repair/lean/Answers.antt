@@ -11,7 +11,7 @@ use Rattle.rank_tree.proofs.insertion_repair.lean.Goals as goal
 
 -- what was read is what stands there
 read : (g : _) (c : After-rank_at g) (w : List ℕ)
-    (h : Leaning (g.K.Knots.knots c.args.knots.now)
+    (h : Leaning (g.K.NodeStore.nodes c.args.nodes.now)
     (option_map g.P.Inx.PtrInxCore.number c.args.root.now)
     (g.P.Inx.PtrInxCore.number c.args.low) w)
     → LeanReads _ _ _ w h c.read-below.result.rank
@@ -24,10 +24,10 @@ read g c w h =
 
 -- the node turns up
 once : (g : _) (c : After-turn g) (w : List ℕ)
-    (h : Leaning (g.K.Knots.knots c.args.knots.now)
+    (h : Leaning (g.K.NodeStore.nodes c.args.nodes.now)
     (option_map g.P.Inx.PtrInxCore.number c.args.root.now)
     (g.P.Inx.PtrInxCore.number c.args.low) w)
-    → Turns (g.K.Knots.knots c.args.knots.now)
+    → Turns (g.K.NodeStore.nodes c.args.nodes.now)
     (option_map g.P.Inx.PtrInxCore.number c.args.root.now)
     (g.P.Inx.PtrInxCore.number c.args.low) c.read-below.result.rank (c.read-below.result.rank - 1) w
     (λ m r. Restored m r w)
@@ -37,10 +37,10 @@ once g c w h =
 
 -- the inner child turns up, twice
 twice : (g : _) (c : In-Some-inner g) (w : List ℕ)
-    (h : Leaning (g.K.Knots.knots c.args.knots.now)
+    (h : Leaning (g.K.NodeStore.nodes c.args.nodes.now)
     (option_map g.P.Inx.PtrInxCore.number c.args.root.now)
     (g.P.Inx.PtrInxCore.number c.args.low) w)
-    → TurnsTwice (g.K.Knots.knots c.args.knots.now)
+    → TurnsTwice (g.K.NodeStore.nodes c.args.nodes.now)
     (option_map g.P.Inx.PtrInxCore.number c.args.root.now)
     (g.P.Inx.PtrInxCore.number c.in-Some-inner.middle) c.read-below.result.rank
     (c.read-below.result.rank - 1) w
@@ -69,7 +69,7 @@ read-above-requires-clause-live g c =
 pub rank_at-requires-clause-live : goal.rank_at-requires-clause-live
 rank_at-requires-clause-live g c =
     let spot = lean_spot _ _ _ _ c.requires.leaning.1 in
-    if_live g.P.Inx.PtrInxCore.number (g.K.Knots.knots c.args.knots.now) c.child-inner.result
+    if_live g.P.Inx.PtrInxCore.number (g.K.NodeStore.nodes c.args.nodes.now) c.child-inner.result
     (λ i e. spot_child _ _ _ _ _ c.read-below.ensures spot i (sym c.child-inner.ensures ∙ e))
 
 pub overflow_add-rank_at : goal.overflow_add-rank_at

@@ -14,10 +14,11 @@ use Rattle.rank_tree.proofs.insertion_repair.repair_inserted.Goals as goal
 
 -- the node that has grown, below its parent
 under : (g : _) (c : In-Some g) (w : List ℕ)
-    → Grown (g.K.Knots.knots c.args.knots.now) (option_map g.P.Inx.PtrInxCore.number
+    → Grown (g.K.NodeStore.nodes c.args.nodes.now) (option_map g.P.Inx.PtrInxCore.number
     c.args.root.now)
     (g.P.Inx.PtrInxCore.number c.args.start) w
-    → Climbing (g.K.Knots.knots c.climb.knots) (option_map g.P.Inx.PtrInxCore.number c.climb.root)
+    → Climbing (g.K.NodeStore.nodes c.climb.nodes)
+    (option_map g.P.Inx.PtrInxCore.number c.climb.root)
     (g.P.Inx.PtrInxCore.number c.climb.low) w (g.P.Inx.PtrInxCore.number c.in-Some.high)
 under g c w grown =
     grown_under _ _ _ _ _ _ c.read-below.ensures (ap
@@ -26,7 +27,7 @@ under g c w grown =
 
 -- the parent, where it is no higher than the node that has grown
 level : (g : _) (c : After-is_two_lower g) (w : List ℕ)
-    (h : Climbing (g.K.Knots.knots c.climb.knots) (option_map g.P.Inx.PtrInxCore.number
+    (h : Climbing (g.K.NodeStore.nodes c.climb.nodes) (option_map g.P.Inx.PtrInxCore.number
     c.climb.root)
     (g.P.Inx.PtrInxCore.number c.climb.low) w (g.P.Inx.PtrInxCore.number c.in-Some.high))
     → IsLevel _ _ _ _ _ h (named g.P.Inx.PtrInxCore.number c.read-above.result)
@@ -38,10 +39,11 @@ level g c w h =
 
 -- its other child is two lower
 leans : (g : _) (c : After-is_two_lower g) → c.is_two_lower.result ≡ true → (w : List ℕ)
-    → Climbing (g.K.Knots.knots c.climb.knots) (option_map g.P.Inx.PtrInxCore.number
+    → Climbing (g.K.NodeStore.nodes c.climb.nodes) (option_map g.P.Inx.PtrInxCore.number
     c.climb.root)
     (g.P.Inx.PtrInxCore.number c.climb.low) w (g.P.Inx.PtrInxCore.number c.in-Some.high)
-    → Leaning (g.K.Knots.knots c.climb.knots) (option_map g.P.Inx.PtrInxCore.number c.climb.root)
+    → Leaning (g.K.NodeStore.nodes c.climb.nodes)
+    (option_map g.P.Inx.PtrInxCore.number c.climb.root)
     (g.P.Inx.PtrInxCore.number c.climb.low) w
 leans g c said w h =
     let l = level g c w h in
@@ -51,7 +53,7 @@ leans g c said w h =
 
 -- or one lower
 rises : (g : _) (c : After-is_two_lower g) → c.is_two_lower.result ≡ false → (w : List ℕ)
-    (h : Climbing (g.K.Knots.knots c.climb.knots) (option_map g.P.Inx.PtrInxCore.number
+    (h : Climbing (g.K.NodeStore.nodes c.climb.nodes) (option_map g.P.Inx.PtrInxCore.number
     c.climb.root)
     (g.P.Inx.PtrInxCore.number c.climb.low) w (g.P.Inx.PtrInxCore.number c.in-Some.high))
     → h.rank ≤ rank_of h.far + 1

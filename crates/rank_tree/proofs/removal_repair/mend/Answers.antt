@@ -18,7 +18,7 @@ use Rattle.rank_tree.proofs.removal_repair.mend.Goals as goal
 
 -- what was read is what stands there
 read : (g : _) (c : After-rank_at-right g) (w : List ℕ)
-    (h : Broken (g.K.Knots.knots c.args.knots.now)
+    (h : Broken (g.K.NodeStore.nodes c.args.nodes.now)
     (option_map g.P.Inx.PtrInxCore.number c.args.root.now)
     (g.P.Inx.PtrInxCore.number c.args.high)
     (option_map g.P.Inx.PtrInxCore.number c.args.near) w)
@@ -31,13 +31,13 @@ read g c w h =
 
 -- both children are two lower, and the node loses one rank
 falls : (g : _) (c : After-set_rank g) (w : List ℕ)
-    → Broken (g.K.Knots.knots c.args.knots.now)
+    → Broken (g.K.NodeStore.nodes c.args.nodes.now)
     (option_map g.P.Inx.PtrInxCore.number c.args.root.now)
     (g.P.Inx.PtrInxCore.number c.args.high)
     (option_map g.P.Inx.PtrInxCore.number c.args.near) w
-    → Lowered (g.K.Knots.knots c.set_rank.new.self)
+    → Lowered (g.K.NodeStore.nodes c.set_rank.new.self)
     (option_map g.P.Inx.PtrInxCore.number c.args.root.now)
-    (g.P.Inx.PtrInxCore.number c.args.high) (g.K.Knots.knots c.args.knots.now)
+    (g.P.Inx.PtrInxCore.number c.args.high) (g.K.NodeStore.nodes c.args.nodes.now)
     (option_map g.P.Inx.PtrInxCore.number c.read-above.result.parent) w
 falls g c w h =
     let m = read g (goal.at.After-set_rank g c).After-rank_at-right w h in
@@ -46,7 +46,7 @@ falls g c w h =
 
 -- the higher child is one lower, and the other three
 higher : (g : _) (c : After-child g) (w : List ℕ)
-    (h : Broken (g.K.Knots.knots c.args.knots.now)
+    (h : Broken (g.K.NodeStore.nodes c.args.nodes.now)
     (option_map g.P.Inx.PtrInxCore.number c.args.root.now)
     (g.P.Inx.PtrInxCore.number c.args.high)
     (option_map g.P.Inx.PtrInxCore.number c.args.near) w)
@@ -59,11 +59,11 @@ higher g c w h =
     c.higher.ensures.right c.higher.ensures.left c.child.ensures
 
 sibling : (g : _) (c : In-Some g) (w : List ℕ)
-    → Broken (g.K.Knots.knots c.args.knots.now)
+    → Broken (g.K.NodeStore.nodes c.args.nodes.now)
     (option_map g.P.Inx.PtrInxCore.number c.args.root.now)
     (g.P.Inx.PtrInxCore.number c.args.high)
     (option_map g.P.Inx.PtrInxCore.number c.args.near) w
-    → Sibling (g.K.Knots.knots c.args.knots.now)
+    → Sibling (g.K.NodeStore.nodes c.args.nodes.now)
     (option_map g.P.Inx.PtrInxCore.number c.args.root.now)
     (g.P.Inx.PtrInxCore.number c.in-Some.low) w (g.P.Inx.PtrInxCore.number c.args.high)
 sibling g c w h =
@@ -72,7 +72,7 @@ sibling g c w h =
 
 -- what was read of the sibling is what stands there
 read_low : (g : _) (c : After-rank_at-low_right g) (w : List ℕ)
-    (s : Sibling (g.K.Knots.knots c.args.knots.now)
+    (s : Sibling (g.K.NodeStore.nodes c.args.nodes.now)
     (option_map g.P.Inx.PtrInxCore.number c.args.root.now)
     (g.P.Inx.PtrInxCore.number c.in-Some.low) w (g.P.Inx.PtrInxCore.number c.args.high))
     → SiblingReads _ _ _ _ w s (named g.P.Inx.PtrInxCore.number c.read-below.result)
@@ -84,13 +84,13 @@ read_low g c w s =
 
 -- the sibling and the node lose one rank each
 both_fall : (g : _) (c : After-set_rank-3 g) (w : List ℕ)
-    → Broken (g.K.Knots.knots c.args.knots.now)
+    → Broken (g.K.NodeStore.nodes c.args.nodes.now)
     (option_map g.P.Inx.PtrInxCore.number c.args.root.now)
     (g.P.Inx.PtrInxCore.number c.args.high)
     (option_map g.P.Inx.PtrInxCore.number c.args.near) w
-    → Lowered (g.K.Knots.knots c.set_rank-3.new.self)
+    → Lowered (g.K.NodeStore.nodes c.set_rank-3.new.self)
     (option_map g.P.Inx.PtrInxCore.number c.args.root.now)
-    (g.P.Inx.PtrInxCore.number c.args.high) (g.K.Knots.knots c.args.knots.now)
+    (g.P.Inx.PtrInxCore.number c.args.high) (g.K.NodeStore.nodes c.args.nodes.now)
     (option_map g.P.Inx.PtrInxCore.number c.read-above.result.parent) w
 both_fall g c w h =
     let s = sibling g (goal.at.After-set_rank-3 g c).In-Some w h in
@@ -104,19 +104,19 @@ read-above-requires-clause-live g c = broken_lives _ _ _ _ _ c.requires.1
 
 pub rank_at-left-requires-clause-live : goal.rank_at-left-requires-clause-live
 rank_at-left-requires-clause-live g c =
-    if_named g.P.Inx.PtrInxCore.number (λ i. IsSome (g.K.Knots.knots c.args.knots.now i))
+    if_named g.P.Inx.PtrInxCore.number (λ i. IsSome (g.K.NodeStore.nodes c.args.nodes.now i))
     c.read-above.result.left
     (broken_reads _ _ _ _ c.read-above.ensures _ _ c.requires.1).left_lives
 
 pub rank_at-right-requires-clause-live : goal.rank_at-right-requires-clause-live
 rank_at-right-requires-clause-live g c =
-    if_named g.P.Inx.PtrInxCore.number (λ i. IsSome (g.K.Knots.knots c.args.knots.now i))
+    if_named g.P.Inx.PtrInxCore.number (λ i. IsSome (g.K.NodeStore.nodes c.args.nodes.now i))
     c.read-above.result.right
     (broken_reads _ _ _ _ c.read-above.ensures _ _ c.requires.1).right_lives
 
 pub rank_at-near_rank-requires-clause-live : goal.rank_at-near_rank-requires-clause-live
 rank_at-near_rank-requires-clause-live g c =
-    if_named g.P.Inx.PtrInxCore.number (λ i. IsSome (g.K.Knots.knots c.args.knots.now i))
+    if_named g.P.Inx.PtrInxCore.number (λ i. IsSome (g.K.NodeStore.nodes c.args.nodes.now i))
     c.args.near (near_lives _ _ _ _ c.read-above.ensures _ _ c.requires.1)
 
 pub is_fit_above-requires : goal.is_fit_above-requires
@@ -142,9 +142,9 @@ returns-then-max-rank-clause-pending g c =
 pub returns-then-max-rank-clause-rises : goal.returns-then-max-rank-clause-rises
 returns-then-max-rank-clause-rises g c =
     let number = g.P.Inx.PtrInxCore.number in
-    let old = g.K.Knots.knots c.args.knots.now in
+    let old = g.K.NodeStore.nodes c.args.nodes.now in
     if_named number (λ i. rank_in old (number c.args.high) < rank_in
-    (g.K.Knots.knots c.set_rank.new.self) i) c.read-above.result.parent
+    (g.K.NodeStore.nodes c.set_rank.new.self) i) c.read-above.result.parent
     (falls g (goal.at.returns-then-max-rank-clause-rises g c).After-set_rank _ c.requires.1).rises
 
 pub unreached-unreachable-requires : goal.unreached-unreachable-requires
@@ -162,13 +162,15 @@ read-below-requires-clause-live g c =
 pub rank_at-low_left-requires-clause-live : goal.rank_at-low_left-requires-clause-live
 rank_at-low_left-requires-clause-live g c =
     let s = sibling g (goal.at.rank_at-low_left-requires-clause-live g c).In-Some _ c.requires.1 in
-    if_live g.P.Inx.PtrInxCore.number (g.K.Knots.knots c.args.knots.now) c.read-below.result.left
+    if_live g.P.Inx.PtrInxCore.number (g.K.NodeStore.nodes c.args.nodes.now)
+    c.read-below.result.left
     (spot_child _ _ _ _ Left c.read-below.ensures s.spot)
 
 pub rank_at-low_right-requires-clause-live : goal.rank_at-low_right-requires-clause-live
 rank_at-low_right-requires-clause-live g c =
     let s = sibling g (goal.at.rank_at-low_right-requires-clause-live g c).In-Some _ c.requires.1 in
-    if_live g.P.Inx.PtrInxCore.number (g.K.Knots.knots c.args.knots.now) c.read-below.result.right
+    if_live g.P.Inx.PtrInxCore.number (g.K.NodeStore.nodes c.args.nodes.now)
+    c.read-below.result.right
     (spot_child _ _ _ _ Right c.read-below.ensures s.spot)
 
 pub overflow_add-max-2 : goal.overflow_add-max-2
@@ -221,9 +223,9 @@ returns-clause-pending g c =
 pub returns-clause-rises : goal.returns-clause-rises
 returns-clause-rises g c =
     let number = g.P.Inx.PtrInxCore.number in
-    let old = g.K.Knots.knots c.args.knots.now in
+    let old = g.K.NodeStore.nodes c.args.nodes.now in
     if_named number (λ i. rank_in old (number c.args.high) < rank_in
-    (g.K.Knots.knots c.set_rank-3.new.self) i) c.read-above.result.parent
+    (g.K.NodeStore.nodes c.set_rank-3.new.self) i) c.read-above.result.parent
     (both_fall g (goal.at.returns-clause-rises g c).After-set_rank-3 _ c.requires.1).rises
 
 pub returns-then-max-rank-clause-elsewhere : goal.returns-then-max-rank-clause-elsewhere

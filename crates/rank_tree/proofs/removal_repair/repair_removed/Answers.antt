@@ -10,8 +10,8 @@ use Rattle.rank_tree.proofs.removal_repair.repair_removed.Goals as goal
 pub climb-smaller : goal.climb-smaller
 climb-smaller g c =
     let number = g.P.Inx.PtrInxCore.number in
-    let old = g.K.Knots.knots c.climb.knots in
-    let new = g.K.Knots.knots c.mend-at.new.knots in
+    let old = g.K.NodeStore.nodes c.climb.nodes in
+    let new = g.K.NodeStore.nodes c.mend-at.new.nodes in
     let at_is = ap (option_map number) c.in-Some.is in
     let rises = if_numbered number (λ i. rank_in old (number c.in-Some.high) < rank_in new i)
     c.mend-at.result c.mend-at.ensures.rises in
@@ -26,7 +26,7 @@ pub climb-preserved : goal.climb-preserved
 climb-preserved g c =
     let number = g.P.Inx.PtrInxCore.number in
     let now : List ℕ → Option ℕ
-    → Type 0 = λ w l. Pending (g.K.Knots.knots c.climb.knots) (option_map number c.climb.root) l
+    → Type 0 = λ w l. Pending (g.K.NodeStore.nodes c.climb.nodes) (option_map number c.climb.root) l
     (option_map number c.climb.near) w in
     let at_is = ap (option_map number) c.in-Some.is in (
       λ w pending. c.mend-at.ensures.pending w

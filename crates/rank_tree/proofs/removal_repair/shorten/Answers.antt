@@ -9,10 +9,10 @@ use Rattle.rank_tree.proofs.removal_repair.shorten.Goals as goal
 
 -- the node turns up
 once : (g : _) (c : After-turn g) (w : List ℕ)
-    (h : Short (g.K.Knots.knots c.args.knots.now)
+    (h : Short (g.K.NodeStore.nodes c.args.nodes.now)
     (option_map g.P.Inx.PtrInxCore.number c.args.root.now)
     (g.P.Inx.PtrInxCore.number c.args.low) w)
-    → Turns (g.K.Knots.knots c.args.knots.now)
+    → Turns (g.K.NodeStore.nodes c.args.nodes.now)
     (option_map g.P.Inx.PtrInxCore.number c.args.root.now)
     (g.P.Inx.PtrInxCore.number c.args.low) c.look_around-near.result.high_rank
     (c.look_around-near.result.inner_rank + 1) w (λ m r. Restored m r w)
@@ -22,10 +22,10 @@ once g c w h =
 
 -- the inner child turns up, twice
 twice : (g : _) (c : In-Some g) (w : List ℕ)
-    → Short (g.K.Knots.knots c.args.knots.now)
+    → Short (g.K.NodeStore.nodes c.args.nodes.now)
     (option_map g.P.Inx.PtrInxCore.number c.args.root.now)
     (g.P.Inx.PtrInxCore.number c.args.low) w
-    → TurnsTwice (g.K.Knots.knots c.args.knots.now)
+    → TurnsTwice (g.K.NodeStore.nodes c.args.nodes.now)
     (option_map g.P.Inx.PtrInxCore.number c.args.root.now)
     (g.P.Inx.PtrInxCore.number c.in-Some.middle) c.look_around-near.result.high_rank
     (c.look_around-near.result.high_rank - 2) w

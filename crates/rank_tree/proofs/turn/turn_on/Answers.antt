@@ -5,21 +5,21 @@ use Rattle.rank_tree.proofs.NameLemmas.{not_some, if_live}
 use Rattle.rank_tree.specs.SpotLaws.{spot_low, spot_parent, spot_high, spot_child, spot_holder}
 use Rattle.rank_tree.specs.SpotLaws.{write-lives, reparent-lives, turn_works}
 use Rattle.rank_tree.specs.Tree.{walk}
-use Rattle.rank_tree.specs.Shape.{Stands}
+use Rattle.rank_tree.specs.Shape.{RepresentsTree}
 use Rattle.rank_tree.specs.Repair.{Spot, turned, KeptOff}
 use Rattle.rank_tree.proofs.turn.turn_on.Goals.{After-relink}
 use Rattle.rank_tree.proofs.turn.turn_on.Goals as goal
 
 -- the four changes, one after another
 works : (g : _) (c : After-relink g)
-    (spot : Spot (g.K.Knots.knots c.args.knots.now)
+    (spot : Spot (g.K.NodeStore.nodes c.args.nodes.now)
     (option_map g.P.Inx.PtrInxCore.number c.args.root.now)
     (g.P.Inx.PtrInxCore.number c.args.low))
-    → Stands (g.K.Knots.knots c.relink.new.knots)
+    → RepresentsTree (g.K.NodeStore.nodes c.relink.new.nodes)
     (option_map g.P.Inx.PtrInxCore.number c.relink.new.root)
     (turned spot c.args.low_rank c.args.high_rank)
     × KeptOff (walk (turned spot c.args.low_rank c.args.high_rank))
-    (g.K.Knots.knots c.args.knots.now) (g.K.Knots.knots c.relink.new.knots)
+    (g.K.NodeStore.nodes c.args.nodes.now) (g.K.NodeStore.nodes c.relink.new.nodes)
 works g c spot =
     let number = g.P.Inx.PtrInxCore.number in
     let below = named number c.read-below.result in
@@ -51,7 +51,7 @@ read-above-requires-clause-live g c =
 
 pub reparent-requires-clause-live : goal.reparent-requires-clause-live
 reparent-requires-clause-live g c =
-    if_live g.P.Inx.PtrInxCore.number (g.K.Knots.knots c.write.new.self) c.child-middle.result
+    if_live g.P.Inx.PtrInxCore.number (g.K.NodeStore.nodes c.write.new.self) c.child-middle.result
     (λ i e.
     write-lives _ _ _ _ c.write.ensures.written i
     (spot_child _ _ _ _ _ c.read-below.ensures c.requires.spot i
@@ -64,7 +64,7 @@ write-requires-2-clause-live g c =
 
 pub relink-requires-clause-live : goal.relink-requires-clause-live
 relink-requires-clause-live g c =
-    if_live g.P.Inx.PtrInxCore.number (g.K.Knots.knots c.write-2.new.self)
+    if_live g.P.Inx.PtrInxCore.number (g.K.NodeStore.nodes c.write-2.new.self)
     c.read-above.result.parent (λ i e.
     write-lives _ _ _ _ c.write-2.ensures.written i
     (reparent-lives _ _ _ _ c.reparent.ensures.does i

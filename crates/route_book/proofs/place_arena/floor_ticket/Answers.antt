@@ -13,6 +13,6 @@ returns-clause-ticket g c =
     (entry_in c.args.places.now)
     (λ f p t d h s. record { same = search rules; way = search rules; note = search rules })
     asked.0.questions _ _
-    (order_in g.P.Inx.PtrInxCore.number c.args.places.now) asked.0.made asked.0.entries asked.0.way
+    (order_in c.args.places.now) asked.0.made asked.0.entries asked.0.way
     c.requires.rise
     ∙ or_none _

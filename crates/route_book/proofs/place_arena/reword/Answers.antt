@@ -13,7 +13,7 @@ returns-clause-replaced g c p value =
     ≡ record { ticket = p.ticket; key = p.key; word = c.args.word } =
     c.replace_word.ensures.place
     ∙ ap (λ (q : Place). record { ticket = q.ticket; key = q.key; word = c.args.word }) same in
-    subst (λ q. IsReplaced g.P.Inx.PtrInxCore.number (g.P.PtrCore.index c.args.at)
+    subst (λ q. IsReplaced (g.P.PtrCore.index c.args.at)
     (g.P.PtrCore.generation c.args.at)
     (record { ticket = p.ticket; key = p.key; word = c.args.word }) p c.args.arena.now
     (with_item c.args.arena.now (g.P.PtrCore.index c.args.at) q)) (sym new)

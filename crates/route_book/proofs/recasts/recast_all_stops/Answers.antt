@@ -4,8 +4,8 @@ use Rattle.route_book.proofs.recasts.recast_all_stops.Goals as goal
 
 pub returns-clause-ends : goal.returns-clause-ends
 returns-clause-ends g c =
-    λ j. c.recast_stops.ensures.kept (λ s. ends_in g.P.Inx.PtrInxCore.number s j)
-    (λ s i t. ends-with_value_in g.P.Inx.PtrInxCore.number s i t j)
+    λ j. c.recast_stops.ensures.kept (λ s. ends_in s j)
+    (λ s i t. ends-with_value_in s i t j)
 
 pub returns-clause-free : goal.returns-clause-free
 returns-clause-free g c =

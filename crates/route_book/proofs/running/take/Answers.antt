@@ -18,7 +18,7 @@ loop-line-preserved g c =
           (c.loop-line.invariant.taken begun none stands) c.in-Some.ensures.found.0
           c.in-Some.ensures.found.1 c.finish-command.ensures.command
           c.finish-command.ensures.cleared done.state done.ok done.counts
-          (line_looks g.P.Inx.PtrInxCore.number g.P.Gen.PtrGenCore.last _ _ _ _ _ done.steps);
+          (line_looks g.P.Gen.PtrGenCore.last _ _ _ _ _ done.steps);
       failed = done.ok_failed ∙ c.loop-line.invariant.failed;
     }
 
@@ -29,7 +29,7 @@ returns-in_err-carry_out-clause-err g c =
     (λ begun none stands. Stops-at_line _ _ _ _ _ c.finish-command.result _ _ _ _ _ _ _ _ _
     (c.loop-line.invariant.taken begun none stands) c.in-Some.ensures.found.0
     c.in-Some.ensures.found.1 c.finish-command.ensures.command broken.state broken.err broken.counts
-    (line_looks g.P.Inx.PtrInxCore.number g.P.Gen.PtrGenCore.last _ _ _ _ _ broken.steps))
+    (line_looks g.P.Gen.PtrGenCore.last _ _ _ _ _ broken.steps))
 
 pub returns-clause-ok : goal.returns-clause-ok
 returns-clause-ok g c begun none stands =

@@ -20,15 +20,15 @@ returns-clause-entries g c run =
     let gens = subst (λ x. map generation_of (indexed new)
     ≡ replicate (size_in c.args.from) x) c.two.ensures done.filled.generations in
     moved_as (λ (p : Place). p) two (size_in c.args.from) (entry_in c.args.from) (entry_in new)
-    (ordered_entries g.P.Inx.PtrInxCore.number c.args.from) (indexed new) values gens
+    (ordered_entries c.args.from) (indexed new) values gens
     done.filled.entries
-    (places_along g.P.Inx.PtrInxCore.number c.args.from ordered
+    (places_along c.args.from ordered
     (λ i some. c.entries_stand_in_the_list.ensures c.args.from i ordered some) run) refl refl
 
 pub returns-clause-within : goal.returns-clause-within
 returns-clause-within g c run k some =
     let ordered = c.len.ensures.formed.ordered in
-    let bound = place_bound g.P.Inx.PtrInxCore.number c.args.from ordered
+    let bound = place_bound c.args.from ordered
     (λ i some. c.entries_stand_in_the_list.ensures c.args.from i ordered some) run k some in
     let fits = c.requires.fits in
     let value = c.capacity.ensures.value in

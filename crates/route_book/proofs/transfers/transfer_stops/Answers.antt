@@ -25,13 +25,13 @@ returns-clause-entries g c laid =
     ≡ replicate (live_count c.args.from) x) c.two.ensures done.filled.generations in
     moved_as f two (live_count c.args.from) (values_in c.args.from) (values_in new) done.moved.order
     (listed_values new) values gens done.filled.entries
-    (stops_along g.P.Inx.PtrInxCore.number g.Q.Inx.PtrInxCore.number done.moved.order c.args.from
+    (stops_along done.moved.order c.args.from
     new done.moved.laid laid) refl refl
 
 pub returns-clause-within : goal.returns-clause-within
 returns-clause-within g c laid k some =
     let done = c.in-Ok.ensures in
-    let bound = stop_bound g.P.Inx.PtrInxCore.number g.Q.Inx.PtrInxCore.number done.moved.order
+    let bound = stop_bound done.moved.order
     c.args.from c.transfer_canonical_reallocating-moved.new.self done.moved.laid laid k some in
     let fits = c.requires.fits in
     let value = c.capacity.ensures.value in
@@ -40,21 +40,21 @@ returns-clause-within g c laid k some =
 
 pub returns-clause-on : goal.returns-clause-on
 returns-clause-on g c i k is =
-    live_values g.P.Inx.PtrInxCore.number c.args.from k
-    (live_prev_in (ends_in g.P.Inx.PtrInxCore.number c.args.from k) i
+    live_values c.args.from k
+    (live_prev_in (ends_in c.args.from k) i
     (c.len.ensures.formed.agreed.forward i k is))
 
 pub returns-clause-next : goal.returns-clause-next
 returns-clause-next g c laid k some =
     let done = c.in-Ok.ensures in
-    next_same g.P.Inx.PtrInxCore.number g.Q.Inx.PtrInxCore.number done.moved.order c.args.from
+    next_same done.moved.order c.args.from
     c.transfer_canonical_reallocating-moved.new.self done.moved.laid laid
     c.len.ensures.formed.agreed k some
 
 pub returns-clause-laid : goal.returns-clause-laid
 returns-clause-laid g c laid =
     let done = c.in-Ok.ensures in
-    runs_stay g.P.Inx.PtrInxCore.number g.Q.Inx.PtrInxCore.number done.moved.order c.args.from
+    runs_stay done.moved.order c.args.from
     c.transfer_canonical_reallocating-moved.new.self done.moved.laid laid
     c.len.ensures.formed.agreed
 

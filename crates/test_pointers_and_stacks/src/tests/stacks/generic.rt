@@ -65,7 +65,7 @@ fn push_to_array_by_entry(stack: &mut NonZeroInxArray<u64, 4>, x: u64) -> bool
     }
 }
 
-// Exchanges two items that are lent at once, and answers whether there were two.
+// Exchanges two items that are borrowed at once, and answers whether there were two.
 fn exchange<T: Drop, S: NonZeroInxGenericStack<Item = T>>(
     stack: &mut S,
     i: NonZeroUsize,

@@ -7,12 +7,12 @@ returns-in-Some-clause-entries g c =
     let last = sym c.last.ensures.at ∙ ap (option_map g.P.PtrCore.index) c.in-Some.is
     ∙ ap Some (sym c.inx.ensures) in
     let put = c.insert_inx_manual_within_capacity in
-    added_behind g.P.Inx.PtrInxCore.number c.args.arena.now put.new.self _ _
+    added_behind c.args.arena.now put.new.self _ _
     c.args.entry c.len.ensures.formed.ordered put.ensures.added
     (g.P.Inx.PtrInxCore.number c.inx.result) put.ensures.stands last
 
 pub returns-in-None-clause-entries : goal.returns-in-None-clause-entries
 returns-in-None-clause-entries g c =
     let put = c.insert_inx_manual_within_capacity-in-None in
-    added_first g.P.Inx.PtrInxCore.number c.args.arena.now put.new.self _ _
+    added_first c.args.arena.now put.new.self _ _
     c.args.entry c.len.ensures.formed.ordered put.ensures.added put.ensures.stands

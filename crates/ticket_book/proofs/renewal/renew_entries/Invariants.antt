@@ -21,10 +21,10 @@ invariant-loop-p g l =
                 (g.O.ArenaTrait.entry_at l.marks)) e.1,
           )) (entry_in l.fn.arena j);
       ahead : (j : ℕ) → l.walk.low ≤ j → entry_in l.arena j ≡ entry_in l.fn.arena j;
-      order : order_in g.P.Inx.PtrInxCore.number l.arena
-          ≡ order_in g.P.Inx.PtrInxCore.number l.fn.arena;
+      order : order_in l.arena
+          ≡ order_in l.fn.arena;
       room : l.arena.chains.room ≡ l.fn.arena.chains.room;
-      ordered : IsOrdered g.P.Inx.PtrInxCore.number l.arena;
+      ordered : IsOrdered l.arena;
     }
 
 abbrev pub decreases-loop-p : goal.decreases-loop-p

@@ -3,5 +3,5 @@ use Rattle.triple_arena_chain.proofs.laws.compress_canonical_stays.Goals as goal
 
 pub returns : goal.returns
 returns g c = λ before between after reset again first second i some.
-    canonical_twice g.P.Inx.PtrInxCore.number g.P.Gen.PtrGenCore.last reset again before between
+    canonical_twice g.P.Gen.PtrGenCore.last reset again before between
     after first second i some

@@ -3,4 +3,4 @@ use Rattle.triple_arena_chain.proofs.laws.connect_takes_break_next_back.Goals as
 
 pub returns : goal.returns
 returns g c before between after p q chained next one two =
-    break_next_back g.P.Inx.PtrInxCore.number before between after p q chained next one two
+    break_next_back before between after p q chained next (one q next) two

@@ -5,18 +5,18 @@ use Rattle.triple_arena_chain.proofs.laws.values_keep_the_interlinks.Goals as go
 
 pub returns-clause-written : goal.returns-clause-written
 returns-clause-written g c =
-    λ content i t k. ends-with_value_in g.P.Inx.PtrInxCore.number content i t k
+    λ content i t k. ends-with_value_in content i t k
 
 pub returns-clause-recast : goal.returns-clause-recast
 returns-clause-recast g c =
-    λ f content k. ends-content_recasted g.P.Inx.PtrInxCore.number g.T.Recast.items f
+    λ f content k. ends-content_recasted g.T.Recast.items f
     (g.T.Recast.recasted f) content k
 
 pub returns-clause-invalidated : goal.returns-clause-invalidated
 returns-clause-invalidated g c =
-    λ content i k. ends-invalidated g.P.Inx.PtrInxCore.number g.P.Gen.PtrGenCore.last content i k
+    λ content i k. ends-invalidated g.P.Gen.PtrGenCore.last content i k
 
 pub returns-clause-limited : goal.returns-clause-limited
 returns-clause-limited g c =
-    λ content max k. ends-with_limit g.P.Inx.PtrInxCore.number g.P.Inx.PtrInxCore.greatest content
+    λ content max k. ends-with_limit g.P.Inx.PtrInxCore.greatest content
     max k

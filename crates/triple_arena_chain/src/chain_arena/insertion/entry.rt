@@ -36,10 +36,9 @@ impl<'a, P: PtrCore, T: Drop, S: ChainSlots<P, T>> ArenaInsertEntryTrait<P, T>
         requires { IsReady P.Inx.number P.index P.generation self }
 
         // `self.exit.0.now` are the links as they are left.
-        ensures inserted { IsLinkInserted P.Inx.number (entry_gap P.Inx.number self.entry)
-            (P.index result)
+        ensures inserted { IsLinkInserted (entry_gap P.Inx.number self.entry) (P.index result)
             (P.generation result) t (entry_chains self.entry) self.exit.0.now }
-        ensures formed { IsChained P.Inx.number self.exit.0.now }
+        ensures formed { IsChained self.exit.0.now }
         ensures room { self.exit.0.now.room ≡ (entry_chains self.entry).room }
     {
         let ChainArenaInsertEntry {
@@ -98,8 +97,10 @@ impl<P: PtrCore, T: Drop, S: ChainSlots<P, T>> ChainArena<P, T, S> {
         }
     }
 
-    /// Room for one link more. If there is none, the arena grows, and returns the errors, as
-    /// `insert_reallocating` does. An error leaves the links as they were.
+    /// Room for one link more. If there is none, the arena grows, in the steps of
+    /// `insert_reallocating`. It returns `FailedLinkRequirement` if the links are not as the kind
+    /// requires, and else `BeyondMaxCapacity` if as many links are live as the greatest capacity,
+    /// and `AllocError` if the memory was refused. An error leaves the links as they were.
     pub fn entry_insert_reallocating(
         &mut self,
         kind: LinkInsertKind<P>,
@@ -122,9 +123,10 @@ impl<P: PtrCore, T: Drop, S: ChainSlots<P, T>> ChainArena<P, T, S> {
         })
     }
 
-    /// Room for one link more. The links must be as the kind requires. If there is none, the arena
-    /// grows; the growth and the errors are those of `entry_insert_reallocating`. An error
-    /// leaves the links as they were.
+    /// Room for one link more. The links must be as the kind requires. If there is no room, the
+    /// arena grows. It returns `BeyondMaxCapacity` if as many links are live as the greatest
+    /// capacity, and `AllocError` if the memory was refused. An error leaves the links as they
+    /// were.
     pub fn entry_insert(
         &mut self,
         kind: LinkInsertKind<P>,

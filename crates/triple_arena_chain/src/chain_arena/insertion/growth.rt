@@ -21,7 +21,7 @@ impl<P: PtrCore, T: Drop, S: ChainSlots<P, T>> ChainArena<P, T, S> {
         ensures has_generation { IfOk result (λ p. P.generation p ≡ self.new.counter) }
         ensures grown { OnOk result (self.new ≡ grown_if_full self.old) }
         ensures room { OnOk result (live_count self.new < arena_capacity self.new) }
-        ensures formed { IsChained P.Inx.number self.new }
+        ensures formed { IsChained self.new }
         ensures refusal { IsRefusal S.takes_memory (live_count self.old) self.old.room result }
         ensures err { OnErr result (self.new ≡ self.old) }
     {
@@ -42,11 +42,11 @@ impl<P: PtrCore, T: Drop, S: ChainSlots<P, T>> ChainArena<P, T, S> {
             (λ made. gap_among P.index P.generation P.Inx.number self.old kind
             ≡ Some (gap_by P.Inx.number made.0)) }
         ensures is_gap { IfOk result (λ made.
-            IsGap (ends_in P.Inx.number self.new) (gap_by P.Inx.number made.0)) }
+            IsGap (ends_in self.new) (gap_by P.Inx.number made.0)) }
         ensures has_index { IfOk result (λ made. P.index made.1 ≡ next_index self.new) }
         ensures has_generation { IfOk result (λ made. P.generation made.1 ≡ self.new.counter) }
         ensures grown { OnOk result (self.new ≡ grown_if_full self.old) }
-        ensures formed { IsChained P.Inx.number self.new }
+        ensures formed { IsChained self.new }
         ensures room { OnOk result (live_count self.new < arena_capacity self.new) }
         ensures err { OnErr result (self.new ≡ self.old) }
     {

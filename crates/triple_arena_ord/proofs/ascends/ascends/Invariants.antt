@@ -7,7 +7,7 @@ use Rattle.triple_arena_ord.proofs.ascends.ascends.Given as goal
 abbrev pub invariant-along : goal.invariant-along
 invariant-along g l =
     let number = g.P.Inx.PtrInxCore.number in
-    (w : List ℕ) → IsLinear (ends_in number (g.A.Links.links l.arena)) w
+    (w : List ℕ) → IsLinear (ends_in (g.A.Links.links l.arena)) w
     → first_or w None ≡ Some (number l.fn.first) → length w ≤ l.fn.most
-    → Checking number g.T.Key.Ord.cmp g.T.SimpleOrdItem.key_of g.met.T.Key.Ord.total
+    → Checking g.T.Key.Ord.cmp g.T.SimpleOrdItem.key_of g.met.T.Key.Ord.total
     (g.A.Links.links l.arena) w l.link l._done

@@ -2,4 +2,4 @@ use Rattle.triple_arena_ord.proofs.LawLemmas.{stands}
 use Rattle.triple_arena_ord.proofs.laws.entries_stand_in_the_list.Goals as goal
 
 pub returns : goal.returns
-returns g c = λ o i ordered live. stands g.P.Inx.PtrInxCore.number o ordered i live
+returns g c = λ o i ordered live. stands o ordered i live

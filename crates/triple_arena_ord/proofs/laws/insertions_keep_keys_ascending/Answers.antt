@@ -4,19 +4,19 @@ use Rattle.triple_arena_ord.proofs.laws.insertions_keep_keys_ascending.Goals as 
 
 pub returns-clause-by_key : goal.returns-clause-by_key
 returns-clause-by_key g c = λ place t result old new growth is at put ascending.
-    placed_ascending g.P.Inx.PtrInxCore.number g.T.Key.Ord.cmp g.T.SimpleOrdItem.key_of
+    placed_ascending g.T.Key.Ord.cmp g.T.SimpleOrdItem.key_of
     g.met.T.Key.Ord.total old new g.P.PtrCore.index g.P.PtrCore.generation _ t place result is
     put.ordered at put.inserted ascending
 
 pub returns-clause-before_equal : goal.returns-clause-before_equal
 returns-clause-before_equal g c = λ place t result old new growth is at put ascending.
-    placed_before_ascending g.P.Inx.PtrInxCore.number g.T.Key.Ord.cmp g.T.SimpleOrdItem.key_of
+    placed_before_ascending g.T.Key.Ord.cmp g.T.SimpleOrdItem.key_of
     g.met.T.Key.Ord.total old new g.P.PtrCore.index g.P.PtrCore.generation _ t place result is
     put.ordered at put.inserted ascending
 
 pub returns-clause-between : goal.returns-clause-between
 returns-clause-between g c = λ before after i n t old new ordered added was is low high ascending.
     added_ascending g.T.Key.Ord.cmp g.T.SimpleOrdItem.key_of g.met.T.Key.Ord.total
-    g.P.Inx.PtrInxCore.number old new i n t ordered
+    old new i n t ordered
     (record { before = before; after = after; was = was; is = is; low = low; high = high }) added
     ascending

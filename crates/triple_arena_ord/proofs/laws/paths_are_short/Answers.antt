@@ -7,11 +7,11 @@ use Rattle.triple_arena_ord.proofs.laws.paths_are_short.Goals as goal
 
 pub returns-clause-high : goal.returns-clause-high
 returns-clause-high g c =
-    λ o is. height-le-rank (tree_in g.P.Inx.PtrInxCore.number o) is.whole.ranked
+    λ o is. height-le-rank (tree_in o) is.whole.ranked
 
 pub returns-clause-low : goal.returns-clause-low
 returns-clause-low g c = λ o is some.
-    let t = tree_in g.P.Inx.PtrInxCore.number o in
+    let t = tree_in o in
     let size_is : size t ≡ size_in o = size-walk t ∙ is.counted in
     subst (λ n. 2 ^ (rank_of t + 1) ≤ (n + 1) * (n + 1)) size_is
     (size_bound t is.whole.ranked (subst (λ n. 0 < n) (sym size_is) some))

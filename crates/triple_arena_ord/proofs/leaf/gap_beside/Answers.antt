@@ -5,8 +5,8 @@ use Rattle.triple_arena_ord.proofs.leaf.gap_beside.Goals as goal
 pub returns-clause-gap : goal.returns-clause-gap
 returns-clause-gap g c =
     let number = g.P.Inx.PtrInxCore.number in
-    cut_gap number (record { chains = c.args.chains.now; root = option_map number c.args.root })
+    cut_gap (record { chains = c.args.chains.now; root = option_map number c.args.root })
     c.requires.ordered (number c.args.holder) c.args.side
     (option_map number c.neighbors_beside.result.0) (option_map number c.neighbors_beside.result.1)
-    (cut_found number _ c.requires.ordered _ _ _ _ c.requires.lives c.requires.free
+    (cut_found _ c.requires.ordered _ _ _ _ c.requires.lives c.requires.free
     c.neighbors_beside.ensures.prev c.neighbors_beside.ensures.next)

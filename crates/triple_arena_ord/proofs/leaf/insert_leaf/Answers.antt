@@ -11,7 +11,7 @@ use Rattle.triple_arena_ord.proofs.leaf.insert_leaf.Goals as goal
 
 -- the list is cut beside the holder
 cut : (g : _) (c : After-gap_beside-prev g)
-    → Cut g.P.Inx.PtrInxCore.number
+    → Cut
     (record {
       chains = c.args.chains.now;
       root = option_map g.P.Inx.PtrInxCore.number c.args.root.now;
@@ -20,13 +20,13 @@ cut : (g : _) (c : After-gap_beside-prev g)
     (option_map g.P.Inx.PtrInxCore.number c.gap_beside-prev.result.0)
     (option_map g.P.Inx.PtrInxCore.number c.gap_beside-prev.result.1)
 cut g c =
-    cut_found g.P.Inx.PtrInxCore.number _ c.requires.ordered _ _ _ _ c.requires.lives
+    cut_found _ c.requires.ordered _ _ _ _ c.requires.lives
     c.requires.free
     c.gap_beside-prev.ensures.prev c.gap_beside-prev.ensures.next
 
 -- the chain has one more link there
 linked : (g : _) (c : After-inx g)
-    → Linked g.P.Inx.PtrInxCore.number
+    → Linked
     (record {
       chains = c.args.chains.now;
       root = option_map g.P.Inx.PtrInxCore.number c.args.root.now;
@@ -35,7 +35,13 @@ linked : (g : _) (c : After-inx g)
     (g.P.Inx.PtrInxCore.number c.inx.result)
     (g.P.PtrCore.index c.insert_in_gap_unwrap-p.result)
     (g.P.PtrCore.generation c.insert_in_gap_unwrap-p.result) c.args.side
-    (record { t = c.args.t; p_back = Some c.args.holder; p_tree0 = None; p_tree1 = None; rank = 1 })
+    (record {
+      t = c.args.t;
+      p_back = Some (g.P.Inx.PtrInxCore.number c.args.holder);
+      p_tree0 = None;
+      p_tree1 = None;
+      rank = 1;
+    })
 linked g c =
     let bound : c.capacity-capacity.result < 2 ^ 64 = search rules in
     let capacity_is = c.capacity-capacity.ensures.value in
@@ -45,7 +51,7 @@ linked g c =
       prev = option_map g.P.Inx.PtrInxCore.number c.gap_beside-prev.result.0;
       next = option_map g.P.Inx.PtrInxCore.number c.gap_beside-prev.result.1;
       cut = cut g (goal.at.After-inx g c).After-gap_beside-prev;
-      placed = subst (λ n. IsLinkInserted g.P.Inx.PtrInxCore.number
+      placed = subst (λ n. IsLinkInserted
           (Between (option_map g.P.Inx.PtrInxCore.number c.gap_beside-prev.result.0)
           (option_map g.P.Inx.PtrInxCore.number c.gap_beside-prev.result.1))
           (g.P.PtrCore.index c.insert_in_gap_unwrap-p.result)
@@ -58,22 +64,22 @@ linked g c =
 
 -- and the tree one more leaf
 leaf : (g : _) (c : After-bring_in g)
-    → Leaf g.P.Inx.PtrInxCore.number (linked g (goal.at.After-bring_in g c).After-inx)
-    c.bring_in.new.knots
+    → Leaf (linked g (goal.at.After-bring_in g c).After-inx)
+    c.bring_in.new.nodes
     (option_map g.P.Inx.PtrInxCore.number c.bring_in.new.root)
 leaf g c =
     let link = linked g (goal.at.After-bring_in g c).After-inx in
-    leaf_works g.P.Inx.PtrInxCore.number link _ _
-    (c.bring_in.ensures.does (leaf_gap g.P.Inx.PtrInxCore.number link)) c.bring_in.ensures.keeps
+    leaf_works link _ _
+    (c.bring_in.ensures.does (leaf_gap link)) c.bring_in.ensures.keeps
 
-pub bring_in-requires-clause-gap : goal.bring_in-requires-clause-gap
-bring_in-requires-clause-gap g c =
-    leaf_gap g.P.Inx.PtrInxCore.number
-    (linked g (goal.at.bring_in-requires-clause-gap g c).After-inx)
+pub bring_in-requires-clause-free : goal.bring_in-requires-clause-free
+bring_in-requires-clause-free g c =
+    leaf_gap
+    (linked g (goal.at.bring_in-requires-clause-free g c).After-inx)
 
 pub bring_in-requires-clause-slot : goal.bring_in-requires-clause-slot
 bring_in-requires-clause-slot g c =
-    leaf_slot g.P.Inx.PtrInxCore.number
+    leaf_slot
     (linked g (goal.at.bring_in-requires-clause-slot g c).After-inx) refl
 
 pub returns-clause-ordered : goal.returns-clause-ordered
@@ -87,12 +93,12 @@ returns-clause-added g c = (leaf g (goal.at.returns-clause-added g c).After-brin
 
 pub returns-clause-counter : goal.returns-clause-counter
 returns-clause-counter g c =
-    (rested g.P.Inx.PtrInxCore.number c.insert_in_gap_unwrap-p.new.self c.bring_in.new.knots
+    (rested c.insert_in_gap_unwrap-p.new.self c.bring_in.new.nodes
     c.bring_in.ensures.keeps).kept.counter
     ∙ c.insert_in_gap_unwrap-p.ensures.inserted.counter
 
 pub returns-clause-room : goal.returns-clause-room
 returns-clause-room g c =
-    (rested g.P.Inx.PtrInxCore.number c.insert_in_gap_unwrap-p.new.self c.bring_in.new.knots
+    (rested c.insert_in_gap_unwrap-p.new.self c.bring_in.new.nodes
     c.bring_in.ensures.keeps).kept.room
     ∙ c.insert_in_gap_unwrap-p.ensures.room

@@ -20,7 +20,7 @@ pub unreached-unreachable-requires : goal.unreached-unreachable-requires
 unreached-unreachable-requires g c =
     let number = g.P.Inx.PtrInxCore.number in
     let links = g.A.Links.links c.args.arena.now in
-    walk_lives number g.T.Key.Ord.cmp g.T.SimpleOrdItem.key_of c.args.k.now links c.requires.place.0
+    walk_lives g.T.Key.Ord.cmp g.T.SimpleOrdItem.key_of c.args.k.now links c.requires.place.0
     (number c.args.start) _ c.requires.place.1 c.along.way (number c.along.i) c.along._made
     (c.along.invariant.1 c.requires.place.0 c.requires.place.1 c.requires.place.2)
     (none_seen g.P.Gen.PtrGenCore.number (λ b. b.now) links (number c.along.i) _ c.in-None.is
@@ -30,7 +30,7 @@ pub returns-in-None-onward-clause-stops : goal.returns-in-None-onward-clause-sto
 returns-in-None-onward-clause-stops g c = λ w linear on.
     let number = g.P.Inx.PtrInxCore.number in
     let links = g.A.Links.links c.args.arena.now in
-    walk_stops number g.T.Key.Ord.cmp g.T.SimpleOrdItem.key_of c.args.k.now links w
+    walk_stops g.T.Key.Ord.cmp g.T.SimpleOrdItem.key_of c.args.k.now links w
     (number c.args.start) _ linear c.along.way (number c.along.i) c.along._made
     (c.along.invariant.1 w linear on) _ c.in-Some.link.now
     (link_seen g.P.Gen.PtrGenCore.number (λ b. b.now) links (number c.along.i) _ _ c.in-Some.link
@@ -42,7 +42,7 @@ pub returns-in-None-onward-clause-walked : goal.returns-in-None-onward-clause-wa
 returns-in-None-onward-clause-walked g c = λ w linear on.
     let number = g.P.Inx.PtrInxCore.number in
     let links = g.A.Links.links c.args.arena.now in
-    let there = walk_ended number g.T.Key.Ord.cmp g.T.SimpleOrdItem.key_of c.args.k.now links w
+    let there = walk_ended g.T.Key.Ord.cmp g.T.SimpleOrdItem.key_of c.args.k.now links w
     (number c.args.start) _ linear c.along.way (number c.along.i) c.along._made
     (c.along.invariant.1 w linear on) _ c.in-Some.link.now
     (link_seen g.P.Gen.PtrGenCore.number (λ b. b.now) links (number c.along.i) _ _ c.in-Some.link
@@ -61,7 +61,7 @@ along-preserved g c =
     let ticked = c.tick.ensures in (
       omega (arith, ticks, ticked),
       λ w linear on.
-          walk_step number g.T.Key.Ord.cmp g.T.SimpleOrdItem.key_of c.args.k.now links w
+          walk_step g.T.Key.Ord.cmp g.T.SimpleOrdItem.key_of c.args.k.now links w
           (number c.args.start) _ linear c.along.way (number c.along.i) c.along._made
           (c.along.invariant.1 w linear on) _ c.in-Some.link.now
           (link_seen g.P.Gen.PtrGenCore.number (λ b. b.now) links (number c.along.i) _ _
@@ -76,7 +76,7 @@ pub returns-clause-near : goal.returns-clause-near
 returns-clause-near g c = λ w linear on parted hand none.
     let number = g.P.Inx.PtrInxCore.number in
     let links = g.A.Links.links c.args.arena.now in
-    walk_passes number g.T.Key.Ord.cmp g.T.SimpleOrdItem.key_of c.args.k.now links w
+    walk_passes g.T.Key.Ord.cmp g.T.SimpleOrdItem.key_of c.args.k.now links w
     (number c.args.start) _ linear on c.along.way (number c.along.i) c.along._made c.args.num
     (omega arith)
     (c.along.invariant.1 w linear on) parted hand
@@ -85,7 +85,7 @@ pub returns-clause-walked : goal.returns-clause-walked
 returns-clause-walked g c = λ w linear on.
     let number = g.P.Inx.PtrInxCore.number in
     let links = g.A.Links.links c.args.arena.now in
-    let more = walk_on number g.T.Key.Ord.cmp g.T.SimpleOrdItem.key_of c.args.k.now links w
+    let more = walk_on g.T.Key.Ord.cmp g.T.SimpleOrdItem.key_of c.args.k.now links w
     (number c.args.start) _ linear c.along.way (number c.along.i) c.along._made
     (c.along.invariant.1 w linear on) in
     let ticks = c.along.invariant.0 in

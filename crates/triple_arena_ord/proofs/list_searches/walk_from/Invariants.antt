@@ -12,6 +12,6 @@ invariant-along g l =
     let ask = asked_in g.T.Key.Ord.cmp g.T.SimpleOrdItem.key_of l.k
     (items_in (g.A.Links.links l.arena)) in
     (l.probes ≡ l.fn.probes + l._made)
-    × ((w : List ℕ) → IsLinear (ends_in number (g.A.Links.links l.arena)) w
+    × ((w : List ℕ) → IsLinear (ends_in (g.A.Links.links l.arena)) w
     → (on : On w (number l.fn.start))
     → Walking ask w (number l.fn.start) (path_from ask on) l.way (number l.i) l._made)

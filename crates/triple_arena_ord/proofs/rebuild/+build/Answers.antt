@@ -1,12 +1,12 @@
 use Rattle.std.proofs.Common.{◌≡◌, ◌-◌, ◌≤◌, Some, None, IsSome, sym, ap, subst, ◌∙◌, arith}
 use Rattle.std.specs.Option.{option_map}
 use Rattle.triple_arena_chain.specs.Links.{ends_in}
-use Rattle.triple_arena_ord.specs.Node.{knots_in}
+use Rattle.triple_arena_ord.specs.Node.{nodes_in}
 use Rattle.triple_arena_ord.specs.Rebuilt.{IsAhead}
 use Rattle.rank_tree.specs.Halving.{IsBuilt}
 use Rattle.rank_tree.specs.BuildLaws.{built_none}
 use Rattle.triple_arena_ord.proofs.RebuildLemmas.{parts, empty_ahead, right_ahead, stays_there}
-use Rattle.triple_arena_ord.proofs.RebuildLemmas.{lives_if, root_lives, live_knot, part_built}
+use Rattle.triple_arena_ord.proofs.RebuildLemmas.{lives_if, root_lives, live_node, part_built}
 use Rattle.triple_arena_ord.proofs.rebuild.+build.Goals as goal
 
 pub returns-then-count-eq0-clause-built : goal.returns-then-count-eq0-clause-built
@@ -14,16 +14,16 @@ returns-then-count-eq0-clause-built g t c = λ w a.
     let number = g.P.Inx.PtrInxCore.number in
     let none : c.args.count ≡ 0 = omega arith in
     let empty = empty_ahead _ _ w
-    (subst (λ n. IsAhead (ends_in number c.args.chains.now)
+    (subst (λ n. IsAhead (ends_in c.args.chains.now)
     (option_map number c.args.cursor.now) n w) none a) in
-    subst (λ l. IsBuilt c.args.top l None (knots_in number c.args.chains.now)
-    (knots_in number c.args.chains.now)) (sym empty.0) (built_none c.args.top _)
+    subst (λ l. IsBuilt c.args.top l None (nodes_in c.args.chains.now)
+    (nodes_in c.args.chains.now)) (sym empty.0) (built_none c.args.top _)
 
 pub build-left-requires : goal.build-left-requires
 build-left-requires g t c κs within =
     let number = g.P.Inx.PtrInxCore.number in
     let some : 1 ≤ c.args.count = omega arith in
-    let p = parts (ends_in number c.args.chains.now) (option_map number c.args.cursor.now)
+    let p = parts (ends_in c.args.chains.now) (option_map number c.args.cursor.now)
     c.args.count c.requires.0 c.requires.1 some in (
       omega arith,
       (
@@ -48,7 +48,7 @@ pub unreached-unreachable-requires : goal.unreached-unreachable-requires
 unreached-unreachable-requires g t c =
     let number = g.P.Inx.PtrInxCore.number in
     let some : 1 ≤ c.args.count = omega arith in
-    let p = parts (ends_in number c.args.chains.now) (option_map number c.args.cursor.now)
+    let p = parts (ends_in c.args.chains.now) (option_map number c.args.cursor.now)
     c.args.count c.requires.0 c.requires.1 some in
     let came = c.build-left.ensures.goes_on p.v p.left ∙ p.left_after in
     let gone : None ≡ Some p.i = sym (ap (option_map number) c.in_default.is) ∙ came in
@@ -58,13 +58,13 @@ pub build-right-requires : goal.build-right-requires
 build-right-requires g t c κs within =
     let number = g.P.Inx.PtrInxCore.number in
     let some : 1 ≤ c.args.count = omega arith in
-    let p = parts (ends_in number c.args.chains.now) (option_map number c.args.cursor.now)
+    let p = parts (ends_in c.args.chains.now) (option_map number c.args.cursor.now)
     c.args.count c.requires.0 c.requires.1 some in
     let came : Some (number c.in-Some.root) ≡ Some p.i =
     sym (ap (option_map number) c.in-Some.is) ∙ c.build-left.ensures.goes_on p.v p.left
     ∙ p.left_after in
     let is : number c.in-Some.root ≡ p.i = cc came in
-    let r = right_ahead number c.args.chains.now c.build-left.new.chains
+    let r = right_ahead c.args.chains.now c.build-left.new.chains
     (option_map number c.args.cursor.now) (option_map number c.next_of.result) c.args.count
     (number c.in-Some.root) c.requires.0 c.requires.1.after c.build-left.ensures.keeps p is
     c.next_of.ensures in (
@@ -91,10 +91,10 @@ pub reparent-requires-clause-live : goal.reparent-requires-clause-live
 reparent-requires-clause-live g t c =
     let number = g.P.Inx.PtrInxCore.number in
     let some : 1 ≤ c.args.count = omega arith in
-    let p = parts (ends_in number c.args.chains.now) (option_map number c.args.cursor.now)
+    let p = parts (ends_in c.args.chains.now) (option_map number c.args.cursor.now)
     c.args.count c.requires.0 c.requires.1 some in
-    lives_if number c.build-left.result (knots_in number c.build-right.new.chains)
-    (λ i root. stays_there number c.build-left.new.chains c.build-right.new.chains i
+    lives_if number c.build-left.result (nodes_in c.build-right.new.chains)
+    (λ i root. stays_there c.build-left.new.chains c.build-right.new.chains i
     c.build-right.ensures.keeps
     (root_lives _ _ _ _ _ (c.build-left.ensures.built p.v p.left) i root))
 
@@ -102,18 +102,18 @@ pub reparent-requires-2-clause-live : goal.reparent-requires-2-clause-live
 reparent-requires-2-clause-live g t c =
     let number = g.P.Inx.PtrInxCore.number in
     let some : 1 ≤ c.args.count = omega arith in
-    let p = parts (ends_in number c.args.chains.now) (option_map number c.args.cursor.now)
+    let p = parts (ends_in c.args.chains.now) (option_map number c.args.cursor.now)
     c.args.count c.requires.0 c.requires.1 some in
     let came : Some (number c.in-Some.root) ≡ Some p.i =
     sym (ap (option_map number) c.in-Some.is) ∙ c.build-left.ensures.goes_on p.v p.left
     ∙ p.left_after in
     let is : number c.in-Some.root ≡ p.i = cc came in
-    let r = right_ahead number c.args.chains.now c.build-left.new.chains
+    let r = right_ahead c.args.chains.now c.build-left.new.chains
     (option_map number c.args.cursor.now) (option_map number c.next_of.result) c.args.count
     (number c.in-Some.root) c.requires.0 c.requires.1.after c.build-left.ensures.keeps p is
     c.next_of.ensures in
-    lives_if number c.build-right.result (knots_in number c.reparent.new.knots)
-    (λ i root. stays_there number c.build-right.new.chains c.reparent.new.knots i
+    lives_if number c.build-right.result (nodes_in c.reparent.new.nodes)
+    (λ i root. stays_there c.build-right.new.chains c.reparent.new.nodes i
     c.reparent.ensures.keeps
     (root_lives _ _ _ _ _ (c.build-right.ensures.built p.u r.0) i root))
 
@@ -121,40 +121,40 @@ pub write-requires-clause-live : goal.write-requires-clause-live
 write-requires-clause-live g t c =
     let number = g.P.Inx.PtrInxCore.number in
     let some : 1 ≤ c.args.count = omega arith in
-    let p = parts (ends_in number c.args.chains.now) (option_map number c.args.cursor.now)
+    let p = parts (ends_in c.args.chains.now) (option_map number c.args.cursor.now)
     c.args.count c.requires.0 c.requires.1 some in
     let came : Some (number c.in-Some.root) ≡ Some p.i =
     sym (ap (option_map number) c.in-Some.is) ∙ c.build-left.ensures.goes_on p.v p.left
     ∙ p.left_after in
     let is : number c.in-Some.root ≡ p.i = cc came in
-    stays_there number c.args.chains.now c.reparent-2.new.knots (number c.in-Some.root)
+    stays_there c.args.chains.now c.reparent-2.new.nodes (number c.in-Some.root)
     (c.reparent-2.ensures.keeps ∙ c.reparent.ensures.keeps ∙ c.build-right.ensures.keeps
     ∙ c.build-left.ensures.keeps)
-    (live_knot number c.args.chains.now (number c.in-Some.root)
-    (subst (λ k. IsSome (ends_in number c.args.chains.now k)) (sym is) p.live))
+    (live_node c.args.chains.now (number c.in-Some.root)
+    (subst (λ k. IsSome (ends_in c.args.chains.now k)) (sym is) p.live))
 
 pub returns-clause-built : goal.returns-clause-built
 returns-clause-built g t c = λ w a.
     let number = g.P.Inx.PtrInxCore.number in
     let some : 1 ≤ c.args.count = omega arith in
-    let p = parts (ends_in number c.args.chains.now) (option_map number c.args.cursor.now)
+    let p = parts (ends_in c.args.chains.now) (option_map number c.args.cursor.now)
     c.args.count w a some in
     let came : Some (number c.in-Some.root) ≡ Some p.i =
     sym (ap (option_map number) c.in-Some.is) ∙ c.build-left.ensures.goes_on p.v p.left
     ∙ p.left_after in
     let is : number c.in-Some.root ≡ p.i = cc came in
-    let r = right_ahead number c.args.chains.now c.build-left.new.chains
+    let r = right_ahead c.args.chains.now c.build-left.new.chains
     (option_map number c.args.cursor.now) (option_map number c.next_of.result) c.args.count
     (number c.in-Some.root) w a.after c.build-left.ensures.keeps p is c.next_of.ensures in
     let under : c.saturating_sub-below.result ≡ c.args.top - 1 = c.saturating_sub-below.ensures in
-    part_built (ends_in number c.args.chains.now) (option_map number c.args.cursor.now) c.args.count
+    part_built (ends_in c.args.chains.now) (option_map number c.args.cursor.now) c.args.count
     c.args.top c.rank_of_part-rank.result
     (number c.in-Some.root) w a.after _ _ _ _ _ _ _ _ p is
     (subst (λ k. IsBuilt k p.v (option_map number c.build-left.result)
-    (knots_in number c.args.chains.now) (knots_in number c.build-left.new.chains)) under
+    (nodes_in c.args.chains.now) (nodes_in c.build-left.new.chains)) under
     (c.build-left.ensures.built p.v p.left))
     (subst (λ k. IsBuilt k p.u (option_map number c.build-right.result)
-    (knots_in number c.build-left.new.chains) (knots_in number c.build-right.new.chains)) under
+    (nodes_in c.build-left.new.chains) (nodes_in c.build-right.new.chains)) under
     (c.build-right.ensures.built p.u r.0))
     c.reparent.ensures.does c.reparent-2.ensures.does c.rank_of_part-rank.ensures
     c.write.ensures.written
@@ -163,13 +163,13 @@ pub returns-clause-goes_on : goal.returns-clause-goes_on
 returns-clause-goes_on g t c = λ w a.
     let number = g.P.Inx.PtrInxCore.number in
     let some : 1 ≤ c.args.count = omega arith in
-    let p = parts (ends_in number c.args.chains.now) (option_map number c.args.cursor.now)
+    let p = parts (ends_in c.args.chains.now) (option_map number c.args.cursor.now)
     c.args.count w a some in
     let came : Some (number c.in-Some.root) ≡ Some p.i =
     sym (ap (option_map number) c.in-Some.is) ∙ c.build-left.ensures.goes_on p.v p.left
     ∙ p.left_after in
     let is : number c.in-Some.root ≡ p.i = cc came in
-    let r = right_ahead number c.args.chains.now c.build-left.new.chains
+    let r = right_ahead c.args.chains.now c.build-left.new.chains
     (option_map number c.args.cursor.now) (option_map number c.next_of.result) c.args.count
     (number c.in-Some.root) w a.after c.build-left.ensures.keeps p is c.next_of.ensures in
     c.build-right.ensures.goes_on p.u r.0 ∙ r.1

@@ -16,7 +16,7 @@ pub returns-clause-rebuilt : goal.returns-clause-rebuilt
 returns-clause-rebuilt g c = λ w linear long is.
     let number = g.P.Inx.PtrInxCore.number in
     let count : c.len-count.result ≡ length w = c.len-count.ensures.value ∙ sym long in
-    let a = whole_ahead (ends_in number c.args.chains.now) (option_map number c.args.first)
+    let a = whole_ahead (ends_in c.args.chains.now) (option_map number c.args.first)
     c.len-count.result w linear (sym count) is in
     rebuilt_by w _ _ _ c.top_rank.result
     (subst (λ n. IsTopRank n c.top_rank.result) count c.top_rank.ensures.top)

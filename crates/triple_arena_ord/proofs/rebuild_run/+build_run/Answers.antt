@@ -1,6 +1,6 @@
 use Rattle.std.proofs.Common.{◌≡◌, ◌-◌, ◌/◌, Some, arith}
 use Rattle.std.specs.Option.{option_map}
-use Rattle.triple_arena_ord.specs.Node.{knots_in}
+use Rattle.triple_arena_ord.specs.Node.{nodes_in}
 use Rattle.triple_arena_ord.specs.RebuiltRun.{IsRunBuilt}
 use Rattle.triple_arena_ord.proofs.RebuildRunLemmas.{run_built_none, run_built_over}
 use Rattle.triple_arena_ord.proofs.rebuild_run.+build_run.Goals.{then-half-gt0, else-half-gt0}
@@ -12,8 +12,8 @@ returns-then-more-gt0-clause-built g t c =
     let under : c.saturating_sub-below.result ≡ c.args.top - 1 = c.saturating_sub-below.ensures in
     -- the left part, where it has indexes
     let left : IsRunBuilt (c.args.top - 1) (Some (number c.index_of-root.result)) c.args.before
-    (c.args.count / 2) (knots_in number c.write.new.self)
-    (knots_in number c.if-half-gt0.chains) =
+    (c.args.count / 2) (nodes_in c.write.new.self)
+    (nodes_in c.if-half-gt0.chains) =
     elim c.if-half-gt0.branch [
       | then-half-gt0 w ↦ rw (w.chains-is, ← under) w.build_run.ensures.built
       | else-half-gt0 w ↦ rw w.chains-is (run_built_none _ _ _ _ _ (omega arith))
@@ -21,8 +21,8 @@ returns-then-more-gt0-clause-built g t c =
     run_built_over c.args.top (option_map number c.args.parent) c.args.before c.args.count
     (number c.index_of-root.result) c.rank_of_part.result
     (option_map number c.root_of.result) (option_map number c.root_of-2.result)
-    (knots_in number c.args.chains.now) (knots_in number c.write.new.self)
-    (knots_in number c.if-half-gt0.chains) (knots_in number c.build_run-then-more-gt0.new.chains)
+    (nodes_in c.args.chains.now) (nodes_in c.write.new.self)
+    (nodes_in c.if-half-gt0.chains) (nodes_in c.build_run-then-more-gt0.new.chains)
     c.requires.some c.index_of-root.ensures c.rank_of_part.ensures c.root_of.ensures
     c.root_of-2.ensures c.write.ensures.written left
     (rw (← under) c.build_run-then-more-gt0.ensures.built)
@@ -33,8 +33,8 @@ returns-else-more-gt0-clause-built g t c =
     let under : c.saturating_sub-below.result ≡ c.args.top - 1 = c.saturating_sub-below.ensures in
     -- the left part, where it has indexes
     let left : IsRunBuilt (c.args.top - 1) (Some (number c.index_of-root.result)) c.args.before
-    (c.args.count / 2) (knots_in number c.write.new.self)
-    (knots_in number c.if-half-gt0.chains) =
+    (c.args.count / 2) (nodes_in c.write.new.self)
+    (nodes_in c.if-half-gt0.chains) =
     elim c.if-half-gt0.branch [
       | then-half-gt0 w ↦ rw (w.chains-is, ← under) w.build_run.ensures.built
       | else-half-gt0 w ↦ rw w.chains-is (run_built_none _ _ _ _ _ (omega arith))
@@ -42,8 +42,8 @@ returns-else-more-gt0-clause-built g t c =
     run_built_over c.args.top (option_map number c.args.parent) c.args.before c.args.count
     (number c.index_of-root.result) c.rank_of_part.result
     (option_map number c.root_of.result) (option_map number c.root_of-2.result)
-    (knots_in number c.args.chains.now) (knots_in number c.write.new.self)
-    (knots_in number c.if-half-gt0.chains) (knots_in number c.if-half-gt0.chains)
+    (nodes_in c.args.chains.now) (nodes_in c.write.new.self)
+    (nodes_in c.if-half-gt0.chains) (nodes_in c.if-half-gt0.chains)
     c.requires.some c.index_of-root.ensures c.rank_of_part.ensures c.root_of.ensures
     c.root_of-2.ensures c.write.ensures.written left
     (run_built_none _ _ _ _ _ (omega arith))

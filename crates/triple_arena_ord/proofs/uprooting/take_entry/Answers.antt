@@ -9,14 +9,14 @@ use Rattle.triple_arena_ord.proofs.uprooting.take_entry.Goals as goal
 pub take_inx_link_unwrap-generation-requires : goal.take_inx_link_unwrap-generation-requires
 take_inx_link_unwrap-generation-requires g c =
     let number = g.P.Inx.PtrInxCore.number in
-    let o : Ordered g.row.P-Inx.Denot g.row.T.Denot =
+    let o : Ordered g.row.T.Denot =
     record { chains = c.args.chains.now; root = option_map number c.args.root.now } in
-    still number o c.uproot.new.chains (number c.args.gone) c.uproot.ensures.keeps c.requires.lives
+    still o c.uproot.new.chains (number c.args.gone) c.uproot.ensures.keeps c.requires.lives
 
 pub returns : goal.returns
 returns g c =
     let number = g.P.Inx.PtrInxCore.number in
-    let o : Ordered g.row.P-Inx.Denot g.row.T.Denot =
+    let o : Ordered g.row.T.Denot =
     record { chains = c.args.chains.now; root = option_map number c.args.root.now } in
     let h = number c.args.gone in
     let c1 = c.uproot.new.chains in
@@ -24,15 +24,15 @@ returns g c =
     let last = g.P.Gen.PtrGenCore.last in
     let kept = c.uproot.ensures.keeps in
     let out_of = c.take_inx_link_unwrap-generation.result in
-    let same = (rested number c.args.chains.now c1 kept).kept in
+    let same = (rested c.args.chains.now c1 kept).kept in
     let out = c.take_inx_link_unwrap-generation.ensures.taken in
-    let done = taken number o c.requires.ordered h last c1 c2 (option_map number c.uproot.new.root)
+    let done = taken o c.requires.ordered h last c1 c2 (option_map number c.uproot.new.root)
     c.uproot.ensures.uprooted kept out in
     record {
       ordered = done.ordered;
       order = done.order;
       entries = done.entries;
-      value = item_taken number (g.P.Gen.PtrGenCore.number out_of.0.0, out_of.0.1) o c1 h kept
+      value = item_taken (g.P.Gen.PtrGenCore.number out_of.0.0, out_of.0.1) o c1 h kept
           c.take_inx_link_unwrap-generation.ensures.value;
       overflow = c.take_inx_link_unwrap-generation.ensures.overflow
           ∙ ap (next_wraps last) same.counter;

@@ -16,10 +16,10 @@ ghost use Rattle.triple_arena_ord.specs.Ordered.{entry_in, size_in};
 use crate::ord_arena::insertion::grown_error;
 use crate::ord_arena::search::found::found_at;
 use crate::{OrdEntryKind, OrdInsertKind, OrdSlots, SimpleOrdArena, SimpleOrdItem};
+use proof_marks::{recall, unreached};
 use std::cmp::Ordering;
 use triple_arena::{ArenaTrait, PtrCore};
 use triple_arena_ptr::OrdInsertionError;
-use unreached::unreached;
 
 /// Room for one item more. Dropped unused, it leaves the entries as they are.
 #[derive(Drop)]
@@ -49,7 +49,7 @@ impl<'a, P: PtrCore, T: Drop, S: OrdSlots<P, T>> SimpleOrdArenaInsertEntry<'a, P
         requires { IsReady P.Inx.number P.index P.generation self }
 
         // `self.exit.0.now` is the arena as it is left.
-        ensures { InsertsAt P.Inx.number P.index P.generation None
+        ensures { InsertsAt P.index P.generation None
             (entry_place P.Inx.number self.entry) t (Ok (self.entry.ptr, result))
             (entry_arena self.entry) self.exit.0.now }
     {
@@ -59,7 +59,7 @@ impl<'a, P: PtrCore, T: Drop, S: OrdSlots<P, T>> SimpleOrdArenaInsertEntry<'a, P
             ptr: _,
         } = self;
         // The list is as it must be.
-        let _ = arena.len();
+        recall!(arena.len());
         let place = arena.settle(place);
         match arena.insert_at_within_capacity(place, t) {
             Ok((_, replaced)) => replaced,
@@ -98,7 +98,7 @@ impl<P: PtrCore, T: Drop, S: OrdSlots<P, T>> SimpleOrdArena<P, T, S> {
             (λ p. IsReadyAt (option_map (λ a. (P.Inx.number a.0, a.1)) place)
             (P.index p) (P.generation p) self.new) }
         ensures grown { OnOk result
-            (IsInRoom P.Inx.number (room_for (option_map (λ a. (P.Inx.number a.0, a.1)) place)
+            (IsInRoom (room_for (option_map (λ a. (P.Inx.number a.0, a.1)) place)
             (size_in self.old) self.old.chains.room) self.old self.new) }
         ensures fits { OnOk result ((Replaces (option_map (λ a. (P.Inx.number a.0, a.1)) place) → ⊥)
             → growing_room S.takes_memory (size_in self.old) self.old.chains.room None) }
@@ -155,9 +155,10 @@ impl<P: PtrCore, T: SimpleOrdItem + Drop, S: OrdSlots<P, T>> SimpleOrdArena<P, T
     }
 
     /// Room for one item more, where the kind says. If a new entry is needed and there is no room,
-    /// the arena grows, in the steps of `insert_reallocating`. `FailedOrdRequirement` comes as from
-    /// `entry_insert_within_capacity`; it, `BeyondMaxCapacity` and `AllocError` leave the entries
-    /// and the room as they were.
+    /// the arena grows, in the steps of `insert_reallocating`. It returns `FailedOrdRequirement`
+    /// for `Empty` if there is an entry, and for `Manual` at an index that is not live; and else
+    /// `BeyondMaxCapacity` if as many entries are live as the greatest capacity, and `AllocError`
+    /// if the memory was refused. An error leaves the entries and the room as they were.
     pub fn entry_insert_reallocating(
         &mut self,
         kind: OrdInsertKind<P, &T::Key>,
@@ -169,7 +170,7 @@ impl<P: PtrCore, T: SimpleOrdItem + Drop, S: OrdSlots<P, T>> SimpleOrdArena<P, T
         ensures ready { IfOk result (λ e. IsReady P.Inx.number P.index P.generation e) }
         ensures same_reference { IfOk result (λ e. entry_lender e ≡ self.entry.ghost_name) }
         ensures arena { IfOk result
-            (λ e. IsInRoom P.Inx.number (room_for (entry_place P.Inx.number e)
+            (λ e. IsInRoom (room_for (entry_place P.Inx.number e)
             (size_in self.old) self.old.chains.room) self.old (entry_arena e)) }
         ensures* err { sem 𝓛 (RestsIfErr
             (the_row P.row T.row S.row P.Inx.row P.Gen.row P.Inx.Word.row S.Alloc.row
@@ -187,7 +188,10 @@ impl<P: PtrCore, T: SimpleOrdItem + Drop, S: OrdSlots<P, T>> SimpleOrdArena<P, T
         })
     }
 
-    /// Room for one item more, where the kind says: another name of `entry_insert_reallocating`.
+    /// Room for one item more, where the kind says: another name of `entry_insert_reallocating`. If
+    /// a new entry is needed and there is no room, the arena grows. `FailedOrdRequirement`, for
+    /// `Empty` if there is an entry and for `Manual` at an index that is not live,
+    /// `BeyondMaxCapacity` and `AllocError` leave the entries and the room as they were.
     pub fn entry_insert(
         &mut self,
         kind: OrdInsertKind<P, &T::Key>,
@@ -199,7 +203,7 @@ impl<P: PtrCore, T: SimpleOrdItem + Drop, S: OrdSlots<P, T>> SimpleOrdArena<P, T
         ensures ready { IfOk result (λ e. IsReady P.Inx.number P.index P.generation e) }
         ensures same_reference { IfOk result (λ e. entry_lender e ≡ self.entry.ghost_name) }
         ensures arena { IfOk result
-            (λ e. IsInRoom P.Inx.number (room_for (entry_place P.Inx.number e)
+            (λ e. IsInRoom (room_for (entry_place P.Inx.number e)
             (size_in self.old) self.old.chains.room) self.old (entry_arena e)) }
         ensures* err { sem 𝓛 (RestsIfErr
             (the_row P.row T.row S.row P.Inx.row P.Gen.row P.Inx.Word.row S.Alloc.row

@@ -11,15 +11,15 @@ use triple_arena::PtrCore;
 use triple_arena_ptr::{OrdInsertionError, Probes};
 
 impl<P: PtrCore, T: SimpleOrdItem + Drop, S: OrdSlots<P, T>> SimpleOrdArena<P, T, S> {
-    /// The pointer to the entry with an equal key that `find_key` finds, which stays as it is, and
-    /// `t`, which comes back. If none is found, it puts `t` in where its key belongs, and returns
-    /// the new pointer and `None`; `NotWithinCapacity`, if there is no room for it, changes
-    /// nothing, and `t` is dropped. It makes one search.
+    /// Makes one search for the key of `t`, as `find_key` does. An entry that is found stays as it
+    /// is, and the call returns its pointer, and `t` back. If none is found, `t` goes in where its
+    /// key belongs, and the call returns the new pointer and `None`. If there is no room for a new
+    /// entry, `NotWithinCapacity` changes nothing, and `t` is dropped.
     pub fn get_or_insert_within_capacity(
         &mut self,
         t: T,
     ) -> Result<(P, Option<T>), OrdInsertionError>
-        ensures { GetsOrInserts P.Inx.number T.Key.cmp T.key_of P.index P.generation None
+        ensures { GetsOrInserts T.Key.cmp T.key_of P.index P.generation None
             t result self.old self.new }
     {
         let place = self.seek(t.key(), &mut Probes::new());
@@ -29,20 +29,23 @@ impl<P: PtrCore, T: SimpleOrdItem + Drop, S: OrdSlots<P, T>> SimpleOrdArena<P, T
         }
     }
 
-    /// The same, but the arena grows if there is no room for a new entry, in the steps of
-    /// `insert_reallocating`. `BeyondMaxCapacity` and `AllocError` change nothing, and `t` is
-    /// dropped. It makes one search, and each comparison is a tick; there are as many at most as
-    /// `find_key_counted` says.
+    /// Makes one search for the key of `t`, as `find_key` does. An entry that is found stays as it
+    /// is, and the call returns its pointer, and `t` back. If none is found, `t` goes in where its
+    /// key belongs, and the call returns the new pointer and `None`. If there is no room for a new
+    /// entry, the arena grows, in the steps of `insert_reallocating`; `BeyondMaxCapacity` and
+    /// `AllocError` change nothing, and `t` is dropped.
+    ///
+    /// Each comparison is a tick, and there are as many at most as `find_key_counted` says.
     pub fn get_or_insert_counted(
         &mut self,
         t: T,
         probes: &mut Probes,
     ) -> Result<(P, Option<T>), OrdInsertionError>
-        ensures gets { GetsOrInserts P.Inx.number T.Key.cmp T.key_of P.index P.generation
+        ensures gets { GetsOrInserts T.Key.cmp T.key_of P.index P.generation
             (Some S.takes_memory) t result self.old self.new }
         ensures ticks { probes.new ≡ probes.old
             + asked_down (asked_at T.Key.cmp T.key_of (T.key_of t) self.old)
-            (tree_in P.Inx.number self.old) }
+            (tree_in self.old) }
         ensures few { probes.new ≤ probes.old + most_comparisons (size_in self.old) }
     {
         let place = self.seek(t.key(), probes);
@@ -52,10 +55,13 @@ impl<P: PtrCore, T: SimpleOrdItem + Drop, S: OrdSlots<P, T>> SimpleOrdArena<P, T
         }
     }
 
-    /// What `get_or_insert_counted` does, with no count: the pointer to the entry with an equal
-    /// key, which stays, and `t` back, or the pointer to a new entry and `None`.
+    /// Makes one search for the key of `t`, as `find_key` does. An entry that is found stays as it
+    /// is, and the call returns its pointer, and `t` back. If none is found, `t` goes in where its
+    /// key belongs, and the call returns the new pointer and `None`. If there is no room for a new
+    /// entry, the arena grows; `BeyondMaxCapacity` and `AllocError` change nothing, and `t` is
+    /// dropped.
     pub fn get_or_insert(&mut self, t: T) -> Result<(P, Option<T>), OrdInsertionError>
-        ensures { GetsOrInserts P.Inx.number T.Key.cmp T.key_of P.index P.generation
+        ensures { GetsOrInserts T.Key.cmp T.key_of P.index P.generation
             (Some S.takes_memory) t result self.old self.new }
     {
         self.get_or_insert_counted(t, &mut Probes::new())

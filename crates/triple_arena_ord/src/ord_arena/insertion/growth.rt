@@ -17,10 +17,9 @@ impl<P: PtrCore, T: Drop, S: OrdSlots<P, T>> SimpleOrdArena<P, T, S> {
         ensures has_generation { IfOk result (λ p. P.generation p ≡ self.new.chains.counter) }
         ensures refusal { IsRefusal S.takes_memory (size_in self.old) self.old.chains.room result }
         ensures grown { OnOk result
-            (IsInRoom P.Inx.number (room_after (size_in self.old) self.old.chains.room)
-            self.old self.new) }
+            (IsInRoom (room_after (size_in self.old) self.old.chains.room) self.old self.new) }
         ensures fits { OnOk result (size_in self.new < arena_capacity self.new.chains) }
-        ensures ordered { IsOrdered P.Inx.number self.new }
+        ensures ordered { IsOrdered self.new }
         ensures err { OnErr result (self.new ≡ self.old) }
     {
         self.chains.make_room()

@@ -6,6 +6,7 @@ ghost use Rattle.triple_arena_ord.specs.Inserted.{AddsAt, InsertsAt, Replaces, u
 ghost use Rattle.triple_arena_ord.specs.Ordered.{entry_in, size_in};
 
 use crate::{OrdSlots, SimpleOrdArena};
+use proof_marks::recall;
 use std::cmp::Ordering;
 use triple_arena::{ArenaTrait, PtrCore};
 use triple_arena_ptr::OrdInsertionError;
@@ -23,7 +24,7 @@ impl<P: PtrCore, T: Drop, S: OrdSlots<P, T>> SimpleOrdArena<P, T, S> {
     ) -> Result<Option<T>, OrdInsertionError>
         requires { IsSome (entry_in self.old (P.Inx.number p)) }
         ensures { (q : ℕ × ℕ)
-            × InsertsAt P.Inx.number (λ (q : ℕ × ℕ). q.0) (λ (q : ℕ × ℕ). q.1)
+            × InsertsAt (λ (q : ℕ × ℕ). q.0) (λ (q : ℕ × ℕ). q.1)
             (Some S.takes_memory) (Some (P.Inx.number p, direction)) t (under q result)
             self.old self.new }
     {
@@ -46,11 +47,11 @@ impl<P: PtrCore, T: Drop, S: OrdSlots<P, T>> SimpleOrdArena<P, T, S> {
         requires empty { place ≡ None → size_in self.old ≡ 0 }
         requires new { Replaces (option_map (λ a. (P.Inx.number a.0, a.1)) place) → ⊥ }
         requires room { size_in self.old < arena_capacity self.old.chains }
-        ensures { AddsAt P.Inx.number (option_map (λ a. (P.Inx.number a.0, a.1)) place)
+        ensures { AddsAt (option_map (λ a. (P.Inx.number a.0, a.1)) place)
             (P.index result) (P.generation result) t self.old self.new }
     {
         // The list is as it must be.
-        let _ = self.len();
+        recall!(self.len());
         let place = self.settle(place);
         self.put_at(place, t)
     }

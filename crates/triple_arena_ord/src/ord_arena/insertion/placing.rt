@@ -30,7 +30,7 @@ fn before_equal<I: PtrInxCore>(place: Option<(I, Ordering)>) -> Option<(I, Order
 impl<P: PtrCore, T: SimpleOrdItem + Drop, S: OrdSlots<P, T>> SimpleOrdArena<P, T, S> {
     // The place for a key.
     fn place_by_key(&self, k: &T::Key) -> Option<(P::Inx, Ordering)>
-        ensures by_key { IsPlaceByKey P.Inx.number T.Key.cmp T.key_of k.now self.now
+        ensures by_key { IsPlaceByKey T.Key.cmp T.key_of k.now self.now
             (option_map (λ a. (P.Inx.number a.0, a.1)) result) }
         ensures live { IfSome result (λ a. IsSome (entry_in self.now (P.Inx.number a.0))) }
         ensures empty { result ≡ None → size_in self.now ≡ 0 }
@@ -40,9 +40,9 @@ impl<P: PtrCore, T: SimpleOrdItem + Drop, S: OrdSlots<P, T>> SimpleOrdArena<P, T
 
     // The same, after a search along the list.
     fn place_near(&self, p_init: P::Inx, num: usize, k: &T::Key) -> Option<(P::Inx, Ordering)>
-        ensures by_key { IsPlaceByKey P.Inx.number T.Key.cmp T.key_of k.now self.now
+        ensures by_key { IsPlaceByKey T.Key.cmp T.key_of k.now self.now
             (option_map (λ a. (P.Inx.number a.0, a.1)) result) }
-        ensures ends { (end : ℕ × Way) → IsEndOfWay P.Inx.number T.Key.cmp T.key_of
+        ensures ends { (end : ℕ × Way) → IsEndOfWay T.Key.cmp T.key_of
             (P.Inx.number p_init) num k.now self.now end
             → option_map {U = ℕ × Way} (λ a. (P.Inx.number a.0, a.1)) result ≡ Some end }
         ensures live { IfSome result (λ a. IsSome (entry_in self.now (P.Inx.number a.0))) }
@@ -53,7 +53,7 @@ impl<P: PtrCore, T: SimpleOrdItem + Drop, S: OrdSlots<P, T>> SimpleOrdArena<P, T
 
     // The place for a key, but directly before an entry with an equal key.
     fn place_before_equal(&self, k: &T::Key) -> Option<(P::Inx, Ordering)>
-        ensures before { IsPlaceBeforeEqual P.Inx.number T.Key.cmp T.key_of k.now self.now
+        ensures before { IsPlaceBeforeEqual T.Key.cmp T.key_of k.now self.now
             (option_map (λ a. (P.Inx.number a.0, a.1)) result) }
         ensures live { IfSome result (λ a. IsSome (entry_in self.now (P.Inx.number a.0))) }
         ensures empty { result ≡ None → size_in self.now ≡ 0 }
@@ -68,9 +68,9 @@ impl<P: PtrCore, T: SimpleOrdItem + Drop, S: OrdSlots<P, T>> SimpleOrdArena<P, T
         num: usize,
         k: &T::Key,
     ) -> Option<(P::Inx, Ordering)>
-        ensures before { IsPlaceBeforeEqual P.Inx.number T.Key.cmp T.key_of k.now self.now
+        ensures before { IsPlaceBeforeEqual T.Key.cmp T.key_of k.now self.now
             (option_map (λ a. (P.Inx.number a.0, a.1)) result) }
-        ensures ends { (end : ℕ × Way) → IsEndOfWay P.Inx.number T.Key.cmp T.key_of
+        ensures ends { (end : ℕ × Way) → IsEndOfWay T.Key.cmp T.key_of
             (P.Inx.number p_init) num k.now self.now end
             → option_map {U = ℕ × Way} (λ a. (P.Inx.number a.0, a.1)) result
             ≡ before_equal (Some end) }
@@ -92,7 +92,7 @@ impl<P: PtrCore, T: SimpleOrdItem + Drop, S: OrdSlots<P, T>> SimpleOrdArena<P, T
         ensures live { IfSome result
             (λ place. IfSome place (λ a. IsSome (entry_in self.now (P.Inx.number a.0)))) }
         ensures empty { IfSome result (λ place. place ≡ None → size_in self.now ≡ 0) }
-        ensures ordered { IsOrdered P.Inx.number self.now }
+        ensures ordered { IsOrdered self.now }
     {
         // It also says that the list is as it must be.
         let len = self.len();

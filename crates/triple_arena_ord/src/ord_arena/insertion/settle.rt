@@ -1,29 +1,28 @@
 //! Where a new leaf hangs that stands beside an entry.
 ghost use Rattle.std.specs.Prelude.{◌≢◌, ℕ, List, Some, IsSome, IfSome, ⊤};
 ghost use Rattle.std.specs.Option.{option_map};
-ghost use Rattle.triple_arena_ord.specs.Node.{knots_in};
+ghost use Rattle.triple_arena_ord.specs.Node.{nodes_in};
 ghost use Rattle.rank_tree.specs.Search.{IsFreeAt};
 ghost use Rattle.triple_arena_ord.specs.Inserted.{StandsAt, IsSamePlace};
 ghost use Rattle.triple_arena_ord.specs.Ordered.{StandsBeside, order_in};
 
 use crate::leaf::neighbors_beside;
 use crate::{OrdSlots, SimpleOrdArena};
-use rank_tree::{Knots, Side};
+use proof_marks::unreached;
+use rank_tree::{NodeStore, Side};
 use std::cmp::Ordering;
 use triple_arena::PtrCore;
-use unreached::unreached;
 
 impl<P: PtrCore, T: Drop, S: OrdSlots<P, T>> SimpleOrdArena<P, T, S> {
     // Where a new leaf hangs that stands directly before an index: there, or on the right of the
     // previous one.
     fn settle_before(&self, i: P::Inx) -> (P::Inx, Ordering)
-        requires { IsSome (knots_in P.Inx.number self.now.chains (P.Inx.number i)) }
-        ensures free { IsFreeAt result.1
-            (knots_in P.Inx.number self.now.chains (P.Inx.number result.0)) }
+        requires { IsSome (nodes_in self.now.chains (P.Inx.number i)) }
+        ensures free { IsFreeAt result.1 (nodes_in self.now.chains (P.Inx.number result.0)) }
         ensures new { result.1 ≢ Ordering.Equal }
         ensures same { (w : List ℕ) (n : ℕ)
-            → StandsAt (Some (P.Inx.number result.0, result.1)) (order_in P.Inx.number self.now) w n
-            → StandsBeside Side.Left (order_in P.Inx.number self.now) w (P.Inx.number i) n }
+            → StandsAt (Some (P.Inx.number result.0, result.1)) (order_in self.now) w n
+            → StandsBeside Side.Left (order_in self.now) w (P.Inx.number i) n }
     {
         if self.chains.read(i).left.is_none() {
             return (i, Ordering::Less);
@@ -36,13 +35,12 @@ impl<P: PtrCore, T: Drop, S: OrdSlots<P, T>> SimpleOrdArena<P, T, S> {
 
     // The same directly after an index: there, or on the left of the next one.
     fn settle_after(&self, i: P::Inx) -> (P::Inx, Ordering)
-        requires { IsSome (knots_in P.Inx.number self.now.chains (P.Inx.number i)) }
-        ensures free { IsFreeAt result.1
-            (knots_in P.Inx.number self.now.chains (P.Inx.number result.0)) }
+        requires { IsSome (nodes_in self.now.chains (P.Inx.number i)) }
+        ensures free { IsFreeAt result.1 (nodes_in self.now.chains (P.Inx.number result.0)) }
         ensures new { result.1 ≢ Ordering.Equal }
         ensures same { (w : List ℕ) (n : ℕ)
-            → StandsAt (Some (P.Inx.number result.0, result.1)) (order_in P.Inx.number self.now) w n
-            → StandsBeside Side.Right (order_in P.Inx.number self.now) w (P.Inx.number i) n }
+            → StandsAt (Some (P.Inx.number result.0, result.1)) (order_in self.now) w n
+            → StandsBeside Side.Right (order_in self.now) w (P.Inx.number i) n }
     {
         if self.chains.read(i).right.is_none() {
             return (i, Ordering::Greater);
@@ -55,12 +53,11 @@ impl<P: PtrCore, T: Drop, S: OrdSlots<P, T>> SimpleOrdArena<P, T, S> {
 
     // The same place, as one where a new leaf can hang.
     pub(crate) fn settle(&self, place: Option<(P::Inx, Ordering)>) -> Option<(P::Inx, Ordering)>
-        requires live { IfSome place
-            (λ a. IsSome (knots_in P.Inx.number self.now.chains (P.Inx.number a.0))) }
+        requires live { IfSome place (λ a. IsSome (nodes_in self.now.chains (P.Inx.number a.0))) }
         requires no_more { ⊤ }
         ensures free { IfSome result
-            (λ a. IsFreeAt a.1 (knots_in P.Inx.number self.now.chains (P.Inx.number a.0))) }
-        ensures same { IsSamePlace (order_in P.Inx.number self.now)
+            (λ a. IsFreeAt a.1 (nodes_in self.now.chains (P.Inx.number a.0))) }
+        ensures same { IsSamePlace (order_in self.now)
             (option_map (λ a. (P.Inx.number a.0, a.1)) result)
             (option_map (λ a. (P.Inx.number a.0, a.1)) place) }
     {

@@ -14,6 +14,7 @@ ghost use Rattle.triple_arena_ord.specs.Ordered.{size_in, tree_in};
 
 use crate::ord_arena::removal::neighbors;
 use crate::{OrdSlots, SimpleOrdArena, SimpleOrdItem};
+use proof_marks::recall;
 use std::cmp::Ordering;
 use std::mem;
 use triple_arena::{ArenaTrait, PtrCore};
@@ -44,12 +45,12 @@ impl<P: PtrCore, T: SimpleOrdItem + Drop, S: OrdSlots<P, T>> SimpleOrdArena<P, T
     // answer.
     fn seek_past(&self, k: &T::Key, past: bool, probes: &mut Probes) -> Option<(P::Inx, Ordering)>
         ensures answer { IsAnswer (asked_at (compares_past past T.Key.cmp) T.key_of k.now self.now)
-            (tree_in P.Inx.number self.now) (option_map (λ a. (P.Inx.number a.0, a.1)) result) }
+            (tree_in self.now) (option_map (λ a. (P.Inx.number a.0, a.1)) result) }
         ensures ticks { probes.new ≡ probes.old
             + asked_down (asked_at (compares_past past T.Key.cmp) T.key_of k.now self.now)
-            (tree_in P.Inx.number self.now) }
-        ensures bound { probes.new ≤ probes.old + rank_of (tree_in P.Inx.number self.now) }
-        ensures ordered { IsOrdered P.Inx.number self.now }
+            (tree_in self.now) }
+        ensures bound { probes.new ≤ probes.old + rank_of (tree_in self.now) }
+        ensures ordered { IsOrdered self.now }
     {
         let mut link = OptionalInx::of(self.root);
         let mut place = None;
@@ -72,12 +73,12 @@ impl<P: PtrCore, T: SimpleOrdItem + Drop, S: OrdSlots<P, T>> SimpleOrdArena<P, T
     fn ptr_behind(&self, i: P::Inx) -> Option<P>
         requires { IsSome (entry_in self.now (P.Inx.number i)) }
         ensures at { option_map P.index result
-            ≡ next_at (ends_in P.Inx.number self.now.chains) (P.Inx.number i) }
+            ≡ next_at (ends_in self.now.chains) (P.Inx.number i) }
         ensures live { IfSome result (λ p. generation_at (entry_in self.now) (P.index p)
             ≡ Some (P.generation p)) }
     {
         // The list is as it must be.
-        let _ = self.len();
+        recall!(self.len());
         match neighbors(&self.chains, i).1 {
             Some(next) => Some(self.ptr_to(next)),
             None => None,
@@ -86,14 +87,14 @@ impl<P: PtrCore, T: SimpleOrdItem + Drop, S: OrdSlots<P, T>> SimpleOrdArena<P, T
 
     // The first entry that such a search does not go past.
     fn find_bound(&self, k: &T::Key, past: bool, probes: &mut Probes) -> Option<P>
-        ensures bound { IsAscending P.Inx.number T.Key.cmp T.key_of self.now
-            → IsBound P.Inx.number P.index P.generation
+        ensures bound { IsAscending T.Key.cmp T.key_of self.now
+            → IsBound P.index P.generation
             (λ t. compares_past past T.Key.cmp k.now (T.key_of t) ≡ Way.Greater) result self.now }
         ensures live { IfSome result (λ p. generation_at (entry_in self.now) (P.index p)
             ≡ Some (P.generation p)) }
         ensures ticks { probes.new ≡ probes.old
             + asked_down (asked_at (compares_past past T.Key.cmp) T.key_of k.now self.now)
-            (tree_in P.Inx.number self.now) }
+            (tree_in self.now) }
         ensures few { probes.new ≤ probes.old + most_comparisons (size_in self.now) }
     {
         match self.seek_past(k, past, probes) {
@@ -111,23 +112,25 @@ impl<P: PtrCore, T: SimpleOrdItem + Drop, S: OrdSlots<P, T>> SimpleOrdArena<P, T
     /// `None`. It makes one search, and each comparison is a tick; there are as many at most as
     /// `find_key_counted` says.
     pub fn lower_bound_counted(&self, k: &T::Key, probes: &mut Probes) -> Option<P>
-        ensures bound { IsAscending P.Inx.number T.Key.cmp T.key_of self.now
-            → IsBound P.Inx.number P.index P.generation
+        ensures bound { IsAscending T.Key.cmp T.key_of self.now
+            → IsBound P.index P.generation
             (λ t. T.Key.cmp k.now (T.key_of t) ≡ Way.Greater) result self.now }
         ensures live { IfSome result (λ p. generation_at (entry_in self.now) (P.index p)
             ≡ Some (P.generation p)) }
         ensures ticks { probes.new ≡ probes.old
             + asked_down (asked_at (compares_past false T.Key.cmp) T.key_of k.now self.now)
-            (tree_in P.Inx.number self.now) }
+            (tree_in self.now) }
         ensures few { probes.new ≤ probes.old + most_comparisons (size_in self.now) }
     {
         self.find_bound(k, false, probes)
     }
 
-    /// What `lower_bound_counted` finds, with no count.
+    /// The pointer to the first entry of the list whose key is not less than `k`, if the keys
+    /// ascend; `None` if there is no such entry. If the keys do not ascend, it is some entry or
+    /// `None`.
     pub fn lower_bound(&self, k: &T::Key) -> Option<P>
-        ensures bound { IsAscending P.Inx.number T.Key.cmp T.key_of self.now
-            → IsBound P.Inx.number P.index P.generation
+        ensures bound { IsAscending T.Key.cmp T.key_of self.now
+            → IsBound P.index P.generation
             (λ t. T.Key.cmp k.now (T.key_of t) ≡ Way.Greater) result self.now }
         ensures live { IfSome result (λ p. generation_at (entry_in self.now) (P.index p)
             ≡ Some (P.generation p)) }
@@ -141,23 +144,25 @@ impl<P: PtrCore, T: SimpleOrdItem + Drop, S: OrdSlots<P, T>> SimpleOrdArena<P, T
     /// one search, and each comparison is a tick; there are as many at most as `find_key_counted`
     /// says.
     pub fn upper_bound_counted(&self, k: &T::Key, probes: &mut Probes) -> Option<P>
-        ensures bound { IsAscending P.Inx.number T.Key.cmp T.key_of self.now
-            → IsBound P.Inx.number P.index P.generation
+        ensures bound { IsAscending T.Key.cmp T.key_of self.now
+            → IsBound P.index P.generation
             (λ t. T.Key.cmp k.now (T.key_of t) ≢ Way.Less) result self.now }
         ensures live { IfSome result (λ p. generation_at (entry_in self.now) (P.index p)
             ≡ Some (P.generation p)) }
         ensures ticks { probes.new ≡ probes.old
             + asked_down (asked_at (compares_past true T.Key.cmp) T.key_of k.now self.now)
-            (tree_in P.Inx.number self.now) }
+            (tree_in self.now) }
         ensures few { probes.new ≤ probes.old + most_comparisons (size_in self.now) }
     {
         self.find_bound(k, true, probes)
     }
 
-    /// What `upper_bound_counted` finds, with no count.
+    /// The pointer to the first entry of the list whose key is greater than `k`, if the keys
+    /// ascend; `None` if there is no such entry. If the keys do not ascend, it is some entry or
+    /// `None`.
     pub fn upper_bound(&self, k: &T::Key) -> Option<P>
-        ensures bound { IsAscending P.Inx.number T.Key.cmp T.key_of self.now
-            → IsBound P.Inx.number P.index P.generation
+        ensures bound { IsAscending T.Key.cmp T.key_of self.now
+            → IsBound P.index P.generation
             (λ t. T.Key.cmp k.now (T.key_of t) ≢ Way.Less) result self.now }
         ensures live { IfSome result (λ p. generation_at (entry_in self.now) (P.index p)
             ≡ Some (P.generation p)) }

@@ -34,20 +34,20 @@ impl<P: PtrCore, T: Drop, S: OrdSlots<P, T>> SimpleOrdArena<P, T, S> {
         F: FnMut(P, &T) -> Ordering,
         requires { F.IsAlwaysCallable f }
         ensures asked { IsAsked P.index P.generation F.step (entry_in self.now)
-            (order_in P.Inx.number self.now)
-            f result probes.old probes.new }
+            (order_in self.now) f result probes.old probes.new }
         ensures similar { (side : ℕ → ℕ × T → Way) → AnswersBy P.index P.generation F.step f side
-            → IsSimilar P.index P.generation P.Inx.number (answer_at side self.now)
-            (IsParted (answer_at side self.now) (order_in P.Inx.number self.now)) result self.now }
-        ensures rank { probes.new ≤ probes.old + rank_of (tree_in P.Inx.number self.now) }
+            → IsSimilar P.index P.generation (answer_at side self.now)
+            (IsParted (answer_at side self.now) (order_in self.now)) result self.now }
+        ensures rank { probes.new ≤ probes.old + rank_of (tree_in self.now) }
         ensures bound { probes.new ≤ probes.old + most_comparisons (size_in self.now) }
-        ensures ordered { IsOrdered P.Inx.number self.now }
+        ensures ordered { IsOrdered self.now }
     {
         self.find_similar_by_counted(&mut f, probes)
     }
 
-    /// Asks a closure that is lent, in the way of `find_similar_with_counted`. The closure is left
-    /// in the state that its last answer left, so that what it noted of the questions is known.
+    /// Asks a closure that is borrowed, in the way of `find_similar_with_counted`. The closure is
+    /// left in the state that its last answer left, so that what it noted of the questions is
+    /// known.
     pub fn find_similar_by_counted<F>(
         &self,
         f: &mut F,
@@ -57,50 +57,51 @@ impl<P: PtrCore, T: Drop, S: OrdSlots<P, T>> SimpleOrdArena<P, T, S> {
         F: FnMut(P, &T) -> Ordering,
         requires { F.IsAlwaysCallable f.old }
         ensures asked { (asked : IsAsked P.index P.generation F.step (entry_in self.now)
-            (order_in P.Inx.number self.now) f.old result probes.old probes.new)
+            (order_in self.now) f.old result probes.old probes.new)
             × (asked.last ≡ f.new) }
         ensures similar { (side : ℕ → ℕ × T → Way)
             → AnswersBy P.index P.generation F.step f.old side
-            → IsSimilar P.index P.generation P.Inx.number (answer_at side self.now)
-            (IsParted (answer_at side self.now) (order_in P.Inx.number self.now)) result self.now }
-        ensures rank { probes.new ≤ probes.old + rank_of (tree_in P.Inx.number self.now) }
+            → IsSimilar P.index P.generation (answer_at side self.now)
+            (IsParted (answer_at side self.now) (order_in self.now)) result self.now }
+        ensures rank { probes.new ≤ probes.old + rank_of (tree_in self.now) }
         ensures bound { probes.new ≤ probes.old + most_comparisons (size_in self.now) }
-        ensures ordered { IsOrdered P.Inx.number self.now }
+        ensures ordered { IsOrdered self.now }
     {
         ask_down(&self.chains, self.root, f, probes)
     }
 
-    /// What `find_similar_with_counted` finds, with no count.
+    /// Asks `f` at entries, in the way of `find_similar_with_counted` but with no count, and
+    /// returns the last entry that was asked, with the answer; `None` if there is no entry.
     pub fn find_similar_with<F>(&self, f: F) -> Option<(P, Ordering)>
     where
         F: FnMut(P, &T) -> Ordering,
         requires { F.IsAlwaysCallable f }
         ensures asked { (ticks : ℕ)
             × IsAsked P.index P.generation F.step (entry_in self.now)
-            (order_in P.Inx.number self.now)
-            f result 0 ticks × (ticks ≤ rank_of (tree_in P.Inx.number self.now))
+            (order_in self.now) f result 0 ticks × (ticks ≤ rank_of (tree_in self.now))
             × (ticks ≤ most_comparisons (size_in self.now)) }
         ensures similar { (side : ℕ → ℕ × T → Way) → AnswersBy P.index P.generation F.step f side
-            → IsSimilar P.index P.generation P.Inx.number (answer_at side self.now)
-            (IsParted (answer_at side self.now) (order_in P.Inx.number self.now)) result self.now }
+            → IsSimilar P.index P.generation (answer_at side self.now)
+            (IsParted (answer_at side self.now) (order_in self.now)) result self.now }
     {
         self.find_similar_with_counted(f, &mut Probes::new())
     }
 
-    /// Asks `f` in the same way, and returns the entry at which it answered `Equal`. If the answers
-    /// are as said there, it returns `None` exactly if `f` answers `Equal` at no entry.
+    /// Asks `f` at entries, in the way of `find_similar_with_counted`, and returns the entry at
+    /// which it answered `Equal`, or `None`. If its answers are as said there, `None` means that
+    /// `f` answers `Equal` at no entry.
     pub fn find_with_counted<F>(&self, f: F, probes: &mut Probes) -> Option<P>
     where
         F: FnMut(P, &T) -> Ordering,
         requires { F.IsAlwaysCallable f }
         ensures asked { (last : Option (P × Way))
             × IsAsked P.index P.generation F.step (entry_in self.now)
-            (order_in P.Inx.number self.now) f last probes.old probes.new
+            (order_in self.now) f last probes.old probes.new
             × (result ≡ found_by last) }
         ensures found { (side : ℕ → ℕ × T → Way) → AnswersBy P.index P.generation F.step f side
             → IsFound P.index P.generation (answer_at side self.now)
-            (IsParted (answer_at side self.now) (order_in P.Inx.number self.now)) result self.now }
-        ensures rank { probes.new ≤ probes.old + rank_of (tree_in P.Inx.number self.now) }
+            (IsParted (answer_at side self.now) (order_in self.now)) result self.now }
+        ensures rank { probes.new ≤ probes.old + rank_of (tree_in self.now) }
         ensures bound { probes.new ≤ probes.old + most_comparisons (size_in self.now) }
     {
         match self.find_similar_with_counted(f, probes) {
@@ -112,19 +113,21 @@ impl<P: PtrCore, T: Drop, S: OrdSlots<P, T>> SimpleOrdArena<P, T, S> {
         }
     }
 
-    /// What `find_with_counted` finds, with no count.
+    /// Asks `f` at entries, in the way of `find_similar_with_counted` but with no count, and
+    /// returns the entry at which it answered `Equal`, or `None`. If its answers are as said there,
+    /// `None` means that `f` answers `Equal` at no entry.
     pub fn find_with<F>(&self, f: F) -> Option<P>
     where
         F: FnMut(P, &T) -> Ordering,
         requires { F.IsAlwaysCallable f }
         ensures asked { (ticks : ℕ) × (last : Option (P × Way))
             × IsAsked P.index P.generation F.step (entry_in self.now)
-            (order_in P.Inx.number self.now) f last 0 ticks × (result ≡ found_by last)
-            × (ticks ≤ rank_of (tree_in P.Inx.number self.now))
+            (order_in self.now) f last 0 ticks × (result ≡ found_by last)
+            × (ticks ≤ rank_of (tree_in self.now))
             × (ticks ≤ most_comparisons (size_in self.now)) }
         ensures found { (side : ℕ → ℕ × T → Way) → AnswersBy P.index P.generation F.step f side
             → IsFound P.index P.generation (answer_at side self.now)
-            (IsParted (answer_at side self.now) (order_in P.Inx.number self.now)) result self.now }
+            (IsParted (answer_at side self.now) (order_in self.now)) result self.now }
     {
         self.find_with_counted(f, &mut Probes::new())
     }

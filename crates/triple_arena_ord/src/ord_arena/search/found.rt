@@ -6,10 +6,10 @@ ghost use Rattle.triple_arena.specs.Entries.{generation_at};
 ghost use Rattle.triple_arena_ord.specs.Node.{items_in};
 
 use crate::{OrdSlots, SimpleOrdArenaNode};
+use proof_marks::unreached;
 use std::cmp::Ordering;
 use triple_arena::{ArenaTrait, PtrCore, PtrInxCore};
 use triple_arena_chain::ChainArena;
-use unreached::unreached;
 
 // The pointer to the entry at an index that is live.
 pub(crate) fn ptr_at<P: PtrCore, T: Drop, S: OrdSlots<P, T>>(

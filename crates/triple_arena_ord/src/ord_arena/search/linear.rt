@@ -32,28 +32,28 @@ impl<P: PtrCore, T: SimpleOrdItem + Drop, S: OrdSlots<P, T>> SimpleOrdArena<P, T
         probes: &mut Probes,
     ) -> Option<(P::Inx, Ordering)>
         ensures answer { IsAnswer (asked_at T.Key.cmp T.key_of k.now self.now)
-            (tree_in P.Inx.number self.now) (option_map (λ a. (P.Inx.number a.0, a.1)) result) }
+            (tree_in self.now) (option_map (λ a. (P.Inx.number a.0, a.1)) result) }
         ensures rises { probes.old ≤ probes.new }
-        ensures ticks { probes.new ≤ probes.old + (num + rank_of (tree_in P.Inx.number self.now)) }
+        ensures ticks { probes.new ≤ probes.old + (num + rank_of (tree_in self.now)) }
         ensures gone { entry_in self.now (P.Inx.number p_init) ≡ None
             → probes.new ≡ probes.old + asked_down (asked_at T.Key.cmp T.key_of k.now self.now)
-            (tree_in P.Inx.number self.now) }
+            (tree_in self.now) }
         ensures counted { IsSome (entry_in self.now (P.Inx.number p_init))
-            → (on : On (order_in P.Inx.number self.now) (P.Inx.number p_init))
+            → (on : On (order_in self.now) (P.Inx.number p_init))
             → IsPlaceCounted num (asked_down (asked_at T.Key.cmp T.key_of k.now self.now)
-            (tree_in P.Inx.number self.now))
+            (tree_in self.now))
             (path_from (asked_at T.Key.cmp T.key_of k.now self.now) on) probes.old probes.new }
         ensures near { IsParted (asked_at T.Key.cmp T.key_of k.now self.now)
-            (order_in P.Inx.number self.now)
+            (order_in self.now)
             → IsSome (entry_in self.now (P.Inx.number p_init))
             → IsAtHand num (asked_at T.Key.cmp T.key_of k.now self.now)
-            (order_in P.Inx.number self.now) (P.Inx.number p_init)
+            (order_in self.now) (P.Inx.number p_init)
             → probes.new ≤ probes.old + num }
         ensures ends { (i : ℕ) (d : Way)
             → EndsWithin num (asked_at T.Key.cmp T.key_of k.now self.now)
-            (order_in P.Inx.number self.now) (P.Inx.number p_init) i d
+            (order_in self.now) (P.Inx.number p_init) i d
             → option_map {U = ℕ × Way} (λ a. (P.Inx.number a.0, a.1)) result ≡ Some (i, d) }
-        ensures ordered { IsOrdered P.Inx.number self.now }
+        ensures ordered { IsOrdered self.now }
     {
         if self.chains.get_inx(p_init).is_none() {
             return self.seek(k, probes);
@@ -84,27 +84,27 @@ impl<P: PtrCore, T: SimpleOrdItem + Drop, S: OrdSlots<P, T>> SimpleOrdArena<P, T
         probes: &mut Probes,
     ) -> Option<P>
         ensures found { IsFound P.index P.generation (asked_at T.Key.cmp T.key_of k.now self.now)
-            (IsAscending P.Inx.number T.Key.cmp T.key_of self.now) result self.now }
+            (IsAscending T.Key.cmp T.key_of self.now) result self.now }
         ensures rises { probes.old ≤ probes.new }
         ensures bound { probes.new ≤ probes.old + (num + most_comparisons (size_in self.now)) }
         ensures gone { value_if (P.generation p_init) (entry_in self.now (P.index p_init)) ≡ None
             → probes.new ≡ probes.old + asked_down (asked_at T.Key.cmp T.key_of k.now self.now)
-            (tree_in P.Inx.number self.now) }
+            (tree_in self.now) }
         ensures counted { IsSome
             (value_if (P.generation p_init) (entry_in self.now (P.index p_init)))
-            → (on : On (order_in P.Inx.number self.now) (P.index p_init))
+            → (on : On (order_in self.now) (P.index p_init))
             → IsKeyCounted num (asked_down (asked_at T.Key.cmp T.key_of k.now self.now)
-            (tree_in P.Inx.number self.now)) (asked_at T.Key.cmp T.key_of k.now self.now)
+            (tree_in self.now)) (asked_at T.Key.cmp T.key_of k.now self.now)
             (path_from (asked_at T.Key.cmp T.key_of k.now self.now) on) probes.old probes.new }
-        ensures near { IsAscending P.Inx.number T.Key.cmp T.key_of self.now
+        ensures near { IsAscending T.Key.cmp T.key_of self.now
             → IsSome (value_if (P.generation p_init) (entry_in self.now (P.index p_init)))
             → IsEndNear num (asked_at T.Key.cmp T.key_of k.now self.now)
-            (order_in P.Inx.number self.now) (P.index p_init)
+            (order_in self.now) (P.index p_init)
             → probes.new ≤ probes.old + num }
         ensures ends { IsSome
             (value_if (P.generation p_init) (entry_in self.now (P.index p_init)))
             → (i : ℕ) → EndsWithin num (asked_at T.Key.cmp T.key_of k.now self.now)
-            (order_in P.Inx.number self.now) (P.index p_init) i Way.Equal
+            (order_in self.now) (P.index p_init) i Way.Equal
             → option_map P.index result ≡ Some i }
     {
         if !self.chains.contains(p_init) {
@@ -123,14 +123,16 @@ impl<P: PtrCore, T: SimpleOrdItem + Drop, S: OrdSlots<P, T>> SimpleOrdArena<P, T
         }
     }
 
-    /// What `find_key_linear_counted` finds, with no count.
+    /// The pointer to an entry with an equal key; if the keys ascend, `None` means that there is
+    /// none. It searches in the way of `find_key_linear_counted`, with no count: along the list
+    /// from the entry of `p_init` first, for at most `num` comparisons.
     pub fn find_key_linear(&self, p_init: P, num: usize, k: &T::Key) -> Option<P>
         ensures found { IsFound P.index P.generation (asked_at T.Key.cmp T.key_of k.now self.now)
-            (IsAscending P.Inx.number T.Key.cmp T.key_of self.now) result self.now }
+            (IsAscending T.Key.cmp T.key_of self.now) result self.now }
         ensures ends { IsSome
             (value_if (P.generation p_init) (entry_in self.now (P.index p_init)))
             → (i : ℕ) → EndsWithin num (asked_at T.Key.cmp T.key_of k.now self.now)
-            (order_in P.Inx.number self.now) (P.index p_init) i Way.Equal
+            (order_in self.now) (P.index p_init) i Way.Equal
             → option_map P.index result ≡ Some i }
     {
         self.find_key_linear_counted(p_init, num, k, &mut Probes::new())
@@ -151,46 +153,49 @@ impl<P: PtrCore, T: SimpleOrdItem + Drop, S: OrdSlots<P, T>> SimpleOrdArena<P, T
         k: &T::Key,
         probes: &mut Probes,
     ) -> Option<(P, Ordering)>
-        ensures similar { IsSimilar P.index P.generation P.Inx.number
+        ensures similar { IsSimilar P.index P.generation
             (asked_at T.Key.cmp T.key_of k.now self.now)
-            (IsAscending P.Inx.number T.Key.cmp T.key_of self.now) result self.now }
+            (IsAscending T.Key.cmp T.key_of self.now) result self.now }
         ensures rises { probes.old ≤ probes.new }
         ensures bound { probes.new ≤ probes.old + (num + most_comparisons (size_in self.now)) }
         ensures gone { entry_in self.now (P.Inx.number p_init) ≡ None
             → probes.new ≡ probes.old + asked_down (asked_at T.Key.cmp T.key_of k.now self.now)
-            (tree_in P.Inx.number self.now) }
+            (tree_in self.now) }
         ensures counted { IsSome (entry_in self.now (P.Inx.number p_init))
-            → (on : On (order_in P.Inx.number self.now) (P.Inx.number p_init))
+            → (on : On (order_in self.now) (P.Inx.number p_init))
             → IsPlaceCounted num (asked_down (asked_at T.Key.cmp T.key_of k.now self.now)
-            (tree_in P.Inx.number self.now))
+            (tree_in self.now))
             (path_from (asked_at T.Key.cmp T.key_of k.now self.now) on) probes.old probes.new }
-        ensures near { IsAscending P.Inx.number T.Key.cmp T.key_of self.now
+        ensures near { IsAscending T.Key.cmp T.key_of self.now
             → IsSome (entry_in self.now (P.Inx.number p_init))
             → IsAtHand num (asked_at T.Key.cmp T.key_of k.now self.now)
-            (order_in P.Inx.number self.now) (P.Inx.number p_init)
+            (order_in self.now) (P.Inx.number p_init)
             → probes.new ≤ probes.old + num }
         ensures ends { (i : ℕ) (d : Way)
             → EndsWithin num (asked_at T.Key.cmp T.key_of k.now self.now)
-            (order_in P.Inx.number self.now) (P.Inx.number p_init) i d
+            (order_in self.now) (P.Inx.number p_init) i d
             → option_map {U = ℕ × Way} (λ a. (P.index a.0, a.1)) result ≡ Some (i, d) }
     {
         let place = self.seek_linear(p_init, num, k, probes);
         similar_at(&self.chains, place)
     }
 
-    /// What `find_similar_key_linear_counted` finds, with no count.
+    /// The pointer to an entry with an equal key, or else to one beside which the key belongs, and
+    /// what the key compares as with the entry's; `None` if there is no entry. It searches in the
+    /// way of `find_similar_key_linear_counted`, with no count: along the list from the entry at
+    /// `p_init` first, for at most `num` comparisons.
     pub fn find_similar_key_linear(
         &self,
         p_init: P::Inx,
         num: usize,
         k: &T::Key,
     ) -> Option<(P, Ordering)>
-        ensures similar { IsSimilar P.index P.generation P.Inx.number
+        ensures similar { IsSimilar P.index P.generation
             (asked_at T.Key.cmp T.key_of k.now self.now)
-            (IsAscending P.Inx.number T.Key.cmp T.key_of self.now) result self.now }
+            (IsAscending T.Key.cmp T.key_of self.now) result self.now }
         ensures ends { (i : ℕ) (d : Way)
             → EndsWithin num (asked_at T.Key.cmp T.key_of k.now self.now)
-            (order_in P.Inx.number self.now) (P.Inx.number p_init) i d
+            (order_in self.now) (P.Inx.number p_init) i d
             → option_map {U = ℕ × Way} (λ a. (P.index a.0, a.1)) result ≡ Some (i, d) }
     {
         self.find_similar_key_linear_counted(p_init, num, k, &mut Probes::new())

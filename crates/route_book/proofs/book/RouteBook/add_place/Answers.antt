@@ -26,19 +26,18 @@ put_place-at-requires-clause-newest g c = λ i h q is.
 pub put_place-at-requires-clause-found : goal.put_place-at-requires-clause-found
 put_place-at-requires-clause-found g c =
     let b = c.self.invariant.book in
-    let similar = subst (λ (b : Book g.row.P-Inx.Denot). IsSimilar g.P.PtrCore.index
-    g.P.PtrCore.generation g.P.Inx.PtrInxCore.number
+    let similar = subst (λ (b : Book). IsSimilar g.P.PtrCore.index
+    g.P.PtrCore.generation
     (asked_at key_cmp key_of (record { key = c.args.key; ticket = b.state.last + 1 }) b.places)
-    (IsAscending g.P.Inx.PtrInxCore.number key_cmp key_of b.places) c.args.found b.places)
+    (IsAscending key_cmp key_of b.places) c.args.found b.places)
     (sym c.self.view_is) c.requires.similar in
     let here = subst (λ n. IsSimilar g.P.PtrCore.index g.P.PtrCore.generation
-    g.P.Inx.PtrInxCore.number
     (asked_at key_cmp key_of (record { key = c.args.key; ticket = n + 1 }) c.self.inside.places)
-    (IsAscending g.P.Inx.PtrInxCore.number key_cmp key_of c.self.inside.places) c.args.found
+    (IsAscending key_cmp key_of c.self.inside.places) c.args.found
     c.self.inside.places) b.last_is similar in
-    subst (λ k. IsSimilar g.P.PtrCore.index g.P.PtrCore.generation g.P.Inx.PtrInxCore.number
+    subst (λ k. IsSimilar g.P.PtrCore.index g.P.PtrCore.generation
     (asked_at key_cmp key_of k c.self.inside.places)
-    (IsAscending g.P.Inx.PtrInxCore.number key_cmp key_of c.self.inside.places) c.args.found
+    (IsAscending key_cmp key_of c.self.inside.places) c.args.found
     c.self.inside.places) (sym (ap key_of c.new.ensures)) here
 
 pub add-requires-clause-above : goal.add-requires-clause-above
@@ -54,7 +53,7 @@ invariant_of-self g c =
     let key = ap (λ (p : Place). p.key) c.new.ensures in
     let word : c.new.result.word ≡ c.args.word =
     (let made = ap (λ (p : Place). p.word) c.new.ensures in let is = c.in-Place.is in cc) in
-    let free = ap (λ (b : Book g.row.P-Inx.Denot). is_full_of_places b.state) c.self.view_is
+    let free = ap (λ (b : Book). is_full_of_places b.state) c.self.view_is
     ∙ c.requires.free in
     let sound = c.changes_keep_states_sound.ensures.sound c.self.inside.held.state
     (PlaceChange c.args.key c.args.word) (c.ranges.key.fits, c.as_bytes.ensures.word)
@@ -64,7 +63,7 @@ invariant_of-self g c =
     ap (λ k. after_place c.self.inside.held.state k c.new.result.word) key
     ∙ ap (after_place c.self.inside.held.state c.args.key) word in
     let put = c.put_place-at.ensures in
-    let kept = place_kept g.P.Inx.PtrInxCore.number
+    let kept = place_kept
     (record {
       places = c.self.inside.place_room;
       stops = c.self.inside.stop_room;
@@ -74,7 +73,7 @@ invariant_of-self g c =
     c.self.inside.marks _ b c.new.result ticket (subst IsSound (sym after) sound) free
     (g.P.PtrCore.index c.put_place-at.result) (g.P.PtrCore.generation c.put_place-at.result)
     put.added put.order put.same_room put.counter in
-    let of_state = subst (λ z. IsBook g.P.Inx.PtrInxCore.number
+    let of_state = subst (λ z. IsBook
     (record {
       places = c.self.inside.place_room;
       stops = c.self.inside.stop_room;
@@ -88,7 +87,7 @@ invariant_of-self g c =
     let room = c.self.invariant.room in
     let more = c.add.ensures.capacity in
     record {
-      book = subst (λ e. IsBook g.P.Inx.PtrInxCore.number
+      book = subst (λ e. IsBook
           (record {
             places = c.self.inside.place_room;
             stops = c.self.inside.stop_room;
@@ -115,7 +114,7 @@ returns-clause-changes g c =
       gives = search rules;
       leaves = search rules;
       kept =
-          subst (λ (b : Book g.row.P-Inx.Denot). KeepsItems b
+          subst (λ (b : Book). KeepsItems b
           (record {
             state = c.changed-self-inside.result.state;
             places = c.put_place-at.new.arena;
@@ -124,7 +123,7 @@ returns-clause-changes g c =
           })) c.self.view_is
           (kept_added c.self.inside.held.state c.changed-self-inside.result.state
           c.self.inside.places c.put_place-at.new.arena c.self.inside.stops c.self.inside.marks
-          g.P.Inx.PtrInxCore.number _ _ _ c.put_place-at.ensures.added
+          _ _ _ c.put_place-at.ensures.added
           c.put_place-at.ensures.counter c.put_place-at.ensures.same_room);
       refused = tt;
     }

@@ -12,12 +12,12 @@ invariant_of-self g c =
     let law = c.cuts_part_one_stop.ensures in
     let stay = c.stops_stay_as_routes_change.ensures in
     let sound = c.self.invariant.sound in
-    let re = parted_links _ _ _ _ _ _ _ _ c.self.invariant.book _ c.self.view_is
+    let re = parted_links _ _ _ _ _ _ _ c.self.invariant.book _ c.self.view_is
     c.len.ensures.formed.agreed t _ _ c.in_ok-from.ensures.found _
     (c.in-Some.ensures.variant.0 refl)
     c.in-Some.ensures.relinked in
     record {
-      book = cut_leaves _ _ _ _ _ _ _ _ c.self.invariant.book _ c.self.view_is
+      book = cut_leaves _ _ _ _ _ _ _ c.self.invariant.book _ c.self.view_is
           c.len.ensures.formed.agreed t _ _ c.in_ok-from.ensures.found _ _
           c.changed-self-inside.ensures
           (c.in-Some.ensures.variant.0 refl) c.in-Some.ensures.relinked
@@ -35,32 +35,32 @@ invariant_of-self g c =
 
 pub returns-in-Some-clause-changes : goal.returns-in-Some-clause-changes
 returns-in-Some-clause-changes g c =
-    let re = parted_links _ _ _ _ _ _ _ _ c.self.invariant.book _ c.self.view_is
+    let re = parted_links _ _ _ _ _ _ _ c.self.invariant.book _ c.self.view_is
     c.len.ensures.formed.agreed c.args.stop _ _ c.in_ok-from.ensures.found _
     (c.in-Some.ensures.variant.0 refl)
     c.in-Some.ensures.relinked in
     record {
       gives =
-          told_parted _ _ _ _ _ _ _ _ c.self.invariant.book _ c.self.view_is
+          told_parted _ _ _ _ _ _ _ c.self.invariant.book _ c.self.view_is
           c.len.ensures.formed.agreed
           c.args.stop _ _ c.in_ok-from.ensures.found (c.in-Some.ensures.variant.0 refl);
       leaves = search rules;
       kept =
-          relinked_keeps _ _ _ _ _ _ _ _ c.self.invariant.book _ c.self.view_is _ _ _ re.1;
+          relinked_keeps _ _ _ _ _ _ _ c.self.invariant.book _ c.self.view_is _ _ _ re.1;
       refused = tt;
     }
 
 pub returns-in-None-clause-changes : goal.returns-in-None-clause-changes
 returns-in-None-clause-changes g c =
     let told =
-    told_whole _ _ _ _ _ _ _ _ c.self.invariant.book _ c.self.view_is c.len.ensures.formed.agreed
+    told_whole _ _ _ _ _ _ _ c.self.invariant.book _ c.self.view_is c.len.ensures.formed.agreed
     c.args.stop _ _ c.in_ok-from.ensures.found
     (λ some. true≢false (sym (c.in-None.ensures.variant.1 some))) in
     record {
       gives = told.0;
       leaves = told.1;
       kept =
-          refused_keeps _ _ _ _ _ _ _ _ c.self.invariant.book _ c.self.view_is _
+          refused_keeps _ _ _ _ _ _ _ c.self.invariant.book _ c.self.view_is _
           c.in-None.ensures.none;
       refused = search rules;
     }

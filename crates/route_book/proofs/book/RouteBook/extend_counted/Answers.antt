@@ -6,7 +6,7 @@ use Rattle.route_book.proofs.RelinkLemmas.{roomy}
 use Rattle.route_book.proofs.book.RouteBook.extend_counted.Goals as goal
 
 pub add-requires-clause-above : goal.add-requires-clause-above
-add-requires-clause-above g c = next_above _ _ _ _ _ _ _ _ c.self.invariant.book
+add-requires-clause-above g c = next_above _ _ _ _ _ _ _ c.self.invariant.book
 
 pub invariant_of-self : goal.invariant_of-self
 invariant_of-self g c =
@@ -19,7 +19,7 @@ invariant_of-self g c =
     let room = c.self.invariant.room in
     let same = c.add.ensures.capacity in
     record {
-      book = extend_leaves _ _ _ s _ _ _ _ c.self.invariant.book _ c.self.view_is t _ _
+      book = extend_leaves _ _ s _ _ _ _ c.self.invariant.book _ c.self.view_is t _ _
           c.in_ok-behind.ensures.found pt _ _ c.in_ok-at.ensures.found
           c.if-is_full_of_stops.ensures.is
           c.is_full_of_stops.ensures.chained
@@ -46,7 +46,7 @@ returns-clause-changes g c =
       gives = search rules;
       leaves = search rules;
       kept =
-          extend_keeps_in _ _ _ _ _ _ _ _ c.self.invariant.book _ c.self.view_is c.args.stop _ _
+          extend_keeps_in _ _ _ _ _ _ _ c.self.invariant.book _ c.self.view_is c.args.stop _ _
           c.in_ok-behind.ensures.found c.args.place _ _ c.in_ok-at.ensures.found
           c.if-is_full_of_stops.ensures.is
           c.is_full_of_stops.ensures.chained

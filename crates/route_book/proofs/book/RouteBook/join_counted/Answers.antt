@@ -14,7 +14,7 @@ invariant_of-self g c =
     let stay = c.stops_stay_as_routes_change.ensures in
     let sound = c.self.invariant.sound in
     record {
-      book = join_leaves _ _ _ _ _ _ _ _ c.self.invariant.book _ c.self.view_is
+      book = join_leaves _ _ _ _ _ _ _ c.self.invariant.book _ c.self.view_is
           c.len.ensures.formed.agreed t _ _ c.in_ok-from.ensures.found u _ _
           c.in_ok-to.ensures.found
           (λ x y. c.stops_follow_their_previous_ones.ensures c.self.inside.held.state x y
@@ -37,14 +37,14 @@ pub returns-in-Some-clause-changes : goal.returns-in-Some-clause-changes
 returns-in-Some-clause-changes g c =
     record {
       gives =
-          told_joined _ _ _ _ _ _ _ _ c.self.invariant.book _ c.self.view_is
+          told_joined _ _ _ _ _ _ _ c.self.invariant.book _ c.self.view_is
           c.len.ensures.formed.agreed
           c.args.stop _ _ c.in_ok-from.ensures.found c.args.next _ _ c.in_ok-to.ensures.found
           (λ x y. c.stops_follow_their_previous_ones.ensures c.self.inside.held.state x y
           c.self.invariant.sound) (c.in-Some.ensures.variant.0 refl);
       leaves = search rules;
       kept =
-          relinked_keeps _ _ _ _ _ _ _ _ c.self.invariant.book _ c.self.view_is _ _ _
+          relinked_keeps _ _ _ _ _ _ _ c.self.invariant.book _ c.self.view_is _ _ _
           c.in-Some.ensures.relinked;
       refused = tt;
     }
@@ -52,7 +52,7 @@ returns-in-Some-clause-changes g c =
 pub returns-in-None-clause-changes : goal.returns-in-None-clause-changes
 returns-in-None-clause-changes g c =
     let told =
-    told_apart _ _ _ _ _ _ _ _ c.self.invariant.book _ c.self.view_is c.len.ensures.formed.agreed
+    told_apart _ _ _ _ _ _ _ c.self.invariant.book _ c.self.view_is c.len.ensures.formed.agreed
     c.args.stop _ _ c.in_ok-from.ensures.found c.args.next _ _ c.in_ok-to.ensures.found
     (λ x y. c.stops_follow_their_previous_ones.ensures c.self.inside.held.state x y
     c.self.invariant.sound) (λ some. true≢false (sym (c.in-None.ensures.variant.1 some))) in
@@ -60,7 +60,7 @@ returns-in-None-clause-changes g c =
       gives = told.0;
       leaves = told.1;
       kept =
-          refused_keeps _ _ _ _ _ _ _ _ c.self.invariant.book _ c.self.view_is _
+          refused_keeps _ _ _ _ _ _ _ c.self.invariant.book _ c.self.view_is _
           c.in-None.ensures.none;
       refused = search rules;
     }

@@ -11,7 +11,7 @@ use Rattle.route_book.proofs.RelinkLemmas.{roomy}
 use Rattle.route_book.proofs.book.RouteBook.mark_counted.Goals as goal
 
 pub add-requires-clause-above : goal.add-requires-clause-above
-add-requires-clause-above g c = next_above _ _ _ _ _ _ _ _ c.self.invariant.book
+add-requires-clause-above g c = next_above _ _ _ _ _ _ _ c.self.invariant.book
 
 pub invariant_of-self : goal.invariant_of-self
 invariant_of-self g c =
@@ -23,7 +23,7 @@ invariant_of-self g c =
     let room = c.self.invariant.room in
     let same = c.add.ensures.capacity in
     record {
-      book = mark_leaves _ _ _ s _ _ _ _ c.self.invariant.book _ c.self.view_is pt _ _
+      book = mark_leaves _ _ s _ _ _ _ c.self.invariant.book _ c.self.view_is pt _ _
           c.in_ok-at.ensures.found st _ _ c.in_ok-by.ensures.found c.if-is_full_of_marks.ensures
           _ _ _ c.new-mark.ensures.ticket c.new-mark.ensures.place c.new-mark.ensures.stop _
           put.vacant put.entries _ _ c.changed-self-inside.ensures c.add.ensures.entries
@@ -41,7 +41,7 @@ invariant_of-self g c =
 
 pub returns-clause-arena : goal.returns-clause-arena
 returns-clause-arena g c =
-    subst (λ (b : Book g.row.P-Inx.Denot). (m : MarkView)
+    subst (λ (b : Book). (m : MarkView)
     × (c.insert_within_capacity.new.self ≡ inserted b.marks m))
     c.self.view_is (c.new-mark.result, c.in-Ok.ensures.exact)
 
@@ -52,7 +52,7 @@ returns-clause-changes g c =
       gives = search rules;
       leaves = search rules;
       kept =
-          mark_keeps _ _ _ _ _ _ _ _ c.self.invariant.book _ c.self.view_is c.args.place _ _
+          mark_keeps _ _ _ _ _ _ _ c.self.invariant.book _ c.self.view_is c.args.place _ _
           c.in_ok-at.ensures.found c.args.stop _ _ c.in_ok-by.ensures.found
           c.if-is_full_of_marks.ensures
           _ _ _ c.new-mark.ensures.ticket c.new-mark.ensures.place

@@ -25,31 +25,31 @@ invariant_of-moved g c =
     let stops = c.transfer_stops.ensures in
     let marks = c.transfer_marks.ensures in
     let packing =
-    subst (IsPacked g.P.Inx.PtrInxCore.number g.P.Gen.PtrGenCore.last 0 c.requires.packed.1.0
+    subst (IsPacked g.P.Gen.PtrGenCore.last 0 c.requires.packed.1.0
     c.requires.packed.0)
     (sym c.self.view_is) c.requires.packed.1.1 in
     let rooms = c.moved.invariant.book.within.rooms_are in
     let fit_p : length s.places ≤ moved.place_room =
     (let need = c.requires.places in
-    let own = ap (λ (b : Book g.row.P-Inx.Denot). length b.state.places) c.self.view_is in
-    let room = ap (λ (b : Book g.row.Q-Inx.Denot). b.state.rooms.places) c.moved.view_is in
+    let own = ap (λ (b : Book). length b.state.places) c.self.view_is in
+    let room = ap (λ (b : Book). b.state.rooms.places) c.moved.view_is in
     let same = ap (λ (r : Rooms). r.places) rooms in
     omega (arith, need, own, room, same)) in
     let fit_s : length (stop_list s.routes) ≤ moved.stop_room =
     (let need = c.requires.stops in
-    let own = ap (λ (b : Book g.row.P-Inx.Denot). length (stop_list b.state.routes))
+    let own = ap (λ (b : Book). length (stop_list b.state.routes))
     c.self.view_is in
-    let room = ap (λ (b : Book g.row.Q-Inx.Denot). b.state.rooms.stops) c.moved.view_is in
+    let room = ap (λ (b : Book). b.state.rooms.stops) c.moved.view_is in
     let same = ap (λ (r : Rooms). r.stops) rooms in
     omega (arith, need, own, room, same)) in
     let fit_m : length s.marks ≤ moved.mark_room =
     (let need = c.requires.marks in
-    let own = ap (λ (b : Book g.row.P-Inx.Denot). length b.state.marks) c.self.view_is in
-    let room = ap (λ (b : Book g.row.Q-Inx.Denot). b.state.rooms.marks) c.moved.view_is in
+    let own = ap (λ (b : Book). length b.state.marks) c.self.view_is in
+    let room = ap (λ (b : Book). b.state.rooms.marks) c.moved.view_is in
     let same = ap (λ (r : Rooms). r.marks) rooms in
     omega (arith, need, own, room, same)) in
     let kept =
-    moved_kept g.P.Inx.PtrInxCore.number g.Q.Inx.PtrInxCore.number g.P.Gen.PtrGenCore.last
+    moved_kept g.P.Gen.PtrGenCore.last
     (max_index_of g.Q.Inx.PtrInxCore.greatest) (second_generation g.Q.Gen.PtrGenCore.last) _
     (record { places = moved.place_room; stops = moved.stop_room; marks = moved.mark_room })
     c.self.inside.last s c.self.inside.places c.self.inside.stops c.self.inside.marks
@@ -90,7 +90,7 @@ returns g c rooms same has =
     let stops = c.transfer_stops.ensures in
     let marks = c.transfer_marks.ensures in
     let packing =
-    subst (IsPacked g.P.Inx.PtrInxCore.number g.P.Gen.PtrGenCore.last 0 c.requires.packed.1.0
+    subst (IsPacked g.P.Gen.PtrGenCore.last 0 c.requires.packed.1.0
     c.requires.packed.0)
     (sym c.self.view_is) c.requires.packed.1.1 in
     let own : Rooms = record {
@@ -100,10 +100,10 @@ returns g c rooms same has =
     } in
     let wanted : own ≡ rooms =
     sym c.moved.invariant.book.within.rooms_are
-    ∙ ap (λ (b : Book g.row.Q-Inx.Denot). b.state.rooms) c.moved.view_is ∙ same in
+    ∙ ap (λ (b : Book). b.state.rooms) c.moved.view_is ∙ same in
     record {
       state = c.changed-moved-inside.ensures ∙ ap (λ r. in_rooms r s) wanted
-          ∙ ap (λ (b : Book g.row.P-Inx.Denot). in_rooms rooms b.state) c.self.view_is;
+          ∙ ap (λ (b : Book). in_rooms rooms b.state) c.self.view_is;
       place_counter = places.counter;
       stop_counter = stops.counter;
       mark_counter = marks.counter;
@@ -119,23 +119,23 @@ returns g c rooms same has =
           (marks.entries packing.mark_run);
       rooms = record {
         places = places.room
-            ∙ ap (λ (b : Book g.row.Q-Inx.Denot). b.places.chains.room) c.moved.view_is
+            ∙ ap (λ (b : Book). b.places.chains.room) c.moved.view_is
             ∙ has.places;
         stops = stops.room
-            ∙ ap (λ (b : Book g.row.Q-Inx.Denot). b.stops.room) c.moved.view_is ∙ has.stops;
+            ∙ ap (λ (b : Book). b.stops.room) c.moved.view_is ∙ has.stops;
         marks = marks.room
-            ∙ ap (λ (b : Book g.row.Q-Inx.Denot). b.marks.room) c.moved.view_is ∙ has.marks;
+            ∙ ap (λ (b : Book). b.marks.room) c.moved.view_is ∙ has.marks;
       };
       order = places.run ∙ ap (range_with_len 1) (sym c.self.invariant.book.within.place_count
           ∙ sym (ap (λ t. length t.places) c.changed-moved-inside.ensures));
-      stop_runs = subst (IsLaidOut (ends_in g.Q.Inx.PtrInxCore.number c.transfer_stops.new.to))
+      stop_runs = subst (IsLaidOut (ends_in c.transfer_stops.new.to))
           (sym stops.live) (stops.laid packing.stop_runs);
       mark_run = run_mapped (entry_at c.self.inside.marks) (entry_at c.transfer_marks.new.to) _ _ _
           (marks.entries packing.mark_run) marks.live packing.mark_run;
       place_free = places.free;
       stop_free = stops.free;
       mark_free = marks.free;
-      stops = moved_stop g.P.Inx.PtrInxCore.number g.Q.Inx.PtrInxCore.number g.P.Gen.PtrGenCore.last
+      stops = moved_stop g.P.Gen.PtrGenCore.last
           (max_index_of g.Q.Inx.PtrInxCore.greatest)
           (second_generation g.Q.Gen.PtrGenCore.last) _ own
           c.self.inside.last s c.self.inside.places c.self.inside.stops c.self.inside.marks
@@ -143,7 +143,7 @@ returns g c rooms same has =
           c.transfer_stops.new.to c.transfer_marks.new.to c.requires.packed.0 c.requires.packed.1.0
           packing places.entries places.within places.order stops.entries stops.within stops.on
           stops.next marks.entries marks.within places.counter stops.counter;
-      marks = moved_mark g.P.Inx.PtrInxCore.number g.Q.Inx.PtrInxCore.number g.P.Gen.PtrGenCore.last
+      marks = moved_mark g.P.Gen.PtrGenCore.last
           (max_index_of g.Q.Inx.PtrInxCore.greatest)
           (second_generation g.Q.Gen.PtrGenCore.last) _ own
           c.self.inside.last s c.self.inside.places c.self.inside.stops c.self.inside.marks

@@ -65,7 +65,7 @@ pub invariant_of-result : goal.invariant_of-result
 invariant_of-result g c =
     let made = c.in_ok-arenas.ensures in
     let mirrors = c.in_ok-mirrors.ensures in
-    let kept = new_kept g.P.Inx.PtrInxCore.number
+    let kept = new_kept
     (record { places = c.args.places; stops = c.args.stops; marks = c.args.marks }) c.args.last
     _ _ _ _ _ _ _ _ _
     made.places made.stops made.marks made.ordered made.places_fit made.stops_fit made.marks_fit in

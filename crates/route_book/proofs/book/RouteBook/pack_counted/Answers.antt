@@ -5,11 +5,11 @@ use Rattle.route_book.proofs.WholeLemmas.{fits_still, in_store, of_state}
 use Rattle.route_book.proofs.book.RouteBook.pack_counted.Goals as goal
 
 pub pack_if-requires-clause-book : goal.pack_if-requires-clause-book
-pack_if-requires-clause-book g c = of_state _ _ _ _ _ _ _ _ c.self.invariant.book
+pack_if-requires-clause-book g c = of_state _ _ _ _ _ _ _ c.self.invariant.book
 
 pub returns-clause-packed : goal.returns-clause-packed
 returns-clause-packed g c =
-    subst (λ (b : Book g.row.P-Inx.Denot). IsPacked g.P.Inx.PtrInxCore.number
+    subst (λ (b : Book). IsPacked
     g.P.Gen.PtrGenCore.last
     c.args.counts.now.looks c.pack_if.new.looks b
     (as_book c.self.inside.held.state c.pack_if.new.places c.pack_if.new.stops c.pack_if.new.marks))
@@ -21,7 +21,7 @@ invariant_of-self g c =
     let room = c.self.invariant.room in
     let same = done.book_room in
     record {
-      book = in_store _ _ _ _ _ _ _ _ c.self.invariant.book _ _ _ _ _ done.book;
+      book = in_store _ _ _ _ _ _ _ c.self.invariant.book _ _ _ _ _ done.book;
       sound = c.self.invariant.sound;
       counts = c.self.invariant.counts;
       room = omega (arith, room, same);

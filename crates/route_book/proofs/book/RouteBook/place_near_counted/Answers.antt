@@ -14,14 +14,13 @@ use Rattle.route_book.proofs.book.RouteBook.place_near_counted.Goals as goal
 
 pub add_place-requires-clause-similar : goal.add_place-requires-clause-similar
 add_place-requires-clause-similar g c =
-    subst (λ (b : Book g.row.P-Inx.Denot). IsSimilar g.P.PtrCore.index g.P.PtrCore.generation
-    g.P.Inx.PtrInxCore.number
+    subst (λ (b : Book). IsSimilar g.P.PtrCore.index g.P.PtrCore.generation
     (asked_at key_cmp key_of (record { key = c.args.key; ticket = b.state.last + 1 }) b.places)
-    (IsAscending g.P.Inx.PtrInxCore.number key_cmp key_of b.places)
+    (IsAscending key_cmp key_of b.places)
     c.find_similar_key_linear_counted-found.result b.places) c.self.view_is
-    (subst (λ n. IsSimilar g.P.PtrCore.index g.P.PtrCore.generation g.P.Inx.PtrInxCore.number
+    (subst (λ n. IsSimilar g.P.PtrCore.index g.P.PtrCore.generation
     (asked_at key_cmp key_of (record { key = c.args.key; ticket = n + 1 }) c.self.inside.places)
-    (IsAscending g.P.Inx.PtrInxCore.number key_cmp key_of c.self.inside.places)
+    (IsAscending key_cmp key_of c.self.inside.places)
     c.find_similar_key_linear_counted-found.result c.self.inside.places)
     (sym c.self.invariant.book.last_is)
     c.find_similar_key_linear_counted-found.ensures.similar)
@@ -34,10 +33,10 @@ returns-clause-counts g c =
     let found = c.in_ok-at.ensures.found in
     let value : value_if h (entry_in places i) ≡ Some found.0 =
     ap (λ k. value_if h (entry_in places k)) c.inx.ensures
-    ∙ ap (λ (b : Book g.row.P-Inx.Denot). value_if h
+    ∙ ap (λ (b : Book). value_if h
     (entry_in b.places (g.P.PtrCore.index c.in_ok-at.at))) c.self.view_is ∙ found.1 in
     let held : place_holder c.self.inside.held.state c.args.near ≡ Ok found.0 =
-    ap (λ (b : Book g.row.P-Inx.Denot). place_holder b.state c.args.near) c.self.view_is
+    ap (λ (b : Book). place_holder b.state c.args.near) c.self.view_is
     ∙ found.2 in
     let search = c.find_similar_key_linear_counted-found.ensures in
     let b = c.self.invariant.book in
@@ -50,13 +49,13 @@ returns-clause-counts g c =
       key_rises = search.rises;
       first_rises = c.find_place.ensures.rises;
       second_rises = omega arith;
-      key = subst (λ (b : Book g.row.P-Inx.Denot).
+      key = subst (λ (b : Book).
           c.find_similar_key_linear_counted-found.new.probes
           ≤ c.args.counts.now.key + most_near b.state c.args.key c.args.near) c.self.view_is
-          (hint_bound g.P.Inx.PtrInxCore.number _ _ c.self.inside.held.state places _ _ _
+          (hint_bound _ _ c.self.inside.held.state places _ _ _
           c.self.invariant.book c.len.ensures.formed.ordered wanted newest c.args.near i h
           found.0 value held
-          (ap (λ (b : Book g.row.P-Inx.Denot). is_full_of_places b.state) c.self.view_is
+          (ap (λ (b : Book). is_full_of_places b.state) c.self.view_is
           ∙ sym c.if-is_full_of_places.ensures)
           c.args.counts.now.key c.find_similar_key_linear_counted-found.new.probes
           search.bound search.near);

@@ -6,7 +6,7 @@ use Rattle.route_book.proofs.book.RouteBook.remove.Goals as goal
 pub returns-clause-removes : goal.returns-clause-removes
 returns-clause-removes g c = (
   c.remove_counted.new.counts.looks,
-  subst (λ n. Removes g.P.Inx.PtrInxCore.number g.P.Gen.PtrGenCore.last c.args.ticket n
+  subst (λ n. Removes g.P.Gen.PtrGenCore.last c.args.ticket n
       c.remove_counted.new.counts.looks c.args.self.now
       c.remove_counted.new.self (holder c.args.self.now.state c.args.ticket)) c.new.ensures.looks
       c.remove_counted.ensures.removes,

@@ -24,11 +24,11 @@ stood g c =
 
 -- the store is ready for the removal
 ready : (g : _) (c : After-pack_if g)
-    → IsReady g.P.Inx.PtrInxCore.number g.P.Gen.PtrGenCore.last c.removal_wraps-needed.result
+    → IsReady g.P.Gen.PtrGenCore.last c.removal_wraps-needed.result
     c.args.counts.now.looks c.pack_if.new.looks c.args.self.now
     (as_book c.self.inside.held.state c.pack_if.new.places c.pack_if.new.stops
     c.pack_if.new.marks)
-ready g c = subst (λ (b : Book g.row.P-Inx.Denot). IsReady g.P.Inx.PtrInxCore.number
+ready g c = subst (λ (b : Book). IsReady
     g.P.Gen.PtrGenCore.last c.removal_wraps-needed.result
     c.args.counts.now.looks c.pack_if.new.looks b
     (as_book c.self.inside.held.state c.pack_if.new.places c.pack_if.new.stops
@@ -51,7 +51,7 @@ end_at-requires-clause-stands g c =
     let at = (goal.at.end_at-requires-clause-stands g c).After-pack_if in
     let last = g.P.Gen.PtrGenCore.last in
     let own = stood g at in
-    let calm = calm_ready g.P.Inx.PtrInxCore.number last c.args.self.now _ _ _ c.kind.result _
+    let calm = calm_ready last c.args.self.now _ _ _ c.kind.result _
     c.removal_wraps-needed.ensures (ready g at) c.self.invariant.counts in
     let packed = as_book c.self.inside.held.state c.pack_if.new.places c.pack_if.new.stops
     c.pack_if.new.marks in
@@ -63,24 +63,24 @@ returns-clause-result g c =
     let own = stood g at.After-pack_if in
     let ends = ended g at.After-end_at own.0 own.1.0 own.1.1.0 own.1.1.1 in
     removed_ok c.args.self.now.state c.args.ticket ends.0
-    (held g.P.Inx.PtrInxCore.number g.P.Gen.PtrGenCore.last c.args.self.now _ _ _ c.kind.result _
+    (held g.P.Gen.PtrGenCore.last c.args.self.now _ _ _ c.kind.result _
     c.removal_wraps-needed.ensures (ready g at.After-pack_if) c.args.ticket _
-    (ap (λ (b : Book g.row.P-Inx.Denot). b.state) c.self.view_is) ends)
+    (ap (λ (b : Book). b.state) c.self.view_is) ends)
 
 pub returns-clause-state : goal.returns-clause-state
 returns-clause-state g c =
     let at = goal.at.returns-clause-state g c in
     let own = stood g at.After-pack_if in
-    state_so g.P.Inx.PtrInxCore.number g.P.Gen.PtrGenCore.last c.args.self.now _ _ _ c.kind.result _
+    state_so g.P.Gen.PtrGenCore.last c.args.self.now _ _ _ c.kind.result _
     c.removal_wraps-needed.ensures (ready g at.After-pack_if) c.args.ticket _
-    (ap (λ (b : Book g.row.P-Inx.Denot). b.state) c.self.view_is)
+    (ap (λ (b : Book). b.state) c.self.view_is)
     (ended g at.After-end_at own.0 own.1.0 own.1.1.0 own.1.1.1)
 
 pub returns-clause-removes : goal.returns-clause-removes
 returns-clause-removes g c =
     let at = goal.at.returns-clause-removes g c in
     let own = stood g at.After-pack_if in
-    removed_so g.P.Inx.PtrInxCore.number g.P.Gen.PtrGenCore.last c.args.self.now _ _ _ c.kind.result _
+    removed_so g.P.Gen.PtrGenCore.last c.args.self.now _ _ _ c.kind.result _
     c.removal_wraps-needed.ensures (ready g at.After-pack_if) c.args.ticket _
-    (ap (λ (b : Book g.row.P-Inx.Denot). b.state) c.self.view_is)
+    (ap (λ (b : Book). b.state) c.self.view_is)
     (ended g at.After-end_at own.0 own.1.0 own.1.1.0 own.1.1.1)

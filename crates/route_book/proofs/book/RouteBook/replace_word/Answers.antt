@@ -14,7 +14,7 @@ use Rattle.route_book.proofs.book.RouteBook.replace_word.Goals as goal
 pub invariant_of-self : goal.invariant_of-self
 invariant_of-self g c =
     let b = c.self.invariant.book in
-    let found = subst (λ (b : Book g.row.P-Inx.Denot). (place : Place)
+    let found = subst (λ (b : Book). (place : Place)
     × (value_if (g.P.PtrCore.generation c.args.at)
     (entry_in b.places (g.P.PtrCore.index c.args.at)) ≡ Some place)
     × (place_holder b.state c.args.ticket ≡ Ok place)) (sym c.self.view_is) c.requires.found in
@@ -25,7 +25,7 @@ invariant_of-self g c =
     let after : after_word c.self.inside.held.state c.args.ticket c.in-Word.word
     ≡ after_word c.self.inside.held.state c.args.ticket c.args.word =
     ap (after_word c.self.inside.held.state c.args.ticket) word in
-    let kept = reword_kept g.P.Inx.PtrInxCore.number
+    let kept = reword_kept
     (record {
       places = c.self.inside.place_room;
       stops = c.self.inside.stop_room;
@@ -36,7 +36,7 @@ invariant_of-self g c =
     (subst IsSound (sym after) sound) _ _ replaced in
     let room = c.self.invariant.room in
     record {
-      book = subst (λ z. IsBook g.P.Inx.PtrInxCore.number
+      book = subst (λ z. IsBook
           (record {
             places = c.self.inside.place_room;
             stops = c.self.inside.stop_room;
@@ -55,7 +55,7 @@ invariant_of-self g c =
 
 pub returns-clause-changes : goal.returns-clause-changes
 returns-clause-changes g c =
-    let found = subst (λ (b : Book g.row.P-Inx.Denot). (place : Place)
+    let found = subst (λ (b : Book). (place : Place)
     × (value_if (g.P.PtrCore.generation c.args.at)
     (entry_in b.places (g.P.PtrCore.index c.args.at)) ≡ Some place)
     × (place_holder b.state c.args.ticket ≡ Ok place)) (sym c.self.view_is) c.requires.found in
@@ -64,7 +64,7 @@ returns-clause-changes g c =
       gives = search rules;
       leaves = search rules;
       kept =
-          subst (λ (b : Book g.row.P-Inx.Denot). KeepsItems b
+          subst (λ (b : Book). KeepsItems b
           (record {
             state = c.changed-self-inside.result.state;
             places = c.reword.new.arena;
@@ -73,7 +73,7 @@ returns-clause-changes g c =
           })) c.self.view_is
           (kept_reworded c.self.inside.held.state c.changed-self-inside.result.state
           c.self.inside.places
-          c.reword.new.arena c.self.inside.stops c.self.inside.marks g.P.Inx.PtrInxCore.number
+          c.reword.new.arena c.self.inside.stops c.self.inside.marks
           found.0
           c.in-Word.word _ _ replaced);
       refused = tt;

@@ -7,7 +7,7 @@ use Rattle.route_book.proofs.RelinkLemmas.{roomy}
 use Rattle.route_book.proofs.book.RouteBook.start_counted.Goals as goal
 
 pub add-requires-clause-above : goal.add-requires-clause-above
-add-requires-clause-above g c = next_above _ _ _ _ _ _ _ _ c.self.invariant.book
+add-requires-clause-above g c = next_above _ _ _ _ _ _ _ c.self.invariant.book
 
 pub invariant_of-self : goal.invariant_of-self
 invariant_of-self g c =
@@ -18,7 +18,7 @@ invariant_of-self g c =
     let room = c.self.invariant.room in
     let same = c.add.ensures.capacity in
     record {
-      book = start_leaves _ _ _ s _ _ _ _ c.self.invariant.book _ c.self.view_is pt _ _
+      book = start_leaves _ _ s _ _ _ _ c.self.invariant.book _ c.self.view_is pt _ _
           c.in_ok-at.ensures.found c.if-is_full_of_stops.ensures.is
           c.is_full_of_stops.ensures.chained
           _ _ _ c.new-stop.ensures.ticket c.new-stop.ensures.place _
@@ -41,7 +41,7 @@ returns-clause-changes g c =
       gives = search rules;
       leaves = search rules;
       kept =
-          start_keeps _ _ _ _ _ _ _ _ c.self.invariant.book _ c.self.view_is c.args.place _ _
+          start_keeps _ _ _ _ _ _ _ c.self.invariant.book _ c.self.view_is c.args.place _ _
           c.in_ok-at.ensures.found c.if-is_full_of_stops.ensures.is
           c.is_full_of_stops.ensures.chained
           _ _ _ c.new-stop.ensures.ticket c.new-stop.ensures.place _

@@ -12,16 +12,16 @@ pub returns-clause-routes : goal.returns-clause-routes
 returns-clause-routes g c =
     let s = c.self.inside.held.state in
     let sound = c.self.invariant.sound in
-    subst (λ (b : Book g.row.P-Inx.Denot). AreRoutes (stop_in (found_of b))
-    (ends_in g.P.Inx.PtrInxCore.number c.self.inside.stops) b.state.routes) c.self.view_is
-    (routes_chained _ _ _ s _ _ _ _ c.self.invariant.book c.len.ensures.formed.agreed
+    subst (λ (b : Book). AreRoutes (stop_in (found_of b))
+    (ends_in c.self.inside.stops) b.state.routes) c.self.view_is
+    (routes_chained _ _ s _ _ _ _ c.self.invariant.book c.len.ensures.formed.agreed
     (λ x y. c.stops_follow_their_previous_ones.ensures s x y sound)
     (c.routes_lead_along.ensures.next s sound) (c.routes_lead_along.ensures.first s sound)
     (c.routes_lead_along.ensures.stops s sound) sound.routes.once)
 
 pub returns-clause-next : goal.returns-clause-next
 returns-clause-next g c =
-    subst (λ (b : Book g.row.P-Inx.Denot). LeadAs (λ (t : StopView). t.ticket)
-    (values_in c.self.inside.stops) (ends_in g.P.Inx.PtrInxCore.number c.self.inside.stops)
+    subst (λ (b : Book). LeadAs (λ (t : StopView). t.ticket)
+    (values_in c.self.inside.stops) (ends_in c.self.inside.stops)
     (next_stop b.state.routes))
     c.self.view_is c.self.invariant.book.held.routes

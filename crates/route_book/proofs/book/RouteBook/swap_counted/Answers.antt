@@ -14,12 +14,12 @@ invariant_of-self g c =
     let stay = c.stops_stay_as_routes_change.ensures in
     let sound = c.self.invariant.sound in
     let some = c.in-Some.ensures.variant.0 refl in
-    let re = swapped_links _ _ _ _ _ _ _ _ c.self.invariant.book _ c.self.view_is
+    let re = swapped_links _ _ _ _ _ _ _ c.self.invariant.book _ c.self.view_is
     c.len.ensures.formed.agreed t _ _ c.in_ok-from.ensures.found u _ _ c.in_ok-by.ensures.found
     _ some
     c.in-Some.ensures.relinked in
     record {
-      book = swap_leaves _ _ _ _ _ _ _ _ c.self.invariant.book _ c.self.view_is
+      book = swap_leaves _ _ _ _ _ _ _ c.self.invariant.book _ c.self.view_is
           c.len.ensures.formed.agreed t _ _ c.in_ok-from.ensures.found u _ _
           c.in_ok-by.ensures.found _ _
           c.changed-self-inside.ensures
@@ -38,26 +38,26 @@ invariant_of-self g c =
 
 pub returns-in-Some-clause-changes : goal.returns-in-Some-clause-changes
 returns-in-Some-clause-changes g c =
-    let re = swapped_links _ _ _ _ _ _ _ _ c.self.invariant.book _ c.self.view_is
+    let re = swapped_links _ _ _ _ _ _ _ c.self.invariant.book _ c.self.view_is
     c.len.ensures.formed.agreed c.args.stop _ _ c.in_ok-from.ensures.found c.args.other _ _
     c.in_ok-by.ensures.found
     _ (c.in-Some.ensures.variant.0 refl) c.in-Some.ensures.relinked in
     record {
       gives =
-          told_swapped _ _ _ _ _ _ _ _ c.self.invariant.book _ c.self.view_is
+          told_swapped _ _ _ _ _ _ _ c.self.invariant.book _ c.self.view_is
           c.len.ensures.formed.agreed
           c.args.stop _ _ c.in_ok-from.ensures.found c.args.other _ _ c.in_ok-by.ensures.found
           (c.in-Some.ensures.variant.0 refl);
       leaves = search rules;
       kept =
-          relinked_keeps _ _ _ _ _ _ _ _ c.self.invariant.book _ c.self.view_is _ _ _ re.1.1;
+          relinked_keeps _ _ _ _ _ _ _ c.self.invariant.book _ c.self.view_is _ _ _ re.1.1;
       refused = tt;
     }
 
 pub returns-in-None-clause-changes : goal.returns-in-None-clause-changes
 returns-in-None-clause-changes g c =
     let told =
-    told_unswapped _ _ _ _ _ _ _ _ c.self.invariant.book _ c.self.view_is
+    told_unswapped _ _ _ _ _ _ _ c.self.invariant.book _ c.self.view_is
     c.len.ensures.formed.agreed c.args.stop _ _ c.in_ok-from.ensures.found c.args.other _ _
     c.in_ok-by.ensures.found
     (λ some. true≢false (sym (c.in-None.ensures.variant.1 some))) in
@@ -65,7 +65,7 @@ returns-in-None-clause-changes g c =
       gives = told.0;
       leaves = told.1;
       kept =
-          refused_keeps _ _ _ _ _ _ _ _ c.self.invariant.book _ c.self.view_is _
+          refused_keeps _ _ _ _ _ _ _ c.self.invariant.book _ c.self.view_is _
           c.in-None.ensures.none;
       refused = search rules;
     }

@@ -5,7 +5,7 @@ pub returns-clause-result : goal.returns-clause-result
 returns-clause-result g c =
     let s = c.self.inside.held.state in
     let sound = c.self.invariant.sound in
-    walked_along _ _ _ s _ _ _ _ c.self.invariant.book c.len.ensures.formed.agreed
+    walked_along _ _ s _ _ _ _ c.self.invariant.book c.len.ensures.formed.agreed
     (λ x y. c.stops_follow_their_previous_ones.ensures s x y sound)
     (λ front behind t known leads first. c.lists_are_walked_both_ways.ensures s front behind t sound
     known leads first)

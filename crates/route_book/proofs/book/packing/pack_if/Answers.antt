@@ -12,30 +12,30 @@ use Rattle.route_book.proofs.book.packing.pack_if.Goals as goal
 
 pub mirror_places-requires-clause-booked : goal.mirror_places-requires-clause-booked
 mirror_places-requires-clause-booked g c =
-    ready_places g.P.Inx.PtrInxCore.number g.P.Gen.PtrGenCore.last _ _ _ _ _ _ _ _ _ _
+    ready_places g.P.Gen.PtrGenCore.last _ _ _ _ _ _ _ _ _ _
     c.requires.book c.compress_all.ensures c.entries_stand_in_the_list.ensures _ refl _
     (let same = c.requires.place_mirror in omega (arith, same))
 
 pub mirror_stops-requires-clause-booked : goal.mirror_stops-requires-clause-booked
 mirror_stops-requires-clause-booked g c =
-    ready_stops g.P.Inx.PtrInxCore.number g.P.Gen.PtrGenCore.last _ _ _ _ _ _ _ _ _ _
+    ready_stops g.P.Gen.PtrGenCore.last _ _ _ _ _ _ _ _ _ _
     c.requires.book c.compress_all.ensures c.entries_stand_in_the_list.ensures _ refl _
     (let same = c.requires.stop_mirror in omega (arith, same))
 
 pub mirror_marks-requires-clause-booked : goal.mirror_marks-requires-clause-booked
 mirror_marks-requires-clause-booked g c =
-    ready_marks g.P.Inx.PtrInxCore.number g.P.Gen.PtrGenCore.last _ _ _ _ _ _ _ _ _ _
+    ready_marks g.P.Gen.PtrGenCore.last _ _ _ _ _ _ _ _ _ _
     c.requires.book c.compress_all.ensures c.entries_stand_in_the_list.ensures _ refl _
     (let same = c.requires.mark_mirror in omega (arith, same))
 
 pub returns-clause-ready : goal.returns-clause-ready
 returns-clause-ready g c = rw c.if-not-needed.false (record {
   looks =
-      looks_made g.P.Inx.PtrInxCore.number g.P.Gen.PtrGenCore.last _ _ _ _ _ _ _ _ _ _
+      looks_made g.P.Gen.PtrGenCore.last _ _ _ _ _ _ _ _ _ _
       c.requires.book c.compress_all.ensures c.entries_stand_in_the_list.ensures _ _ _
       c.recast_all_stops.ensures.looks c.recast_all_marks.ensures.looks;
   place_counter = c.compress_all.ensures.laid.counter;
-  stop_counter = whole_stop_counter g.P.Inx.PtrInxCore.number g.P.Gen.PtrGenCore.last _ _ _ _ _ _ _
+  stop_counter = whole_stop_counter g.P.Gen.PtrGenCore.last _ _ _ _ _ _ _
       _ _ _ c.requires.book c.compress_all.ensures c.entries_stand_in_the_list.ensures
       c.recast_all_stops.new.stops c.recast_all_marks.new.marks _ _ _ _ _ _ refl refl refl
       c.mirror_places.ensures.mirrored c.mirror_stops.ensures.mirrored
@@ -47,14 +47,14 @@ returns-clause-ready g c = rw c.if-not-needed.false (record {
       c.recast_all_marks.ensures.live c.recast_all_marks.ensures.room;
   mark_counter = c.recast_all_marks.ensures.counter
       ∙ some_same c.compress_all.ensures.compressed.counter;
-  place_generations = place_generations g.P.Inx.PtrInxCore.number g.P.Gen.PtrGenCore.last
+  place_generations = place_generations g.P.Gen.PtrGenCore.last
       _ _ _ _ _ _ _ _ _ _ c.requires.book c.compress_all.ensures
       c.entries_stand_in_the_list.ensures;
-  stop_generations = stop_generations g.P.Inx.PtrInxCore.number g.P.Gen.PtrGenCore.last
+  stop_generations = stop_generations g.P.Gen.PtrGenCore.last
       _ _ _ _ _ _ _ _ _ _ c.requires.book c.compress_all.ensures
       c.entries_stand_in_the_list.ensures
       c.recast_all_stops.new.stops _ c.recast_all_stops.ensures.entries;
-  mark_generations = mark_generations g.P.Inx.PtrInxCore.number g.P.Gen.PtrGenCore.last
+  mark_generations = mark_generations g.P.Gen.PtrGenCore.last
       _ _ _ _ _ _ _ _ _ _ c.requires.book c.compress_all.ensures
       c.entries_stand_in_the_list.ensures
       c.recast_all_marks.new.marks _ _ c.recast_all_marks.ensures.entries;
@@ -63,12 +63,12 @@ returns-clause-ready g c = rw c.if-not-needed.false (record {
     stops = c.recast_all_stops.ensures.room ∙ c.compress_all.ensures.canonical.room;
     marks = c.recast_all_marks.ensures.room ∙ c.compress_all.ensures.compressed.room;
   };
-  order = places_in_order g.P.Inx.PtrInxCore.number g.P.Gen.PtrGenCore.last _ _ _ _ _ _ _ _ _ _
+  order = places_in_order g.P.Gen.PtrGenCore.last _ _ _ _ _ _ _ _ _ _
       c.requires.book c.compress_all.ensures c.entries_stand_in_the_list.ensures;
-  stop_runs = subst (IsLaidOut (ends_in g.P.Inx.PtrInxCore.number c.recast_all_stops.new.stops))
+  stop_runs = subst (IsLaidOut (ends_in c.recast_all_stops.new.stops))
       (sym (c.recast_all_stops.ensures.live ∙ c.compress_all.ensures.canonical.live))
-      (laid_same (ends_in g.P.Inx.PtrInxCore.number c.compress_all.new.stops)
-      (ends_in g.P.Inx.PtrInxCore.number c.recast_all_stops.new.stops) _
+      (laid_same (ends_in c.compress_all.new.stops)
+      (ends_in c.recast_all_stops.new.stops) _
       c.recast_all_stops.ensures.ends c.compress_all.ensures.canonical.laid_out);
   mark_run = marks_run c.compress_all.new.marks c.recast_all_marks.new.marks _
       c.compress_all.ensures.compressed.entries c.recast_all_marks.ensures.entries
@@ -76,7 +76,7 @@ returns-clause-ready g c = rw c.if-not-needed.false (record {
   place_free = c.compress_all.ensures.laid.free;
   stop_free = c.recast_all_stops.ensures.free ∙ c.compress_all.ensures.canonical.free;
   mark_free = c.recast_all_marks.ensures.free ∙ c.compress_all.ensures.mark_free;
-  stops = whole_stops g.P.Inx.PtrInxCore.number g.P.Gen.PtrGenCore.last _ _ _ _ _ _ _ _ _ _
+  stops = whole_stops g.P.Gen.PtrGenCore.last _ _ _ _ _ _ _ _ _ _
       c.requires.book c.compress_all.ensures c.entries_stand_in_the_list.ensures
       c.recast_all_stops.new.stops c.recast_all_marks.new.marks _ _ _ _ _ _ refl refl refl
       c.mirror_places.ensures.mirrored c.mirror_stops.ensures.mirrored
@@ -86,7 +86,7 @@ returns-clause-ready g c = rw c.if-not-needed.false (record {
       c.recast_all_stops.ensures.live
       c.recast_all_stops.ensures.room
       c.recast_all_marks.ensures.live c.recast_all_marks.ensures.room;
-  marks = whole_marks g.P.Inx.PtrInxCore.number g.P.Gen.PtrGenCore.last _ _ _ _ _ _ _ _ _ _
+  marks = whole_marks g.P.Gen.PtrGenCore.last _ _ _ _ _ _ _ _ _ _
       c.requires.book c.compress_all.ensures c.entries_stand_in_the_list.ensures
       c.recast_all_stops.new.stops c.recast_all_marks.new.marks _ _ _ _ _ _ refl refl refl
       c.mirror_places.ensures.mirrored c.mirror_stops.ensures.mirrored
@@ -101,7 +101,7 @@ returns-clause-ready g c = rw c.if-not-needed.false (record {
 pub returns-clause-book : goal.returns-clause-book
 returns-clause-book g c =
     rw c.renew.ensures.entries
-    (whole_kept g.P.Inx.PtrInxCore.number g.P.Gen.PtrGenCore.last _ _ _ _ _ _ _ _ _ _
+    (whole_kept g.P.Gen.PtrGenCore.last _ _ _ _ _ _ _ _ _ _
     c.requires.book c.compress_all.ensures
     c.entries_stand_in_the_list.ensures
     c.recast_all_stops.new.stops c.recast_all_marks.new.marks _ _ _ _ _ _ refl refl refl

@@ -21,7 +21,7 @@ returns-in-Place-clause-book g c =
     let generation = c.at-item.ensures.generation in
     let now = c.changed.ensures ∙ ap (after_removed s) c.ticket.ensures in
     let kind = sym c.kind-kind.ensures ∙ c.in-Place.is in
-    let it = found_place _ _ _ _ _ _ _ _ c.requires.book e found _ _ index generation kind in
+    let it = found_place _ _ _ _ _ _ _ c.requires.book e found _ _ index generation kind in
     let counts = counts_on last c.requires.counts in
     let calm = calm_of last (as_book s c.args.places.now c.args.stops.now c.args.marks.now) _ e
     c.take-entry.ensures.entry c.requires.stands _ kind in
@@ -29,7 +29,7 @@ returns-in-Place-clause-book g c =
     let law = c.removed_places_leave_no_reference.ensures in
     let after = c.changes_keep_states_sound.ensures.sound s (Remove e.ticket) tt sound in
     rw (c.take-entry.ensures.out, now)
-    (place_out _ _ _ _ _ _ _ _ c.requires.book e found _ _ index generation kind
+    (place_out _ _ _ _ _ _ _ c.requires.book e found _ _ index generation kind
     c.len.ensures.formed.ordered c.remove.new.self _
     counts.0 counts.1.0 calm removed _
     (record {
@@ -61,13 +61,13 @@ returns-in-Place-clause-ends g c =
     let generation = c.at-item.ensures.generation in
     let now = c.changed.ensures ∙ ap (after_removed s) c.ticket.ensures in
     let kind = sym c.kind-kind.ensures ∙ c.in-Place.is in
-    let it = found_place _ _ _ _ _ _ _ _ c.requires.book e found _ _ index generation kind in
+    let it = found_place _ _ _ _ _ _ _ c.requires.book e found _ _ index generation kind in
     let counts = counts_on last c.requires.counts in
     let calm = calm_of last (as_book s c.args.places.now c.args.stops.now c.args.marks.now) _ e
     c.take-entry.ensures.entry c.requires.stands _ kind in
     let removed = told _ _ _ _ (c.remove.ensures.value ∙ it.1.0) c.remove.ensures.exact in
     ends_of last _ e c.take-entry.ensures.entry _ _ _ kind
-    (place_ends _ _ _ _ _ _ _ _ c.requires.book e found _ _ index generation kind
+    (place_ends _ _ _ _ _ _ _ c.requires.book e found _ _ index generation kind
     c.len.ensures.formed.ordered c.remove.new.self _
     counts.0 counts.1.0 calm removed _ now)
 
@@ -78,7 +78,7 @@ returns-in-Place-clause-rooms g c =
     let index = c.at-item.ensures.index in
     let generation = c.at-item.ensures.generation in
     let kind = sym c.kind-kind.ensures ∙ c.in-Place.is in
-    let it = found_place _ _ _ _ _ _ _ _ c.requires.book e found _ _ index generation kind in
+    let it = found_place _ _ _ _ _ _ _ c.requires.book e found _ _ index generation kind in
     let removed = told _ _ _ _ (c.remove.ensures.value ∙ it.1.0) c.remove.ensures.exact in
     record { places = removed.room; stops = refl; marks = refl }
 
@@ -93,7 +93,7 @@ returns-in-Stop-clause-book g c =
     let generation = c.at-item.ensures.generation in
     let now = c.changed.ensures ∙ ap (after_removed s) c.ticket.ensures in
     let kind = sym c.kind-kind.ensures ∙ c.in-Stop.is in
-    let it = found_stop _ _ _ _ _ _ _ _ c.requires.book e found _ _ index generation kind in
+    let it = found_stop _ _ _ _ _ _ _ c.requires.book e found _ _ index generation kind in
     let link_there = link_under c.args.stops.now (g.P.PtrCore.index c.at-item.result)
     (g.P.PtrCore.generation c.at-item.result) _ it.1.0 in
     let counts = counts_on last c.requires.counts in
@@ -104,7 +104,7 @@ returns-in-Stop-clause-book g c =
     let law = c.removed_stops_join_their_neighbors.ensures in
     let after = c.changes_keep_states_sound.ensures.sound s (Remove e.ticket) tt sound in
     rw (c.take-entry.ensures.out, now)
-    (stop_out _ _ _ _ _ _ _ _ c.requires.book e found _ _ index generation kind
+    (stop_out _ _ _ _ _ _ _ c.requires.book e found _ _ index generation kind
     c.len-in-Stop.ensures.formed c.remove_link_no_gen.new.self _
     counts.0 counts.1.0 calm taken _
     (record {
@@ -127,7 +127,7 @@ returns-in-Stop-clause-ends g c =
     let generation = c.at-item.ensures.generation in
     let now = c.changed.ensures ∙ ap (after_removed s) c.ticket.ensures in
     let kind = sym c.kind-kind.ensures ∙ c.in-Stop.is in
-    let it = found_stop _ _ _ _ _ _ _ _ c.requires.book e found _ _ index generation kind in
+    let it = found_stop _ _ _ _ _ _ _ c.requires.book e found _ _ index generation kind in
     let link_there = link_under c.args.stops.now (g.P.PtrCore.index c.at-item.result)
     (g.P.PtrCore.generation c.at-item.result) _ it.1.0 in
     let counts = counts_on last c.requires.counts in
@@ -136,7 +136,7 @@ returns-in-Stop-clause-ends g c =
     let taken = told _ _ _ _ (c.remove_link_no_gen.ensures.value ∙ link_there.1)
     c.remove_link_no_gen.ensures.taken in
     ends_of last _ e c.take-entry.ensures.entry _ _ _ kind
-    (stop_ends _ _ _ _ _ _ _ _ c.requires.book e found _ _ index generation kind
+    (stop_ends _ _ _ _ _ _ _ c.requires.book e found _ _ index generation kind
     c.len-in-Stop.ensures.formed c.remove_link_no_gen.new.self _
     counts.0 counts.1.0 calm taken _ now)
 
@@ -147,7 +147,7 @@ returns-in-Stop-clause-rooms g c =
     let index = c.at-item.ensures.index in
     let generation = c.at-item.ensures.generation in
     let kind = sym c.kind-kind.ensures ∙ c.in-Stop.is in
-    let it = found_stop _ _ _ _ _ _ _ _ c.requires.book e found _ _ index generation kind in
+    let it = found_stop _ _ _ _ _ _ _ c.requires.book e found _ _ index generation kind in
     let link_there = link_under c.args.stops.now (g.P.PtrCore.index c.at-item.result)
     (g.P.PtrCore.generation c.at-item.result) _ it.1.0 in
     let taken = told _ _ _ _ (c.remove_link_no_gen.ensures.value ∙ link_there.1)
@@ -165,13 +165,13 @@ returns-in-Mark-clause-book g c =
     let generation = c.at-item.ensures.generation in
     let now = c.changed.ensures ∙ ap (after_removed s) c.ticket.ensures in
     let kind = sym c.kind-kind.ensures ∙ c.in-Mark.is in
-    let it = found_mark _ _ _ _ _ _ _ _ c.requires.book e found _ _ index generation kind in
+    let it = found_mark _ _ _ _ _ _ _ c.requires.book e found _ _ index generation kind in
     let removed = told _ _ _ _ (c.remove-in-Mark.ensures.value ∙ it.1.0)
     c.remove-in-Mark.ensures.removed in
     let law = c.removed_marks_leave_all_else.ensures in
     let after = c.changes_keep_states_sound.ensures.sound s (Remove e.ticket) tt sound in
     rw (c.take-entry.ensures.out, now)
-    (mark_out _ _ _ _ _ _ _ _ c.requires.book e found _ _ index generation kind
+    (mark_out _ _ _ _ _ _ _ c.requires.book e found _ _ index generation kind
     c.remove-in-Mark.new.self _ removed _
     (record {
       is = mark_is s e.ticket _ it.1.1;
@@ -190,11 +190,11 @@ returns-in-Mark-clause-ends g c =
     let generation = c.at-item.ensures.generation in
     let now = c.changed.ensures ∙ ap (after_removed s) c.ticket.ensures in
     let kind = sym c.kind-kind.ensures ∙ c.in-Mark.is in
-    let it = found_mark _ _ _ _ _ _ _ _ c.requires.book e found _ _ index generation kind in
+    let it = found_mark _ _ _ _ _ _ _ c.requires.book e found _ _ index generation kind in
     let removed = told _ _ _ _ (c.remove-in-Mark.ensures.value ∙ it.1.0)
     c.remove-in-Mark.ensures.removed in
     ends_of last _ e c.take-entry.ensures.entry _ _ _ kind
-    (mark_ends _ _ _ _ _ _ _ _ c.requires.book e found _ _ index generation kind
+    (mark_ends _ _ _ _ _ _ _ c.requires.book e found _ _ index generation kind
     c.remove-in-Mark.new.self _ removed _ now
     (told _ _ _ _ (c.remove-in-Mark.ensures.value ∙ it.1.0) c.remove-in-Mark.ensures.exact))
 
@@ -205,7 +205,7 @@ returns-in-Mark-clause-rooms g c =
     let index = c.at-item.ensures.index in
     let generation = c.at-item.ensures.generation in
     let kind = sym c.kind-kind.ensures ∙ c.in-Mark.is in
-    let it = found_mark _ _ _ _ _ _ _ _ c.requires.book e found _ _ index generation kind in
+    let it = found_mark _ _ _ _ _ _ _ c.requires.book e found _ _ index generation kind in
     let removed = told _ _ _ _ (c.remove-in-Mark.ensures.value ∙ it.1.0)
     c.remove-in-Mark.ensures.removed in
     record { places = refl; stops = refl; marks = removed.room }

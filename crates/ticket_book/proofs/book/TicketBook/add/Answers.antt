@@ -14,7 +14,7 @@ invariant_of-self g c =
     let above = subst (AllByRecursion (λ (e : Entry). e.ticket < c.args.ticket))
     (ap (λ (book : Tickets). book.entries) (sym c.self.view_is)) c.requires.above in
     let ticket : AllByRecursion (λ (e : Entry). e.ticket < c.new-entry.result.ticket)
-    (entries_of g.P.Inx.PtrInxCore.number c.self.inside.arena) =
+    (entries_of c.self.inside.arena) =
     rw c.new-entry.ensures above in (
       subst TicketsRise (sym put.ensures.entries)
           (TicketsRise-added _ _ c.self.invariant.0 ticket),
@@ -30,7 +30,7 @@ invariant_of-self g c =
 pub returns-clause-entries : goal.returns-clause-entries
 returns-clause-entries g c =
     c.put_last-p.ensures.entries
-    ∙ ap (λ e. entries_of g.P.Inx.PtrInxCore.number c.self.inside.arena ++ e ∷ [])
+    ∙ ap (λ e. entries_of c.self.inside.arena ++ e ∷ [])
     c.new-entry.ensures
     ∙ ap (λ (book : Tickets). book.entries ++ record {
       ticket = c.args.ticket;
@@ -43,7 +43,7 @@ returns-clause-entries g c =
 pub returns-clause-stands : goal.returns-clause-stands
 returns-clause-stands g c =
     let put = c.put_last-p in
-    added_stands g.P.Inx.PtrInxCore.number c.entries_stand_in_the_list.ensures
+    added_stands c.entries_stand_in_the_list.ensures
     c.self.inside.arena put.new.arena _ _ _ put.ensures.ordered put.ensures.added _
     (ap (λ (book : Tickets). book.next_index) (sym c.self.view_is) ∙ sym put.ensures.added.index)
     ∙ ap Some c.new-entry.ensures
@@ -51,7 +51,7 @@ returns-clause-stands g c =
 pub returns-clause-stay : goal.returns-clause-stay
 returns-clause-stay g c i e stood =
     let put = c.put_last-p in
-    still_stand g.P.Inx.PtrInxCore.number c.entries_stand_in_the_list.ensures c.self.inside.arena
+    still_stand c.entries_stand_in_the_list.ensures c.self.inside.arena
     put.new.arena _ _ _ c.len.ensures.formed.ordered put.ensures.ordered put.ensures.added i e
     (ap (λ (book : Tickets). entry_at book i) c.self.view_is ∙ stood)
 

@@ -16,7 +16,7 @@ there : (g : _) (c : After-capacity g) (i : ℕ)
     ≡ option_map (λ (e : ℕ × Entry). e.1) (entry_in c.self.inside.arena i)
 there g c i =
     ap (λ (b : Tickets). entry_at b i) (sym c.self.view_is)
-    ∙ stands_there g.P.Inx.PtrInxCore.number c.entries_stand_in_the_list.ensures
+    ∙ stands_there c.entries_stand_in_the_list.ensures
     c.self.inside.arena c.len.ensures.formed.ordered i
 
 -- a look is within the bound
@@ -25,7 +25,7 @@ within : (g : _) (c : After-capacity g) → look_count (entry_at c.args.self.now
 within g c =
     subst (λ (b : Tickets). look_count (entry_at b c.args.ticket)
     ≤ most_comparisons (length b.entries)) c.self.view_is
-    (look_within (ordered_entries g.P.Inx.PtrInxCore.number c.self.inside.arena) c.args.ticket)
+    (look_within (ordered_entries c.self.inside.arena) c.args.ticket)
 
 -- a ticket that is not at its own number
 missing : (g : _) (c : After-capacity g)
@@ -36,7 +36,7 @@ missing : (g : _) (c : After-capacity g)
 missing g c apart =
     subst (λ (b : Tickets). c.args.ticket < b.first_elsewhere
     → lookup b.entries c.args.ticket ≡ None) c.self.view_is
-    (missing_there g.P.Inx.PtrInxCore.number c.self.inside.arena _ c.args.ticket
+    (missing_there c.self.inside.arena _ c.args.ticket
     c.self.invariant.1 apart)
 
 -- the entry there
@@ -70,7 +70,7 @@ returns-then-ticket-clause-found g c =
       there g at.After-capacity _ ∙ ap (option_map (λ (e : ℕ × Entry). e.1)) stood,
       ap (λ (b : Tickets). lookup b.entries c.args.ticket) (sym c.self.view_is)
           ∙ ap (lookup _) ticket_is
-          ∙ lookup_standing g.P.Inx.PtrInxCore.number c.entries_stand_in_the_list.ensures
+          ∙ lookup_standing c.entries_stand_in_the_list.ensures
           c.self.inside.arena _ _ c.len.ensures.formed.ordered c.self.invariant.0 stood,
     )
 

@@ -21,14 +21,13 @@ invariant_of-self g c =
       subst TicketsRise (sym
           (ap (along at') order
           ∙ along_renewed f at at' c.renew_entries.ensures.entries
-          (order_in g.P.Inx.PtrInxCore.number c.self.inside.arena)))
+          (order_in c.self.inside.arena)))
           (rise_renewed f at at' c.renew_entries.ensures.entries (λ e. refl) _ c.self.invariant.0),
       numbered_renewed f _ at at' (λ e. refl) c.renew_entries.ensures.entries c.self.invariant.1,
     )
 
 pub returns-clause-stands : goal.returns-clause-stands
 returns-clause-stands g c =
-    let number = g.P.Inx.PtrInxCore.number in
     let f = renewed_entry
     (numbers g.P.PtrCore.index g.P.PtrCore.generation
     (g.M.ArenaTrait.entry_at c.args.places.now))
@@ -37,9 +36,9 @@ returns-clause-stands g c =
     let old = c.self.inside.arena in
     let new = c.renew_entries.new.arena in
     let law = c.entries_stand_in_the_list.ensures in
-    λ i. stands_there number law new c.len-2.ensures.formed.ordered i
+    λ i. stands_there law new c.len-2.ensures.formed.ordered i
     ∙ stands_renewed f (entry_in old i) (entry_in new i) (c.renew_entries.ensures.entries i)
-    ∙ ap (option_map f) (sym (stands_there number law old c.len.ensures.formed.ordered i))
+    ∙ ap (option_map f) (sym (stands_there law old c.len.ensures.formed.ordered i))
     ∙ ap (λ (b : Tickets). option_map f (entry_at b i)) c.self.view_is
 
 pub returns-clause-entries : goal.returns-clause-entries
@@ -53,5 +52,5 @@ returns-clause-entries g c =
     let at' = entry_in c.renew_entries.new.arena in
     ap (along at') c.renew_entries.ensures.order
     ∙ along_renewed f at at' c.renew_entries.ensures.entries
-    (order_in g.P.Inx.PtrInxCore.number c.self.inside.arena)
+    (order_in c.self.inside.arena)
     ∙ ap (λ (b : Tickets). map f b.entries) c.self.view_is

@@ -9,11 +9,11 @@ use Rattle.ticket_book.proofs.book.TicketBook.take.Goals as goal
 
 pub invariant_of-self : goal.invariant_of-self
 invariant_of-self g c = (
-  rise_taken g.P.Inx.PtrInxCore.number c.self.inside.arena c.remove_inx.new.self
+  rise_taken c.self.inside.arena c.remove_inx.new.self
       c.len.ensures.formed.ordered c.self.invariant.0
       g.P.Gen.PtrGenCore.number value_of _ _ _ c.in-Some.taken (sym c.allow.ensures ∙ c.in-Some.is)
       c.remove_inx.ensures.value c.remove_inx.ensures.exact,
-  numbered_taken g.P.Inx.PtrInxCore.number c.self.inside.arena c.remove_inx.new.self
+  numbered_taken c.self.inside.arena c.remove_inx.new.self
       c.len.ensures.formed.ordered c.self.invariant.0
       g.P.Gen.PtrGenCore.number value_of _ _ _ c.in-Some.taken (sym c.allow.ensures ∙ c.in-Some.is)
       c.remove_inx.ensures.value c.remove_inx.ensures.exact _ c.self.invariant.1,
@@ -23,10 +23,10 @@ pub returns-clause-entry : goal.returns-clause-entry
 returns-clause-entry g c =
     let number = g.P.Inx.PtrInxCore.number in
     ap (λ (book : Tickets). entry_at book (number c.args.at)) (sym c.self.view_is)
-    ∙ stands_there number c.entries_stand_in_the_list.ensures c.self.inside.arena
+    ∙ stands_there c.entries_stand_in_the_list.ensures c.self.inside.arena
     c.len.ensures.formed.ordered (number c.args.at)
     ∙ ap (option_map (λ (x : ℕ × Entry). x.1))
-    (taken_stood number c.self.inside.arena c.remove_inx.new.self c.len.ensures.formed.ordered
+    (taken_stood c.self.inside.arena c.remove_inx.new.self c.len.ensures.formed.ordered
     c.self.invariant.0
     g.P.Gen.PtrGenCore.number value_of _ _ _ c.in-Some.taken (sym c.allow.ensures ∙ c.in-Some.is)
     c.remove_inx.ensures.value c.remove_inx.ensures.exact)
@@ -35,7 +35,7 @@ pub unreached-unreachable-requires : goal.unreached-unreachable-requires
 unreached-unreachable-requires g c =
     let number = g.P.Inx.PtrInxCore.number in
     let there = ap (λ (book : Tickets). entry_at book (number c.args.at)) (sym c.self.view_is)
-    ∙ stands_there number c.entries_stand_in_the_list.ensures c.self.inside.arena
+    ∙ stands_there c.entries_stand_in_the_list.ensures c.self.inside.arena
     c.len.ensures.formed.ordered (number c.args.at) in
     none_taken value_of (λ a. (g.P.Gen.PtrGenCore.number (value_of a).0, (value_of a).1)) _ _
     (sym c.allow.ensures ∙ c.in-None.is) c.remove_inx.ensures.value
@@ -44,16 +44,16 @@ unreached-unreachable-requires g c =
 pub returns-clause-found : goal.returns-clause-found
 returns-clause-found g c =
     ap (λ (book : Tickets). lookup book.entries c.in-Some.taken.1.ticket) (sym c.self.view_is)
-    ∙ lookup_standing g.P.Inx.PtrInxCore.number c.entries_stand_in_the_list.ensures
+    ∙ lookup_standing c.entries_stand_in_the_list.ensures
     c.self.inside.arena _ _ c.len.ensures.formed.ordered c.self.invariant.0
-    (taken_stood g.P.Inx.PtrInxCore.number c.self.inside.arena c.remove_inx.new.self
+    (taken_stood c.self.inside.arena c.remove_inx.new.self
     c.len.ensures.formed.ordered c.self.invariant.0
     g.P.Gen.PtrGenCore.number value_of _ _ _ c.in-Some.taken (sym c.allow.ensures ∙ c.in-Some.is)
     c.remove_inx.ensures.value c.remove_inx.ensures.exact)
 
 pub returns-clause-out : goal.returns-clause-out
 returns-clause-out g c =
-    entry_taken g.P.Inx.PtrInxCore.number c.self.inside.arena c.remove_inx.new.self
+    entry_taken c.self.inside.arena c.remove_inx.new.self
     c.len.ensures.formed.ordered c.self.invariant.0
     g.P.Gen.PtrGenCore.number value_of _ _ _ c.in-Some.taken (sym c.allow.ensures ∙ c.in-Some.is)
     c.remove_inx.ensures.value c.remove_inx.ensures.exact
@@ -61,14 +61,13 @@ returns-clause-out g c =
 
 pub returns-clause-stay : goal.returns-clause-stay
 returns-clause-stay g c i other =
-    let number = g.P.Inx.PtrInxCore.number in
     let law = c.entries_stand_in_the_list.ensures in
     let old = c.self.inside.arena in
     let new = c.remove_inx.new.self in
-    stands_there number law new c.remove_inx.ensures.formed.ordered i
+    stands_there law new c.remove_inx.ensures.formed.ordered i
     ∙ ap (option_map (λ (x : ℕ × Entry). x.1))
-    (others_stand number old new c.len.ensures.formed.ordered c.self.invariant.0
+    (others_stand old new c.len.ensures.formed.ordered c.self.invariant.0
     g.P.Gen.PtrGenCore.number value_of _ _ _ c.in-Some.taken (sym c.allow.ensures ∙ c.in-Some.is)
     c.remove_inx.ensures.value c.remove_inx.ensures.exact i other)
-    ∙ sym (stands_there number law old c.len.ensures.formed.ordered i)
+    ∙ sym (stands_there law old c.len.ensures.formed.ordered i)
     ∙ ap (λ (book : Tickets). entry_at book i) c.self.view_is

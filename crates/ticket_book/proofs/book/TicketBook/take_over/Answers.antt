@@ -20,7 +20,7 @@ invariant_of-self g c =
     transferred_by _ _ _ _ _ (λ i h e. f e) (λ h p item q t k is. search rules)
     done.moved.moved in (
       subst TicketsRise
-          (sym (taken_over f g.Q.Inx.PtrInxCore.number g.P.Inx.PtrInxCore.number
+          (sym (taken_over f
           c.source.inside.arena c.transfer_canonical_reallocating-taken.new.self
           (c.canonical_transfers_list_by_index.ensures _ _ _ _ _ done.filled done.moved.order)
           values))
@@ -33,7 +33,7 @@ unreached-unreachable-requires g c =
     let source = c.source.inside.arena in
     let ordered = c.len.ensures.formed.ordered in
     let many = c.the_list_has_as_many_entries_as_are_live.ensures source ordered in
-    let long = length-map (ordered_entries g.Q.Inx.PtrInxCore.number source) (λ x. x.1.1) in
+    let long = length-map (ordered_entries source) (λ x. x.1.1) in
     let entries = ap (λ (b : Tickets). length b.entries) c.source.view_is in
     let room = ap (λ (b : Tickets). b.capacity) c.self.view_is in
     let fits = c.requires.fits in
@@ -48,7 +48,7 @@ returns-clause-entries g c =
     let done = c.in-Ok.ensures in
     let values =
     transferred_by _ _ _ _ _ (λ i h e. f e) (λ h p item q t k is. search rules) done.moved.moved in
-    taken_over f g.Q.Inx.PtrInxCore.number g.P.Inx.PtrInxCore.number c.source.inside.arena
+    taken_over f c.source.inside.arena
     c.transfer_canonical_reallocating-taken.new.self
     (c.canonical_transfers_list_by_index.ensures _ _ _ _ _ done.filled done.moved.order) values
     ∙ ap (λ (b : Tickets). map f b.entries) c.source.view_is
@@ -58,7 +58,7 @@ returns-clause-capacity g c =
     let source = c.source.inside.arena in
     let ordered = c.len.ensures.formed.ordered in
     let many = c.the_list_has_as_many_entries_as_are_live.ensures source ordered in
-    let long = length-map (ordered_entries g.Q.Inx.PtrInxCore.number source) (λ x. x.1.1) in
+    let long = length-map (ordered_entries source) (λ x. x.1.1) in
     let entries = ap (λ (b : Tickets). length b.entries) c.source.view_is in
     let room = ap (λ (b : Tickets). b.capacity) c.self.view_is in
     let fits = c.requires.fits in

@@ -11,7 +11,7 @@ use Rattle.triple_arena.proofs.arena.Arena.insert_in_room.Goals as goal
 
 pub place_of-requires-clause-fits : goal.place_of-requires-clause-fits
 place_of-requires-clause-fits g c =
-    head_fits g.P.Inx.PtrInxCore.number c.self.inside.head c.len.ensures.value c.len.type_inv
+    head_fits c.self.inside.head c.len.ensures.value c.len.type_inv
     c.self.invariant
 
 pub item_mut-requires : goal.item_mut-requires
@@ -62,8 +62,7 @@ invariant_of-self g c =
     (g.S.NonZeroInxGenericStack.with_items c.self.inside.slots
     (with_item (g.S.NonZeroInxGenericStack.items c.self.inside.slots)
     (non_zero_usize_get c.in-Some.index) c.replace-old.new.dest))))
-    (option_map g.P.Inx.PtrInxCore.number c.into_next-next.result)
-    (option_map g.P.Inx.PtrInxCore.number o) j)
+    c.into_next-next.result o j)
     c.none.ensures)
     c.set_prev_at.ensures.entries refl
     (ap (room_of g.P.Inx.PtrInxCore.greatest)
@@ -94,8 +93,7 @@ returns-in-Some-clause-value g c =
     (g.S.NonZeroInxGenericStack.with_items c.self.inside.slots
     (with_item (g.S.NonZeroInxGenericStack.items c.self.inside.slots)
     (non_zero_usize_get c.in-Some.index) c.replace-old.new.dest))))
-    (option_map g.P.Inx.PtrInxCore.number c.into_next-next.result)
-    (option_map g.P.Inx.PtrInxCore.number o) j)
+    c.into_next-next.result o j)
     c.none.ensures)
     c.set_prev_at.ensures.entries refl
     (ap (room_of g.P.Inx.PtrInxCore.greatest)

@@ -6,7 +6,7 @@ use Rattle.triple_arena.proofs.arena.Arena.next_ptr.Goals as goal
 
 pub place_of-requires-clause-fits : goal.place_of-requires-clause-fits
 place_of-requires-clause-fits g c =
-    head_fits g.P.Inx.PtrInxCore.number c.self.inside.head c.len-count.ensures.value
+    head_fits c.self.inside.head c.len-count.ensures.value
     c.len-count.type_inv c.self.invariant
 
 pub pointer_at-requires-clause-fits : goal.pointer_at-requires-clause-fits

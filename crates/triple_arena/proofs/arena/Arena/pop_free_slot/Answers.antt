@@ -1,6 +1,5 @@
-use Rattle.std.proofs.Common.{sym, ap, ◌∙◌, option_map}
+use Rattle.std.proofs.Common.{sym, ap, ◌∙◌}
 use Rattle.triple_arena.specs.ArenaRoom.{room_of}
-use Rattle.triple_arena.specs.FreeLinks.{numbered}
 use Rattle.triple_arena.specs.Layout.{links_at}
 use Rattle.triple_arena.proofs.FreeSlotsLemmas.{last_popped, last_live, last_vacant, prev_free}
 use Rattle.triple_arena.proofs.FreeSlotsLemmas.{next_free, has_last}
@@ -12,24 +11,24 @@ returns-in_default-links_in-clause-live g c _ =
     (ap (links_at (g.S.NonZeroInxGenericStack.items c.self.inside.slots))
     (sym (c.in-Some.ensures ∙ c.len.ensures.value))
     ∙ sym c.links_in.ensures
-    ∙ ap (option_map (numbered g.P.Inx.PtrInxCore.number)) c.in_default-links_in.is)
+    ∙ c.in_default-links_in.is)
 
 pub set_next_at-requires-clause-free : goal.set_next_at-requires-clause-free
 set_next_at-requires-clause-free g c =
     prev_free _ c.self.invariant
-    (ap (option_map (numbered g.P.Inx.PtrInxCore.number)) (sym c.in-Some-links_in.is) ∙ c.links_in.ensures)
+    (sym c.in-Some-links_in.is ∙ c.links_in.ensures)
 
 pub set_prev_at-requires-clause-free : goal.set_prev_at-requires-clause-free
 set_prev_at-requires-clause-free g c =
     next_free _ _ c.self.invariant
-    (ap (option_map (numbered g.P.Inx.PtrInxCore.number)) (sym c.in-Some-links_in.is) ∙ c.links_in.ensures)
+    (sym c.in-Some-links_in.is ∙ c.links_in.ensures)
     c.set_next_at.ensures.links
 
 pub invariant_of-self : goal.invariant_of-self
 invariant_of-self g c =
     (last_popped (g.S.NonZeroInxGenericStack.items c.set_next_at.new.slots) c.pop.result
     c.self.invariant c.self.view_is (c.in-Some.ensures ∙ c.len.ensures.value)
-    (ap (option_map (numbered g.P.Inx.PtrInxCore.number)) (sym c.in-Some-links_in.is) ∙ c.links_in.ensures)
+    (sym c.in-Some-links_in.is ∙ c.links_in.ensures)
     c.set_next_at.ensures.links c.set_next_at.ensures.entries c.set_prev_at.ensures.links
     c.set_prev_at.ensures.entries
     c.head_without-self-inside.ensures
@@ -43,7 +42,7 @@ pub returns-clause-popped : goal.returns-clause-popped
 returns-clause-popped g c _ =
     (last_popped (g.S.NonZeroInxGenericStack.items c.set_next_at.new.slots) c.pop.result
     c.self.invariant c.self.view_is (c.in-Some.ensures ∙ c.len.ensures.value)
-    (ap (option_map (numbered g.P.Inx.PtrInxCore.number)) (sym c.in-Some-links_in.is) ∙ c.links_in.ensures)
+    (sym c.in-Some-links_in.is ∙ c.links_in.ensures)
     c.set_next_at.ensures.links c.set_next_at.ensures.entries c.set_prev_at.ensures.links
     c.set_prev_at.ensures.entries
     c.head_without-self-inside.ensures
@@ -56,4 +55,4 @@ returns-clause-popped g c _ =
 pub returns-clause-free : goal.returns-clause-free
 returns-clause-free g c _ =
     last_vacant _ _ c.self.view_is (c.in-Some.ensures ∙ c.len.ensures.value)
-    (ap (option_map (numbered g.P.Inx.PtrInxCore.number)) (sym c.in-Some-links_in.is) ∙ c.links_in.ensures)
+    (sym c.in-Some-links_in.is ∙ c.links_in.ensures)

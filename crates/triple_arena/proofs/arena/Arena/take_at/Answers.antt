@@ -1,6 +1,5 @@
 use Rattle.std.proofs.Common.{Some, ◌-◌, length, sym, ap, ◌∙◌, length-set}
 use Rattle.std.specs.Int.NonZero.{non_zero_usize_get}
-use Rattle.std.specs.Option.{option_map}
 use Rattle.triple_arena_stack.specs.Stack.{with_item}
 use Rattle.triple_arena.specs.ArenaRoom.{room_of}
 use Rattle.triple_arena.specs.Slot.{free}
@@ -31,7 +30,7 @@ into_entry-requires-clause-used g c =
 left : (g : Over) (c : goal.After-into_entry g)
     → Leaves (g.S.NonZeroInxGenericStack.items c.if-get-len.self-inside.slots)
     (c.if-get-len.self-inside.len - 1)
-    (option_map g.P.Inx.PtrInxCore.number c.if-get-len.self-inside.head)
+    c.if-get-len.self-inside.head
     (room_of g.P.Inx.PtrInxCore.greatest
     (g.S.NonZeroInxGenericStack.room c.if-get-len.self-inside.slots))
     (g.P.Gen.PtrGenCore.number c.if-get-len.self-inside.counter)
@@ -59,8 +58,7 @@ left g c =
           (λ last. w.if-get-len.false (c.get.ensures.value ∙ last ∙ sym count))
           c.self.view_is live.1 written
           (c.replace-slot.ensures.after ∙ c.free-free.ensures
-          ∙ ap (λ o. free (option_map g.P.Inx.PtrInxCore.number o)
-          (option_map g.P.Inx.PtrInxCore.number c.self.inside.head)) c.none.ensures)
+          ∙ ap (λ o. free o c.self.inside.head) c.none.ensures)
           w.free_at-first.ensures
           w.set_prev_at.ensures.links w.set_prev_at.ensures.entries
           (ap (room_of g.P.Inx.PtrInxCore.greatest) (w.set_prev_at.ensures.room ∙ room)))

@@ -1,6 +1,5 @@
 use Rattle.std.proofs.Common.{◌-◌, map, set, refl, ap, sym, ◌∙◌, true≢false}
 use Rattle.std.specs.Int.NonZero.{non_zero_usize_get}
-use Rattle.std.specs.Option.{option_map}
 use Rattle.triple_arena_stack.specs.Stack.{with_item}
 use Rattle.triple_arena.specs.Layout.{links_at}
 use Rattle.triple_arena.specs.Slot.{entry_of}
@@ -41,14 +40,14 @@ loop-i-preserved g c =
             ∙ w.set_prev_at.ensures.links j)
             (ap (λ s. map entry_of (g.S.NonZeroInxGenericStack.items s)) w.slots-is
             ∙ w.set_prev_at.ensures.entries)
-            (ap (option_map g.P.Inx.PtrInxCore.number) w.head-is) refl,
+            w.head-is refl,
         ap g.S.NonZeroInxGenericStack.room w.slots-is ∙ w.set_prev_at.ensures.room ∙ room,
       )
       | else-relink w ↦ (
         risen_used l.invariant.0 c.in-Some.ensures i.ok c.item_mut.ensures.value
             (λ none. true≢false (sym (c.relink.ensures.free.1 none) ∙ w.if-relink.false))
             (ap g.S.NonZeroInxGenericStack.items w.slots-is ∙ written)
-            (ap (option_map g.P.Inx.PtrInxCore.number) w.head-is) refl,
+            w.head-is refl,
         ap g.S.NonZeroInxGenericStack.room w.slots-is ∙ room,
       )
     ]

@@ -8,7 +8,7 @@ use Rattle.triple_arena.proofs.arena.free_slots.set_next_at.Goals as goal
 
 pub place_of-requires-clause-fits : goal.place_of-requires-clause-fits
 place_of-requires-clause-fits g c =
-    place_fits g.P.Inx.PtrInxCore.number c.args.at
+    place_fits c.args.at
     (g.S.NonZeroInxGenericStack.items c.args.slots.now) c.len.ensures.value c.len.type_inv
     c.requires.free
 

@@ -12,18 +12,18 @@ use Rattle.triple_arena_chain.proofs.SameLinksLemmas.{chained-same_ends}
 use Rattle.triple_arena_chain.proofs.chain_arena.ChainArena.clone.Goals as goal
 
 same : (g : _) (c : goal.In-Ok g) (k : ℕ)
-    → ends_in g.P.Inx.PtrInxCore.number c.in-Ok.arena k
-    ≡ ends_in g.P.Inx.PtrInxCore.number c.self.inside.arena k
+    → ends_in c.in-Ok.arena k
+    ≡ ends_in c.self.inside.arena k
 same g c =
-    ends-cloned g.P.Inx.PtrInxCore.number c.self.inside.arena
+    ends-cloned c.self.inside.arena
     (empty (second_generation g.P.Gen.PtrGenCore.last)
     (room_of g.P.Inx.PtrInxCore.greatest
     (g.S.NonZeroInxGenericStack.room_at (last_listed (live_entries c.self.inside.arena)))))
     c.in-Ok.arena (Some c.self.inside.arena.counter) (c.in-Ok.ensures).exact
 
-chained : (g : _) (c : goal.In-Ok g) → IsChained g.P.Inx.PtrInxCore.number c.in-Ok.arena
+chained : (g : _) (c : goal.In-Ok g) → IsChained c.in-Ok.arena
 chained g c =
-    chained-same_ends g.P.Inx.PtrInxCore.number g.P.Inx.PtrInxCore.number c.self.inside.arena
+    chained-same_ends c.self.inside.arena
     c.in-Ok.arena c.self.invariant (c.in-Ok.ensures).formed (same g c)
 
 pub invariant_of-result : goal.invariant_of-result

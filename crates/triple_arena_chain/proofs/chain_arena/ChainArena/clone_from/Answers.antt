@@ -10,17 +10,17 @@ use Rattle.triple_arena_chain.specs.LinkCopyLaws.{on_ok, chains_where}
 use Rattle.triple_arena_chain.proofs.chain_arena.ChainArena.clone_from.Goals as goal
 
 chained : (g : _) (c : goal.After-clone_from g)
-    → IsChained g.P.Inx.PtrInxCore.number c.clone_from.new.self
+    → IsChained c.clone_from.new.self
 chained g c =
-    chained_after g.P.Inx.PtrInxCore.number
-    (ends_in g.P.Inx.PtrInxCore.number c.source.inside.arena) c.self.inside.arena
+    chained_after
+    (ends_in c.source.inside.arena) c.self.inside.arena
     c.clone_from.new.self
     (λ d. cleared g.P.Gen.PtrGenCore.last
     (reallocated d (last_listed (live_entries c.source.inside.arena)))) _ _ _ _
     c.clone_from.result c.source.invariant.agreed
     c.self.invariant c.clone_from.ensures.formed
     (on_ok c.clone_from.result
-    (ends-cloned g.P.Inx.PtrInxCore.number c.source.inside.arena c.self.inside.arena
+    (ends-cloned c.source.inside.arena c.self.inside.arena
     c.clone_from.new.self (Some c.source.inside.arena.counter))
     c.clone_from.ensures.exact)
     c.clone_from.ensures.kept c.clone_from.ensures.unmade
@@ -44,7 +44,7 @@ returns-clause-lists g c =
     rw (← c.source.view_is)
     (on_ok c.clone_from.result
     (λ is. chains_where _ _
-    (ends-cloned g.P.Inx.PtrInxCore.number c.source.inside.arena c.self.inside.arena
+    (ends-cloned c.source.inside.arena c.self.inside.arena
     c.clone_from.new.self (Some c.source.inside.arena.counter) is))
     c.clone_from.ensures.exact)
 

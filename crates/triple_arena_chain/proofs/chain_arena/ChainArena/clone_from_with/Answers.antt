@@ -9,22 +9,22 @@ use Rattle.triple_arena_chain.specs.LinkCopyLaws.{on_ok, chains_where}
 use Rattle.triple_arena_chain.proofs.chain_arena.ChainArena.clone_from_with.Goals as goal
 
 same : (g : _) (c : goal.After-copy_links g) → OnOk c.copy_links.result ((k : ℕ)
-    → ends_in g.P.Inx.PtrInxCore.number c.copy_links.new.target k
+    → ends_in c.copy_links.new.target k
     ≡ g.A.LinkCloneSource.ends c.args.source.now k)
 same g c =
     on_ok c.copy_links.result
-    (λ copy k. ends_linked g.P.Inx.PtrInxCore.number g.A.Link.Neighbors.neighbors _
+    (λ copy k. ends_linked g.A.Link.Neighbors.neighbors _
     c.copy_links.new.target copy k
-    ∙ ap (λ a. listed_ends g.A.Link.Neighbors.neighbors g.P.Inx.PtrInxCore.number
+    ∙ ap (λ a. listed_ends g.A.Link.Neighbors.neighbors
     (g.A.Links.ArenaTrait.live_entries a) k)
     c.links.ensures.same
     ∙ g.met.A.LinkCloneSource.linked c.args.source.now k)
     c.copy_links.ensures.linked
 
 chained : (g : _) (c : goal.After-copy_links g)
-    → IsChained g.P.Inx.PtrInxCore.number c.copy_links.new.target
+    → IsChained c.copy_links.new.target
 chained g c =
-    chained_after g.P.Inx.PtrInxCore.number (g.A.LinkCloneSource.ends c.args.source.now)
+    chained_after (g.A.LinkCloneSource.ends c.args.source.now)
     c.self.inside.arena c.copy_links.new.target
     (λ d. cleared g.P.Gen.PtrGenCore.last
     (reallocated d (last_listed (g.A.Links.ArenaTrait.live_entries c.links.result.now))))

@@ -9,17 +9,17 @@ pub gather_chains-requires-clause-alike : goal.gather_chains-requires-clause-ali
 gather_chains-requires-clause-alike g c =
     let number = g.P.Inx.PtrInxCore.number in
     let compacted = subst
-    (IsCompacted number g.P.Gen.PtrGenCore.last c.args.reset
+    (IsCompacted g.P.Gen.PtrGenCore.last c.args.reset
     (map value_of (listed_values c.args.self.now)) c.args.self.now) (sym c.self.view_is)
     c.compress-answer.ensures.exact in
-    compacted_alike number _ _ c.args.self.now c.self.inside.arena c.recall_chained.ensures
+    compacted_alike _ _ c.args.self.now c.self.inside.arena c.recall_chained.ensures
     compacted
 
 pub gather_chains-requires-clause-full : goal.gather_chains-requires-clause-full
 gather_chains-requires-clause-full g c =
     let number = g.P.Inx.PtrInxCore.number in
     let compacted = subst
-    (IsCompacted number g.P.Gen.PtrGenCore.last c.args.reset
+    (IsCompacted g.P.Gen.PtrGenCore.last c.args.reset
     (map value_of (listed_values c.args.self.now)) c.args.self.now) (sym c.self.view_is)
     c.compress-answer.ensures.exact in
     compacted.free
@@ -28,8 +28,8 @@ pub returns-clause-canonical : goal.returns-clause-canonical
 returns-clause-canonical g c =
     let number = g.P.Inx.PtrInxCore.number in
     let compacted = subst
-    (IsCompacted number g.P.Gen.PtrGenCore.last c.args.reset
+    (IsCompacted g.P.Gen.PtrGenCore.last c.args.reset
     (map value_of (listed_values c.args.self.now)) c.args.self.now) (sym c.self.view_is)
     c.compress-answer.ensures.exact in
-    is_canonical number _ _ c.args.self.now c.self.inside.arena c.recall_chained.ensures compacted _
+    is_canonical _ _ c.args.self.now c.self.inside.arena c.recall_chained.ensures compacted _
     c.gather_chains.ensures.gathered

@@ -7,8 +7,9 @@ pub returns : goal.returns
 returns g c =
     let some : IsSome (get c.args.self.now (g.P.PtrCore.index c.args.p)
     (g.P.PtrCore.generation c.args.p)) = search rules in
-    let walk = walk_from g.P.Inx.PtrInxCore.number g.P.Gen.PtrGenCore.last c.args.self.now
-    c.inx.result (g.P.PtrCore.index c.args.p) (g.P.PtrCore.generation c.args.p)
+    let walk = walk_from g.P.Gen.PtrGenCore.last c.args.self.now
+    (g.P.Inx.PtrInxCore.number c.inx.result) (g.P.PtrCore.index c.args.p)
+    (g.P.PtrCore.generation c.args.p)
     c.recall_chained.ensures c.inx.ensures some in (
       (refl, λ w. refl, tt),
       record {

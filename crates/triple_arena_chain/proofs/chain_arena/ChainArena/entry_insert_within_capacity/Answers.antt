@@ -12,7 +12,7 @@ returns-in-Some-next_ptr g c =
     let gap = gap_by number c.in-Some.gap in
     let is : gap_among g.P.PtrCore.index g.P.PtrCore.generation number old c.args.kind
     ≡ Some gap = search rules in
-    let there : IsGap (ends_in number old) gap =
+    let there : IsGap (ends_in old) gap =
     asked_is_gap g.P.PtrCore.index g.P.PtrCore.generation number old c.args.kind gap
     c.recall_chained.ensures is in
     let room = c.in-Some-next_ptr.ensures.variant.0 refl in (

@@ -14,7 +14,7 @@ returns-in-Ok-clause-is_gap g c =
     let is : gap_among g.P.PtrCore.index g.P.PtrCore.generation number old c.args.kind
     ≡ Some gap = search rules in
     let grown : c.make_room.new.self ≡ grown_if_full old = search rules in
-    let there : IsGap (ends_in number (grown_if_full old)) gap =
+    let there : IsGap (ends_in (grown_if_full old)) gap =
     asked_is_gap g.P.PtrCore.index g.P.PtrCore.generation number old c.args.kind gap
     c.recall_chained.ensures is in
     rw grown there

@@ -4,12 +4,12 @@ use Rattle.triple_arena_chain.proofs.chain_arena.ChainArena.inc_generation.Goals
 
 pub invariant_of-self : goal.invariant_of-self
 invariant_of-self g c =
-    chained-same_slots g.P.Inx.PtrInxCore.number c.self.inside.arena c.inc_generation.new.self
+    chained-same_slots c.self.inside.arena c.inc_generation.new.self
     c.self.invariant c.inc_generation.ensures.formed
     (ap (λ d. d.slots) c.inc_generation.ensures.exact)
 
 pub returns-clause-formed : goal.returns-clause-formed
 returns-clause-formed g c =
-    chained-same_slots g.P.Inx.PtrInxCore.number c.self.inside.arena c.inc_generation.new.self
+    chained-same_slots c.self.inside.arena c.inc_generation.new.self
     c.self.invariant c.inc_generation.ensures.formed
     (ap (λ d. d.slots) c.inc_generation.ensures.exact)

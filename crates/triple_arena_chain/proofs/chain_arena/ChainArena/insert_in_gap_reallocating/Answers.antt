@@ -10,7 +10,7 @@ pub insert_in_gap_unwrap-requires-clause-gap : goal.insert_in_gap_unwrap-require
 insert_in_gap_unwrap-requires-clause-gap g c =
     let number = g.P.Inx.PtrInxCore.number in
     let grown : c.make_room.new.self ≡ grown_if_full c.args.self.now = search rules in
-    let there : IsBetween (ends_in number (grown_if_full c.args.self.now))
+    let there : IsBetween (ends_in (grown_if_full c.args.self.now))
     (option_map number c.args.prev, option_map number c.args.next) = c.requires in
     rw grown there
 
@@ -18,7 +18,8 @@ pub returns-clause-inserted : goal.returns-clause-inserted
 returns-clause-inserted g c =
     let number = g.P.Inx.PtrInxCore.number in
     let grown : c.make_room.new.self ≡ grown_if_full c.args.self.now = search rules in
-    inserted-grown number c.args.self.now c.make_room.new.self c.insert_in_gap_unwrap.new.self
+    inserted-grown c.args.self.now c.make_room.new.self c.insert_in_gap_unwrap.new.self
     (Between (option_map number c.args.prev) (option_map number c.args.next))
-    (g.P.PtrCore.index c.insert_in_gap_unwrap.result) (g.P.PtrCore.generation c.insert_in_gap_unwrap.result) c.args.t grown
+    (g.P.PtrCore.index c.insert_in_gap_unwrap.result)
+    (g.P.PtrCore.generation c.insert_in_gap_unwrap.result) c.args.t grown
     c.insert_in_gap_unwrap.ensures.inserted

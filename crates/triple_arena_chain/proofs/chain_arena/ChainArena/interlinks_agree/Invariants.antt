@@ -11,11 +11,11 @@ invariant-loop-p g l =
       rises : l.links.falls ≡ false;
       reaches : (j : ℕ) → IsSome (entry_at l.arena j) → j ≤ l.links.high;
       forward : (p q : ℕ) → p < l.links.low
-          → next_at (ends_in g.P.Inx.PtrInxCore.number l.arena) p ≡ Some q
-          → prev_at (ends_in g.P.Inx.PtrInxCore.number l.arena) q ≡ Some p;
+          → next_at (ends_in l.arena) p ≡ Some q
+          → prev_at (ends_in l.arena) q ≡ Some p;
       backward : (p q : ℕ) → q < l.links.low
-          → prev_at (ends_in g.P.Inx.PtrInxCore.number l.arena) q ≡ Some p
-          → next_at (ends_in g.P.Inx.PtrInxCore.number l.arena) p ≡ Some q;
+          → prev_at (ends_in l.arena) q ≡ Some p
+          → next_at (ends_in l.arena) p ≡ Some q;
     }
 
 abbrev pub decreases-loop-p : goal.decreases-loop-p

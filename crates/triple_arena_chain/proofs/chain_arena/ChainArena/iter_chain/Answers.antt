@@ -11,7 +11,7 @@ returns-clause-along g c =
     let number = g.P.Inx.PtrInxCore.number in
     let chains = c.args.self.now in
     let along = c.in_ok-advancer_chain.ensures.along in
-    let start = walk_begins (ends_in number chains) number _ _ _ c.some-start.ensures c.inx.ensures
+    let start = walk_begins (ends_in chains) _ _ _ c.some-start.ensures c.inx.ensures
     in
-    let same = ap (left_over number chains) (start ∙ sym c.in_ok-advancer_chain.ensures.from) in
+    let same = ap (left_over chains) (start ∙ sym c.in_ok-advancer_chain.ensures.from) in
     (along.walk, along.from, ap (links_along (entry_at chains)) (same ∙ along.steps))

@@ -4,8 +4,8 @@ use Rattle.triple_arena_chain.proofs.chain_arena.ChainArena.make_room.Goals as g
 
 pub invariant_of-self-2 : goal.invariant_of-self-2
 invariant_of-self-2 g c =
-    chained-grown g.P.Inx.PtrInxCore.number c.self.inside.arena _ c.self.invariant (search rules)
+    chained-grown c.self.inside.arena _ c.self.invariant (search rules)
 
 pub returns-clause-formed : goal.returns-clause-formed
 returns-clause-formed g c =
-    chained-grown g.P.Inx.PtrInxCore.number c.self.inside.arena _ c.self.invariant (search rules)
+    chained-grown c.self.inside.arena _ c.self.invariant (search rules)

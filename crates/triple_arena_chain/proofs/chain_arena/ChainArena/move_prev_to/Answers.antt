@@ -1,4 +1,4 @@
-use Rattle.std.proofs.Common.{rules, ◌≡◌, ◌≢◌, Some, IsSome, option_map, inl, inr, refl, sym}
+use Rattle.std.proofs.Common.{rules, ◌≢◌, Some, IsSome, option_map, inl, refl, sym}
 use Rattle.std.proofs.Common.{◌∙◌}
 use Rattle.triple_arena.specs.Content.{entry_at}
 use Rattle.triple_arena_chain.specs.Moves.{gap_before}
@@ -15,7 +15,7 @@ read_prev-prev-requires-clause-live g c =
     let j = number c.inx-j.result in
     let live_i : IsSome (entry_at old i) = search rules in
     let live_j : IsSome (entry_at old j) = search rules in
-    let o = opened number c.self.inside.arena old d i j c.self.view_is live_i live_j
+    let o = opened c.self.inside.arena old d i j c.self.view_is live_i live_j
     c.bridge_over.ensures in
     o.live
 
@@ -28,7 +28,7 @@ put_back-requires-clause-own g c =
     let j = number c.inx-j.result in
     let live_i : IsSome (entry_at old i) = search rules in
     let live_j : IsSome (entry_at old j) = search rules in
-    let o = opened number c.self.inside.arena old d i j c.self.view_is live_i live_j
+    let o = opened c.self.inside.arena old d i j c.self.view_is live_i live_j
     c.bridge_over.ensures in
     o.own
 
@@ -41,7 +41,7 @@ put_back-requires-clause-after g c =
     let j = number c.inx-j.result in
     let live_i : IsSome (entry_at old i) = search rules in
     let live_j : IsSome (entry_at old j) = search rules in
-    let o = opened number c.self.inside.arena old d i j c.self.view_is live_i live_j
+    let o = opened c.self.inside.arena old d i j c.self.view_is live_i live_j
     c.bridge_over.ensures in
     o.live
 
@@ -52,21 +52,22 @@ put_back-requires-clause-before g c =
     let d = c.bridge_over.new.arena in
     let i = number c.inx-i.result in
     let j = number c.inx-j.result in
+    let prev = option_map number c.read_prev-prev.result in
     let live_i : IsSome (entry_at old i) = search rules in
     let live_j : IsSome (entry_at old j) = search rules in
-    let o = opened number c.self.inside.arena old d i j c.self.view_is live_i live_j
+    let o = opened c.self.inside.arena old d i j c.self.view_is live_i live_j
     c.bridge_over.ensures in
     let differ : g.P.PtrCore.index c.args.p ≢ g.P.PtrCore.index c.args.q =
     (c.can_move.ensures.says.0 (search rules)).1 in
     let apart : j ≢ i = λ same. differ (sym c.inx-i.ensures ∙ sym same ∙ c.inx-j.ensures) in
-    let gap = before number old d i o.entry.0 o.entry.1 c.can_move.ensures.formed o.at o.over j
-    c.read_prev-prev.result apart o.live c.read_prev-prev.ensures in
-    gap_live number old d i o.entry.0 o.entry.1 c.can_move.ensures.formed o.at o.over
-    (option_map number c.read_prev-prev.result, Some j) gap.0 c.read_prev-prev.result (inl refl)
+    let gap = before old d i o.entry.0 o.entry.1 c.can_move.ensures.formed o.at o.over j
+    prev apart o.live c.read_prev-prev.ensures in
+    gap_live old d i o.entry.0 o.entry.1 c.can_move.ensures.formed o.at o.over
+    (prev, Some j) gap.0 prev (inl refl)
 
 done : (g : Over) (c : goal.After-put_back g)
-    → Moved g.P.Inx.PtrInxCore.number (g.P.PtrCore.index c.args.p)
-    (gap_before g.P.Inx.PtrInxCore.number c.args.self.now (g.P.PtrCore.index c.args.p)
+    → Moved (g.P.PtrCore.index c.args.p)
+    (gap_before c.args.self.now (g.P.PtrCore.index c.args.p)
     (g.P.PtrCore.index c.args.q)) c.args.self.now c.put_back.new.arena
 done g c =
     let number = g.P.Inx.PtrInxCore.number in
@@ -74,14 +75,15 @@ done g c =
     let d = c.bridge_over.new.arena in
     let i = number c.inx-i.result in
     let j = number c.inx-j.result in
+    let prev = option_map number c.read_prev-prev.result in
     let live_i : IsSome (entry_at old i) = search rules in
     let live_j : IsSome (entry_at old j) = search rules in
-    let o = opened number c.self.inside.arena old d i j c.self.view_is live_i live_j
+    let o = opened c.self.inside.arena old d i j c.self.view_is live_i live_j
     c.bridge_over.ensures in
     let differ : g.P.PtrCore.index c.args.p ≢ g.P.PtrCore.index c.args.q =
     (c.can_move.ensures.says.0 (search rules)).1 in
-    moved_before number old d c.put_back.new.arena c.inx-i.result c.inx-j.result
-    (g.P.PtrCore.index c.args.p) (g.P.PtrCore.index c.args.q) c.read_prev-prev.result o.entry
+    moved_before old d c.put_back.new.arena i j
+    (g.P.PtrCore.index c.args.p) (g.P.PtrCore.index c.args.q) prev o.entry
     c.can_move.ensures.formed c.inx-i.ensures c.inx-j.ensures differ o.at o.over o.live
     c.read_prev-prev.ensures c.put_back.ensures
 

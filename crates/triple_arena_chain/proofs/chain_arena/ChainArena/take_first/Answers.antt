@@ -9,9 +9,9 @@ pub returns-then-wrapped-clause-step : goal.returns-then-wrapped-clause-step
 returns-then-wrapped-clause-step g c =
     let number = g.P.Inx.PtrInxCore.number in
     let next : option_map number c.onward-next.result
-    ≡ next_or_prev (number c.args.i) (link_ends number c.in_ok-generation.link) =
+    ≡ next_or_prev (number c.args.i) (link_ends c.in_ok-generation.link) =
     search rules in
-    step_by number g.P.Gen.PtrGenCore.last g.P.Gen.PtrGenCore.number g.P.PtrCore.index
+    step_by g.P.Gen.PtrGenCore.last g.P.Gen.PtrGenCore.number g.P.PtrCore.index
     g.P.PtrCore.generation (answer_of c.remove_inx_link_no_gen.result) c.args.self.now
     c.remove_inx_link_no_gen.new.self (number c.args.i) c._from_raw.result
     c.in_ok-generation.generation c.in_ok-generation.link c.in_ok-generation.wrapped _
@@ -25,9 +25,9 @@ pub returns-else-wrapped-clause-step : goal.returns-else-wrapped-clause-step
 returns-else-wrapped-clause-step g c =
     let number = g.P.Inx.PtrInxCore.number in
     let next : option_map number c.onward-next.result
-    ≡ next_or_prev (number c.args.i) (link_ends number c.in_ok-generation.link) =
+    ≡ next_or_prev (number c.args.i) (link_ends c.in_ok-generation.link) =
     search rules in
-    step_by number g.P.Gen.PtrGenCore.last g.P.Gen.PtrGenCore.number g.P.PtrCore.index
+    step_by g.P.Gen.PtrGenCore.last g.P.Gen.PtrGenCore.number g.P.PtrCore.index
     g.P.PtrCore.generation (answer_of c.remove_inx_link_no_gen.result) c.args.self.now
     c.remove_inx_link_no_gen.new.self (number c.args.i) c._from_raw.result
     c.in_ok-generation.generation c.in_ok-generation.link c.in_ok-generation.wrapped _

@@ -13,15 +13,15 @@ returns-in_default-take_first g c =
     let vacant : entry_at c.loop-at.self (g.P.Inx.PtrInxCore.number c.in-Some.i) ≡ None =
     search rules in
     c.loop-at.invariant c.take_first.new.self
-    (subst (λ left. IsRestDrained number last (option_map number c.loop-at.at) now left) (sym same)
-    (subst (λ o. IsRestDrained number last (option_map number o) now now) (sym c.in-Some.is)
-    (nothing_there number last now (number c.in-Some.i) vacant)))
+    (subst (λ left. IsRestDrained last (option_map number c.loop-at.at) now left) (sym same)
+    (subst (λ o. IsRestDrained last (option_map number o) now now) (sym c.in-Some.is)
+    (nothing_there last now (number c.in-Some.i) vacant)))
 
 pub loop-at-preserved : goal.loop-at-preserved
 loop-at-preserved g c left drained =
     let number = g.P.Inx.PtrInxCore.number in
     c.loop-at.invariant left
-    (subst (λ o. IsRestDrained number g.P.Gen.PtrGenCore.last (option_map number o) c.loop-at.self
+    (subst (λ o. IsRestDrained g.P.Gen.PtrGenCore.last (option_map number o) c.loop-at.self
     left) (sym c.in-Some.is)
     (c.in-Some-take_first.ensures.step.leaves left drained))
 
@@ -31,5 +31,5 @@ returns g c =
     let last = g.P.Gen.PtrGenCore.last in
     let now = c.loop-at.self in
     c.loop-at.invariant now
-    (subst (λ o. IsRestDrained number last (option_map number o) now now) (sym c.in_default.is)
-    (nothing_left number last now))
+    (subst (λ o. IsRestDrained last (option_map number o) now now) (sym c.in_default.is)
+    (nothing_left last now))

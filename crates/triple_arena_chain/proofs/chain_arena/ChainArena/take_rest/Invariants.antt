@@ -6,9 +6,9 @@ use Rattle.triple_arena_chain.proofs.chain_arena.ChainArena.take_rest.Given as g
 -- what ends the walk that is left ends the whole one
 abbrev pub invariant-loop-at : goal.invariant-loop-at
 invariant-loop-at g l =
-    (left : _) → IsRestDrained g.P.Inx.PtrInxCore.number g.P.Gen.PtrGenCore.last
+    (left : _) → IsRestDrained g.P.Gen.PtrGenCore.last
     (option_map g.P.Inx.PtrInxCore.number l.at) l.self left
-    → IsRestDrained g.P.Inx.PtrInxCore.number g.P.Gen.PtrGenCore.last
+    → IsRestDrained g.P.Gen.PtrGenCore.last
     (option_map g.P.Inx.PtrInxCore.number l.fn.at) l.fn.self left
 
 abbrev pub decreases-loop-at : goal.decreases-loop-at

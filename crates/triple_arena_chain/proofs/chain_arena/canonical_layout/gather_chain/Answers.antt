@@ -13,7 +13,7 @@ use Rattle.triple_arena_chain.proofs.chain_arena.canonical_layout.gather_chain.G
 
 -- the last link placed has a next one, which does not close a ring
 goes_on : (g : _) (c : Else-is_same g)
-    → (next_at (ends_in g.P.Inx.PtrInxCore.number c.link.arena) c.link.placed
+    → (next_at (ends_in c.link.arena) c.link.placed
     ≡ Some (g.P.Inx.PtrInxCore.number c.in-Some.next))
     × (option_map g.P.Inx.PtrInxCore.number c.unplaced_start.result.1
     ≢ Some (g.P.Inx.PtrInxCore.number c.in-Some.next))
@@ -21,26 +21,26 @@ goes_on g c =
     let number = g.P.Inx.PtrInxCore.number in
     let away : option_map number c.unplaced_start.result.1 ≢ Some (number c.in-Some.next) =
     λ same. true≢false (sym (c.is_same.ensures.1 same) ∙ c.if-is_same.false) in (
-      ap (next_at (ends_in number c.link.arena)) (sym c.link.invariant.last)
+      ap (next_at (ends_in c.link.arena)) (sym c.link.invariant.last)
           ∙ sym c.read_next.ensures ∙ ap (option_map number) c.in-Some.is,
       away,
     )
 
 -- where it is, and that there is an index for it
 next_on : (g : _) (c : Else-is_same g)
-    → Next g.P.Inx.PtrInxCore.number c.args.first c.link.placed
+    → Next c.args.first c.link.placed
     (option_map g.P.Inx.PtrInxCore.number c.unplaced_start.result.1) c.args.arena.now c.link.arena
     c.requires.gathering c.link.invariant.way (g.P.Inx.PtrInxCore.number c.in-Some.next)
 next_on g c =
     let on = goes_on g c in
-    way_next g.P.Inx.PtrInxCore.number c.args.first c.link.placed _ c.args.arena.now c.link.arena
+    way_next c.args.first c.link.placed _ c.args.arena.now c.link.arena
     c.requires.gathering c.link.invariant.way (g.P.Inx.PtrInxCore.number c.in-Some.next) on.0 on.1
 
 pub unplaced_start-requires-clause-live : goal.unplaced_start-requires-clause-live
 unplaced_start-requires-clause-live g c =
-    subst (λ k. IsSome (ends_in g.P.Inx.PtrInxCore.number c.args.arena.now k))
+    subst (λ k. IsSome (ends_in c.args.arena.now k))
     (sym c.behind-start.ensures)
-    (place_first g.P.Inx.PtrInxCore.number c.args.first c.args.arena.now c.requires.gathering
+    (place_first c.args.first c.args.arena.now c.requires.gathering
     c.requires.more)
 
 pub bring-requires-clause-formed : goal.bring-requires-clause-formed
@@ -51,24 +51,24 @@ bring-requires-clause-alike g c = c.requires.gathering.have.are.alike
 
 pub bring-requires-clause-at_is_live : goal.bring-requires-clause-at_is_live
 bring-requires-clause-at_is_live g c =
-    start_live g.P.Inx.PtrInxCore.number c.args.first c.args.arena.now c.requires.gathering
+    start_live c.args.first c.args.arena.now c.requires.gathering
     c.requires.more _ _ c.unplaced_start.ensures
 
 pub bring-requires-clause-place_is_live : goal.bring-requires-clause-place_is_live
 bring-requires-clause-place_is_live g c =
     let number = g.P.Inx.PtrInxCore.number in
-    sym (live_ends number c.args.arena.now (number c.behind-start.result))
-    ∙ subst (λ k. IsSome (ends_in number c.args.arena.now k)) (sym c.behind-start.ensures)
-    (place_first number c.args.first c.args.arena.now c.requires.gathering c.requires.more)
+    sym (live_ends c.args.arena.now (number c.behind-start.result))
+    ∙ subst (λ k. IsSome (ends_in c.args.arena.now k)) (sym c.behind-start.ensures)
+    (place_first c.args.first c.args.arena.now c.requires.gathering c.requires.more)
 
 pub link-init : goal.link-init
 link-init g c =
     let number = g.P.Inx.PtrInxCore.number in
     record {
       way =
-          way_first number c.args.first c.args.arena.now c.requires.gathering c.requires.more _ _
+          way_first c.args.first c.args.arena.now c.requires.gathering c.requires.more _ _
           c.bring.new.arena c.unplaced_start.ensures
-          (subst (λ k. IsBrought number None (number c.unplaced_start.result.0) k c.args.arena.now
+          (subst (λ k. IsBrought None (number c.unplaced_start.result.0) k c.args.arena.now
           c.bring.new.arena) c.behind-start.ensures c.bring.ensures);
       last = c.behind-start.ensures;
       more = omega arith;
@@ -78,37 +78,38 @@ pub read_next-requires-clause-live : goal.read_next-requires-clause-live
 read_next-requires-clause-live g c =
     let number = g.P.Inx.PtrInxCore.number in
     subst (λ k. IsSome (entry_at c.link.arena k)) (sym c.link.invariant.last)
-    (way_last number c.args.first c.link.placed _ c.args.arena.now c.link.arena c.requires.gathering
+    (way_last c.args.first c.link.placed _ c.args.arena.now c.link.arena c.requires.gathering
     c.link.invariant.way)
 
 pub returns-then-is_same-clause-gathered : goal.returns-then-is_same-clause-gathered
 returns-then-is_same-clause-gathered g c =
     let number = g.P.Inx.PtrInxCore.number in
-    let goes : next_at (ends_in number c.link.arena) c.link.placed ≡ Some (number c.in-Some.next) =
-    ap (next_at (ends_in number c.link.arena)) (sym c.link.invariant.last)
+    let goes : next_at (ends_in c.link.arena) c.link.placed ≡ Some (number c.in-Some.next) =
+    ap (next_at (ends_in c.link.arena)) (sym c.link.invariant.last)
     ∙ sym c.read_next.ensures ∙ ap (option_map number) c.in-Some.is in
-    way_round number c.args.first c.link.placed (number c.in-Some.next) _ c.args.arena.now
-    c.link.arena c.set_next.new.arena c.link.last c.behind-start.result
+    way_round c.args.first c.link.placed (number c.in-Some.next) _ c.args.arena.now
+    c.link.arena c.set_next.new.arena (g.P.Inx.PtrInxCore.number c.link.last)
+    (g.P.Inx.PtrInxCore.number c.behind-start.result)
     c.link.invariant.way goes (c.is_same.ensures.0 c.if-is_same.true) c.link.invariant.last
     c.behind-start.ensures c.set_next.ensures
 
 pub returns-then-is_same-clause-within : goal.returns-then-is_same-clause-within
 returns-then-is_same-clause-within g c =
-    way_within g.P.Inx.PtrInxCore.number c.args.first c.link.placed _ c.args.arena.now c.link.arena
+    way_within c.args.first c.link.placed _ c.args.arena.now c.link.arena
     c.requires.gathering c.link.invariant.way
 
 pub returns-in-None-clause-gathered : goal.returns-in-None-clause-gathered
 returns-in-None-clause-gathered g c =
     let number = g.P.Inx.PtrInxCore.number in
-    let gone : next_at (ends_in number c.link.arena) c.link.placed ≡ None =
-    ap (next_at (ends_in number c.link.arena)) (sym c.link.invariant.last)
+    let gone : next_at (ends_in c.link.arena) c.link.placed ≡ None =
+    ap (next_at (ends_in c.link.arena)) (sym c.link.invariant.last)
     ∙ sym c.read_next.ensures ∙ ap (option_map number) c.in-None.is in
-    way_over number c.args.first c.link.placed _ c.args.arena.now c.link.arena c.link.invariant.way
+    way_over c.args.first c.link.placed _ c.args.arena.now c.link.arena c.link.invariant.way
     gone
 
 pub returns-in-None-clause-within : goal.returns-in-None-clause-within
 returns-in-None-clause-within g c =
-    way_within g.P.Inx.PtrInxCore.number c.args.first c.link.placed _ c.args.arena.now c.link.arena
+    way_within c.args.first c.link.placed _ c.args.arena.now c.link.arena
     c.requires.gathering c.link.invariant.way
 
 pub led_to-at-requires-clause-led : goal.led_to-at-requires-clause-led
@@ -128,19 +129,19 @@ behind-place-requires-clause-fits g c =
 
 pub bring-requires-in-Some-clause-formed : goal.bring-requires-in-Some-clause-formed
 bring-requires-in-Some-clause-formed g c =
-    way_formed g.P.Inx.PtrInxCore.number c.args.first c.link.placed _ c.args.arena.now c.link.arena
+    way_formed c.args.first c.link.placed _ c.args.arena.now c.link.arena
     c.requires.gathering c.link.invariant.way
 
 pub bring-requires-in-Some-clause-alike : goal.bring-requires-in-Some-clause-alike
 bring-requires-in-Some-clause-alike g c =
-    way_alike g.P.Inx.PtrInxCore.number c.args.first c.link.placed _ c.args.arena.now c.link.arena
+    way_alike c.args.first c.link.placed _ c.args.arena.now c.link.arena
     c.requires.gathering c.link.invariant.way
 
 pub bring-requires-in-Some-clause-last_is_live : goal.bring-requires-in-Some-clause-last_is_live
 bring-requires-in-Some-clause-last_is_live g c =
     let number = g.P.Inx.PtrInxCore.number in
     subst (λ k. IsSome (entry_at c.link.arena k)) (sym c.link.invariant.last)
-    (way_last number c.args.first c.link.placed _ c.args.arena.now c.link.arena c.requires.gathering
+    (way_last c.args.first c.link.placed _ c.args.arena.now c.link.arena c.requires.gathering
     c.link.invariant.way)
 
 pub bring-requires-in-Some-clause-at_is_live : goal.bring-requires-in-Some-clause-at_is_live
@@ -178,12 +179,12 @@ link-preserved g c =
     let more = c.link.invariant.more in
     record {
       way =
-          way_more number c.args.first c.link.placed (number c.led_to-at.result) _ c.args.arena.now
+          way_more c.args.first c.link.placed (number c.led_to-at.result) _ c.args.arena.now
           c.link.arena c.bring-in-Some.new.arena c.link.invariant.way
           (number c.in-Some.next) on.0 on.1 c.led_to-at.ensures
-          (subst (λ k. IsBrought number (Some c.link.placed) (number c.led_to-at.result) k
+          (subst (λ k. IsBrought (Some c.link.placed) (number c.led_to-at.result) k
           c.link.arena c.bring-in-Some.new.arena) c.behind-place.ensures
-          (subst (λ k. IsBrought number (Some k) (number c.led_to-at.result)
+          (subst (λ k. IsBrought (Some k) (number c.led_to-at.result)
           (number c.behind-place.result) c.link.arena c.bring-in-Some.new.arena)
           c.link.invariant.last c.bring-in-Some.ensures));
       last = c.behind-place.ensures;

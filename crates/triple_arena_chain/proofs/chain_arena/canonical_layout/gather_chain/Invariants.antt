@@ -7,7 +7,7 @@ use Rattle.triple_arena_chain.proofs.chain_arena.canonical_layout.gather_chain.G
 abbrev pub invariant-link : goal.invariant-link
 invariant-link g l =
     record {
-      way : IsOnWay g.P.Inx.PtrInxCore.number l.first l.placed
+      way : IsOnWay l.first l.placed
           (option_map g.P.Inx.PtrInxCore.number l.round) l.fn.arena l.arena;
       last : g.P.Inx.PtrInxCore.number l.last ≡ l.placed;
       more : l.first + 1 ≤ l.placed;

@@ -7,7 +7,7 @@ use Rattle.triple_arena_chain.proofs.chain_arena.canonical_layout.gather_chains.
 pub chain-init : goal.chain-init
 chain-init g c =
     record {
-      places = places_none g.P.Inx.PtrInxCore.number c.args.arena.now c.requires.chained
+      places = places_none c.args.arena.now c.requires.chained
           c.requires.alike c.requires.full;
       within = omega arith;
     }
@@ -57,8 +57,8 @@ rejoin-requires-clause-rejoinable g c =
     omega (arith, counted, none, len, past, within) in
     let same : c.chain.placed ≡ c.len-len.result =
     omega (arith, counted, none, len, past, within) in
-    subst (IsRejoinable (ends_in number c.chain.arena)) same
-    (rejoinable number c.chain.placed c.args.arena.now _ c.chain.arena c.chain.invariant.places.are
+    subst (IsRejoinable (ends_in c.chain.arena)) same
+    (rejoinable c.chain.placed c.args.arena.now _ c.chain.arena c.chain.invariant.places.are
     all)
 
 pub returns : goal.returns
@@ -73,7 +73,7 @@ returns g c =
     omega (arith, counted, none, len, past, within) in
     record {
       gathered =
-          all_gathered number c.chain.placed c.args.arena.now _ c.chain.arena
+          all_gathered c.chain.placed c.args.arena.now _ c.chain.arena
           c.chain.invariant.places.are all c.rejoin.new.arena c.rejoin.ensures.nexts
           c.rejoin.ensures.agreed c.rejoin.ensures.values c.rejoin.ensures.kept
           c.rejoin.ensures.formed;

@@ -6,7 +6,7 @@ use Rattle.triple_arena_chain.proofs.chain_arena.canonical_layout.gather_chains.
 abbrev pub invariant-chain : goal.invariant-chain
 invariant-chain g l =
     record {
-      places : HavePlaces g.P.Inx.PtrInxCore.number l.placed l.fn.arena l.arena;
+      places : HavePlaces l.placed l.fn.arena l.arena;
       within : l.placed ≤ length l.fn.arena.slots;
     }
 

@@ -7,11 +7,11 @@ use Rattle.triple_arena_chain.proofs.chain_arena.canonical_layout.led_to.Given a
 abbrev pub invariant-note : goal.invariant-note
 invariant-note g l =
     record {
-      on : IsLedOn (ends_in g.P.Inx.PtrInxCore.number l.arena) l.placed
+      on : IsLedOn (ends_in l.arena) l.placed
           (g.P.Inx.PtrInxCore.number l.at);
-      same : (k : ℕ) → IsLed (ends_in g.P.Inx.PtrInxCore.number l.arena) l.placed
+      same : (k : ℕ) → IsLed (ends_in l.arena) l.placed
           (g.P.Inx.PtrInxCore.number l.fn.i) k
-          → IsLed (ends_in g.P.Inx.PtrInxCore.number l.arena) l.placed
+          → IsLed (ends_in l.arena) l.placed
           (g.P.Inx.PtrInxCore.number l.at) k;
     }
 

@@ -10,7 +10,7 @@ use Rattle.triple_arena_chain.proofs.chain_arena.canonical_layout.rejoin.Goals a
 
 pub link-init : goal.link-init
 link-init g c = record {
-  rejoined = rejoined_none g.P.Inx.PtrInxCore.number c.args.arena.now c.requires.formed;
+  rejoined = rejoined_none c.args.arena.now c.requires.formed;
   within = omega arith;
 }
 
@@ -20,7 +20,7 @@ behind-i-requires-clause-fits g c =
     let more = c.link-test.true in
     let live = c.requires.rejoinable.live (c.link.count + 1) (omega arith) (omega (arith, more)) in
     let within = c.capacity.ensures.indexes (c.link.count + 1)
-    (sym (live_ends number c.args.arena.now (c.link.count + 1)) ∙ live) in
+    (sym (live_ends c.args.arena.now (c.link.count + 1)) ∙ live) in
     let bounded = c.capacity.ensures.bounded in
     omega (arith, within, bounded)
 
@@ -29,7 +29,7 @@ set_prev-requires-clause-live g c =
     let number = g.P.Inx.PtrInxCore.number in
     let r = c.link.invariant.rejoined in
     let more = c.link-test.true in
-    link_live number c.args.len c.link.count (number c.behind-i.result) _ c.args.arena.now
+    link_live c.args.len c.link.count (number c.behind-i.result) _ c.args.arena.now
     c.link.arena c.requires.rejoinable r more c.behind-i.ensures
 
 pub read_next-requires-clause-live : goal.read_next-requires-clause-live
@@ -37,8 +37,10 @@ read_next-requires-clause-live g c =
     let number = g.P.Inx.PtrInxCore.number in
     let r = c.link.invariant.rejoined in
     let more = c.link-test.true in
-    link_there number c.args.len c.link.count c.link.before c.args.arena.now c.link.arena
-    c.set_prev.new.arena c.set_prev.new.arena c.behind-i.result None c.requires.rejoinable r
+    link_there c.args.len c.link.count (option_map number c.link.before) c.args.arena.now
+    c.link.arena
+    c.set_prev.new.arena c.set_prev.new.arena (number c.behind-i.result) None c.requires.rejoinable
+    r
     more c.behind-i.ensures
     c.set_prev.ensures
 
@@ -48,18 +50,22 @@ set_prev-requires-in-link-clause-live g c =
     let r = c.link.invariant.rejoined in
     let more = c.link-test.true in
     let next_is : option_map number c.read_next.result
-    ≡ next_at (ends_in number c.args.arena.now) (c.link.count + 1) =
+    ≡ next_at (ends_in c.args.arena.now) (c.link.count + 1) =
     c.read_next.ensures
-    ∙ next_one number c.args.len c.link.count c.link.before c.args.arena.now c.link.arena
-    c.set_prev.new.arena c.set_prev.new.arena c.behind-i.result None c.requires.rejoinable r
+    ∙ next_one c.args.len c.link.count (option_map number c.link.before) c.args.arena.now
+    c.link.arena
+    c.set_prev.new.arena c.set_prev.new.arena (number c.behind-i.result) None c.requires.rejoinable
+    r
     more c.behind-i.ensures
     c.set_prev.ensures (number c.behind-i.result)
-    ∙ ap (next_at (ends_in number c.args.arena.now)) c.behind-i.ensures in
+    ∙ ap (next_at (ends_in c.args.arena.now)) c.behind-i.ensures in
     let back_is : option_map number c.parted-back.result.0
-    ≡ up_to (c.link.count + 1) (next_at (ends_in number c.args.arena.now) (c.link.count + 1)) =
+    ≡ up_to (c.link.count + 1) (next_at (ends_in c.args.arena.now) (c.link.count + 1)) =
     c.parted-back.ensures.back ∙ ap (up_to (c.link.count + 1)) next_is in
-    back_live number c.args.len c.link.count c.link.before c.args.arena.now c.link.arena
-    c.set_prev.new.arena c.set_prev.new.arena c.behind-i.result c.parted-back.result.0
+    back_live c.args.len c.link.count (option_map number c.link.before) c.args.arena.now
+    c.link.arena
+    c.set_prev.new.arena c.set_prev.new.arena (number c.behind-i.result)
+    (option_map number c.parted-back.result.0)
     c.requires.rejoinable r more
     c.behind-i.ensures c.set_prev.ensures back_is
 
@@ -69,23 +75,26 @@ link-preserved g c =
     let r = c.link.invariant.rejoined in
     let more = c.link-test.true in
     let next_is : option_map number c.read_next.result
-    ≡ next_at (ends_in number c.args.arena.now) (c.link.count + 1) =
+    ≡ next_at (ends_in c.args.arena.now) (c.link.count + 1) =
     c.read_next.ensures
-    ∙ next_one number c.args.len c.link.count c.link.before c.args.arena.now c.link.arena
-    c.set_prev.new.arena c.set_prev.new.arena c.behind-i.result None c.requires.rejoinable r
+    ∙ next_one c.args.len c.link.count (option_map number c.link.before) c.args.arena.now
+    c.link.arena
+    c.set_prev.new.arena c.set_prev.new.arena (number c.behind-i.result) None c.requires.rejoinable
+    r
     more c.behind-i.ensures
     c.set_prev.ensures (number c.behind-i.result)
-    ∙ ap (next_at (ends_in number c.args.arena.now)) c.behind-i.ensures in
+    ∙ ap (next_at (ends_in c.args.arena.now)) c.behind-i.ensures in
     let back_is : option_map number c.parted-back.result.0
-    ≡ up_to (c.link.count + 1) (next_at (ends_in number c.args.arena.now) (c.link.count + 1)) =
+    ≡ up_to (c.link.count + 1) (next_at (ends_in c.args.arena.now) (c.link.count + 1)) =
     c.parted-back.ensures.back ∙ ap (up_to (c.link.count + 1)) next_is in
     record {
       rejoined =
-          rejoined_more number c.args.len c.link.count c.link.before c.args.arena.now c.link.arena
-          c.set_prev.new.arena c.set_prev-in-link.new.arena c.behind-i.result
-          c.parted-back.result.0 c.requires.rejoinable r more
+          rejoined_more c.args.len c.link.count (option_map number c.link.before) c.args.arena.now
+          c.link.arena
+          c.set_prev.new.arena c.set_prev-in-link.new.arena (number c.behind-i.result)
+          (option_map number c.parted-back.result.0) c.requires.rejoinable r more
           c.behind-i.ensures c.set_prev.ensures back_is c.set_prev-in-link.ensures
-          c.parted-back.result.1
+          (option_map number c.parted-back.result.1)
           (c.parted-back.ensures.before
           ∙ ap (λ i. before_past (c.link.count + 1) i (option_map number c.read_next.result))
           c.behind-i.ensures
@@ -102,7 +111,7 @@ returns-clause-agreed g c =
     let within = c.link.invariant.within in
     let past = c.link-test.false in
     let all : c.link.count ≡ c.args.len = omega (arith, within, past) in
-    rejoined_all number c.args.len (option_map number c.link.before) c.args.arena.now c.link.arena
+    rejoined_all c.args.len (option_map number c.link.before) c.args.arena.now c.link.arena
     c.requires.rejoinable
-    (subst (λ k. IsRejoined number k (option_map number c.link.before) c.args.arena.now
+    (subst (λ k. IsRejoined k (option_map number c.link.before) c.args.arena.now
     c.link.arena) all c.link.invariant.rejoined)

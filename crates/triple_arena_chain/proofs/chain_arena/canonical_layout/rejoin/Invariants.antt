@@ -7,7 +7,7 @@ use Rattle.triple_arena_chain.proofs.chain_arena.canonical_layout.rejoin.Given a
 abbrev pub invariant-link : goal.invariant-link
 invariant-link g l =
     record {
-      rejoined : IsRejoined g.P.Inx.PtrInxCore.number l.count
+      rejoined : IsRejoined l.count
           (option_map g.P.Inx.PtrInxCore.number l.before) l.fn.arena l.arena;
       within : l.count ≤ l.len;
     }

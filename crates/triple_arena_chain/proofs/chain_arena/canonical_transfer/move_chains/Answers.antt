@@ -22,8 +22,7 @@ chain-init g c =
       reaches = c.advancer-advancer.ensures.high;
       moved =
           chains_none g.Q.PtrCore.index g.Q.PtrCore.generation g.P.PtrCore.index
-          g.P.PtrCore.generation g.Q.Inx.PtrInxCore.number g.P.Inx.PtrInxCore.number
-          (goal.F-step g) c.args.map
+          g.P.PtrCore.generation (goal.F-step g) c.args.map
           g.Q.Gen.PtrGenCore.last c.args.source.now (g.P.Gen.PtrGenCore.number c.args.generation)
           c.args.target.now.room
           c.requires.chained c.advancer-advancer.result.low c.args.target.now
@@ -34,7 +33,7 @@ chain-init g c =
 pub chain_start-start-requires-clause-chained : goal.chain_start-start-requires-clause-chained
 chain_start-start-requires-clause-chained g c =
     left_chained g.Q.PtrCore.index g.Q.PtrCore.generation g.P.PtrCore.index g.P.PtrCore.generation
-    g.Q.Inx.PtrInxCore.number g.P.Inx.PtrInxCore.number (goal.F-step g) c.args.map
+    (goal.F-step g) c.args.map
     g.Q.Gen.PtrGenCore.last c.args.source.now (g.P.Gen.PtrGenCore.number c.args.generation)
     c.args.target.now.room
     c.requires.chained c.chain.advancer.low c.chain.map c.chain.source c.chain.target
@@ -49,7 +48,7 @@ link-init g c =
     after in
     let way =
     way_taken g.Q.PtrCore.index g.Q.PtrCore.generation g.P.PtrCore.index g.P.PtrCore.generation
-    g.Q.Inx.PtrInxCore.number g.P.Inx.PtrInxCore.number (goal.F-step g) c.args.map
+    (goal.F-step g) c.args.map
     g.Q.Gen.PtrGenCore.last c.args.source.now (g.P.Gen.PtrGenCore.number c.args.generation)
     c.args.target.now.room
     c.requires.chained c.chain.advancer (g.Q.PtrCore.index c.in-Some.p)
@@ -64,7 +63,7 @@ link-init g c =
       callable = c.chain.invariant.callable;
       rises = next.rises;
       reaches = λ j some. subst (λ h. j ≤ h) (sym next.high) (c.chain.invariant.reaches j some);
-      live = at_live _ _ _ _ _ _ _ _ _ _ _ _ c.requires.chained _ _ _ _ _ _ _ _ way;
+      live = at_live _ _ _ _ _ _ _ _ _ _ c.requires.chained _ _ _ _ _ _ _ _ way;
       way = (
         g.Q.Inx.PtrInxCore.number c.inx.result,
         next.low ∙ ap (λ n. n + 1) (sym c.inx.ensures),
@@ -75,7 +74,7 @@ link-init g c =
 -- the link in hand is moved
 link_done : (g : Over) (c : After-append_link g)
     → IsLinkMoved g.Q.PtrCore.index g.Q.PtrCore.generation g.P.PtrCore.index g.P.PtrCore.generation
-    g.Q.Inx.PtrInxCore.number g.P.Inx.PtrInxCore.number (goal.F-step g) c.args.map
+    (goal.F-step g) c.args.map
     g.Q.Gen.PtrGenCore.last c.args.source.now (g.P.Gen.PtrGenCore.number c.args.generation)
     c.args.target.now.room
     c.link.invariant.way.0 (g.Q.Inx.PtrInxCore.number c.chain_start-start.result)
@@ -87,7 +86,7 @@ link_done : (g : Over) (c : After-append_link g)
 link_done g c =
     let room = ap capacity c.link.invariant.way.2.moved.placed.own in
     link_moved g.Q.PtrCore.index g.Q.PtrCore.generation g.P.PtrCore.index g.P.PtrCore.generation
-    g.Q.Inx.PtrInxCore.number g.P.Inx.PtrInxCore.number (goal.F-step g) c.args.map
+    (goal.F-step g) c.args.map
     g.Q.Gen.PtrGenCore.last c.args.source.now (g.P.Gen.PtrGenCore.number c.args.generation)
     c.args.target.now.room
     c.requires.chained c.link.invariant.way.0 (g.Q.Inx.PtrInxCore.number c.chain_start-start.result)
@@ -96,8 +95,11 @@ link_done g c =
     (option_map g.P.Inx.PtrInxCore.number c.link.last) c.link.map c.link.source c.link.target
     c.link.invariant.way.2
     c.map-t.new.self c.take_link-taken.new.source c.append_link.new.target
-    c.take_link-taken.result.0 c.take_link-taken.result.1 c.take_link-taken.result.2
-    c._from_raw-to.result c.map-t.result c.link.last c.next_place-next.result c.behind-first.result
+    c.take_link-taken.result.0 c.take_link-taken.result.1
+    (option_map g.Q.Inx.PtrInxCore.number c.take_link-taken.result.2)
+    c._from_raw-to.result c.map-t.result (option_map g.P.Inx.PtrInxCore.number c.link.last)
+    (option_map g.P.Inx.PtrInxCore.number c.next_place-next.result)
+    (g.P.Inx.PtrInxCore.number c.behind-first.result)
     c.len-placed.result
     (g.P.Inx.PtrInxCore.number c.behind-place.result) c.capacity.result
     c.take_link-taken.ensures.removed c.take_link-taken.ensures.formed
@@ -119,7 +121,7 @@ pub behind-place-requires-clause-fits : goal.behind-place-requires-clause-fits
 behind-place-requires-clause-fits g c =
     let fits =
     way_fits g.Q.PtrCore.index g.Q.PtrCore.generation g.P.PtrCore.index g.P.PtrCore.generation
-    g.Q.Inx.PtrInxCore.number g.P.Inx.PtrInxCore.number (goal.F-step g) c.args.map
+    (goal.F-step g) c.args.map
     g.Q.Gen.PtrGenCore.last c.args.source.now (g.P.Gen.PtrGenCore.number c.args.generation)
     c.args.target.now.room
     c.requires.chained c.link.invariant.way.0 (g.Q.Inx.PtrInxCore.number c.chain_start-start.result)
@@ -149,7 +151,7 @@ link-preserved g c =
           (still_live g.Q.Gen.PtrGenCore.last (g.Q.Inx.PtrInxCore.number c.link.at)
           c.link.source c.take_link-taken.new.source
           c.take_link-taken.ensures.removed j some);
-      live = at_live _ _ _ _ _ _ _ _ _ _ _ _ c.requires.chained _ _ _ _ _ _ _ _ way;
+      live = at_live _ _ _ _ _ _ _ _ _ _ c.requires.chained _ _ _ _ _ _ _ _ way;
       way = (c.link.invariant.way.0, c.link.invariant.way.1, way);
     }
 
@@ -165,21 +167,21 @@ chain-preserved g c =
           c.take_link-taken.ensures.removed j some);
       moved =
           subst (λ n. AreChainsMoved g.Q.PtrCore.index g.Q.PtrCore.generation g.P.PtrCore.index
-          g.P.PtrCore.generation g.Q.Inx.PtrInxCore.number g.P.Inx.PtrInxCore.number
-          (goal.F-step g)
+          g.P.PtrCore.generation (goal.F-step g)
           c.args.map g.Q.Gen.PtrGenCore.last c.args.source.now
           (g.P.Gen.PtrGenCore.number c.args.generation) c.args.target.now.room
           n c.map-t.new.self c.take_link-taken.new.source c.go_on.new.target)
           (sym c.link.invariant.way.1)
           ((link_done g (goal.at.chain-preserved g c).After-append_link).over c.go_on.new.target
-          c.behind-first.result c.behind-place.result refl refl
+          (g.P.Inx.PtrInxCore.number c.behind-first.result)
+          (g.P.Inx.PtrInxCore.number c.behind-place.result) refl refl
           c.in-None.ensures.over);
     }
 
 nothing : (g : Over) (c : goal.After-drop-map g) (j : ℕ) → entry_at c.chain.source j ≡ None
 nothing g c =
     none_at_all g.Q.PtrCore.index g.Q.PtrCore.generation g.P.PtrCore.index g.P.PtrCore.generation
-    g.Q.Inx.PtrInxCore.number g.P.Inx.PtrInxCore.number (goal.F-step g) c.args.map
+    (goal.F-step g) c.args.map
     g.Q.Gen.PtrGenCore.last c.args.source.now (g.P.Gen.PtrGenCore.number c.args.generation)
     c.args.target.now.room
     c.requires.chained c.chain.advancer c.chain.map c.chain.source c.chain.target
@@ -188,7 +190,7 @@ nothing g c =
 pub returns-clause-moved : goal.returns-clause-moved
 returns-clause-moved g c =
     moved_in_order g.Q.PtrCore.index g.Q.PtrCore.generation g.P.PtrCore.index g.P.PtrCore.generation
-    g.Q.Inx.PtrInxCore.number g.P.Inx.PtrInxCore.number (goal.F-step g) c.args.map
+    (goal.F-step g) c.args.map
     g.Q.Gen.PtrGenCore.last c.args.source.now (g.P.Gen.PtrGenCore.number c.args.generation)
     c.args.target.now.room
     c.chain.advancer.low c.chain.map c.chain.source c.chain.target c.requires.chained
@@ -197,7 +199,7 @@ returns-clause-moved g c =
 pub returns-clause-formed : goal.returns-clause-formed
 returns-clause-formed g c =
     moved_chained g.Q.PtrCore.index g.Q.PtrCore.generation g.P.PtrCore.index g.P.PtrCore.generation
-    g.Q.Inx.PtrInxCore.number g.P.Inx.PtrInxCore.number (goal.F-step g) c.args.map
+    (goal.F-step g) c.args.map
     g.Q.Gen.PtrGenCore.last c.args.source.now (g.P.Gen.PtrGenCore.number c.args.generation)
     c.args.target.now.room
     c.chain.advancer.low c.chain.map c.chain.source c.chain.target c.requires.chained
@@ -206,7 +208,7 @@ returns-clause-formed g c =
 pub returns-clause-emptied : goal.returns-clause-emptied
 returns-clause-emptied g c =
     nothing_left g.Q.PtrCore.index g.Q.PtrCore.generation g.P.PtrCore.index g.P.PtrCore.generation
-    g.Q.Inx.PtrInxCore.number g.P.Inx.PtrInxCore.number (goal.F-step g) c.args.map
+    (goal.F-step g) c.args.map
     g.Q.Gen.PtrGenCore.last c.args.source.now (g.P.Gen.PtrGenCore.number c.args.generation)
     c.args.target.now.room
     c.chain.advancer.low c.chain.map c.chain.source c.chain.target c.requires.chained
@@ -215,7 +217,7 @@ returns-clause-emptied g c =
 pub returns-clause-counter : goal.returns-clause-counter
 returns-clause-counter g c =
     stepped_for_each g.Q.PtrCore.index g.Q.PtrCore.generation g.P.PtrCore.index
-    g.P.PtrCore.generation g.Q.Inx.PtrInxCore.number g.P.Inx.PtrInxCore.number (goal.F-step g)
+    g.P.PtrCore.generation (goal.F-step g)
     c.args.map
     g.Q.Gen.PtrGenCore.last c.args.source.now (g.P.Gen.PtrGenCore.number c.args.generation)
     c.args.target.now.room
@@ -225,7 +227,7 @@ returns-clause-counter g c =
 pub returns-clause-room : goal.returns-clause-room
 returns-clause-room g c =
     room_left g.Q.PtrCore.index g.Q.PtrCore.generation g.P.PtrCore.index g.P.PtrCore.generation
-    g.Q.Inx.PtrInxCore.number g.P.Inx.PtrInxCore.number (goal.F-step g) c.args.map
+    (goal.F-step g) c.args.map
     g.Q.Gen.PtrGenCore.last c.args.source.now (g.P.Gen.PtrGenCore.number c.args.generation)
     c.args.target.now.room
     c.chain.advancer.low c.chain.map c.chain.source c.chain.target c.requires.chained
@@ -234,7 +236,7 @@ returns-clause-room g c =
 pub returns-clause-filled : goal.returns-clause-filled
 returns-clause-filled g c =
     moved_filled g.Q.PtrCore.index g.Q.PtrCore.generation g.P.PtrCore.index g.P.PtrCore.generation
-    g.Q.Inx.PtrInxCore.number g.P.Inx.PtrInxCore.number (goal.F-step g) c.args.map
+    (goal.F-step g) c.args.map
     g.Q.Gen.PtrGenCore.last c.args.source.now (g.P.Gen.PtrGenCore.number c.args.generation)
     c.args.target.now.room
     c.chain.advancer.low c.chain.map c.chain.source c.chain.target c.requires.chained
@@ -243,7 +245,7 @@ returns-clause-filled g c =
 pub returns-clause-source_formed : goal.returns-clause-source_formed
 returns-clause-source_formed g c =
     left_chained g.Q.PtrCore.index g.Q.PtrCore.generation g.P.PtrCore.index g.P.PtrCore.generation
-    g.Q.Inx.PtrInxCore.number g.P.Inx.PtrInxCore.number (goal.F-step g) c.args.map
+    (goal.F-step g) c.args.map
     g.Q.Gen.PtrGenCore.last c.args.source.now (g.P.Gen.PtrGenCore.number c.args.generation)
     c.args.target.now.room
     c.requires.chained c.chain.advancer.low c.chain.map c.chain.source c.chain.target

@@ -12,8 +12,7 @@ invariant-chain g l =
       rises : l.advancer.falls ≡ false;
       reaches : (j : ℕ) → IsSome (entry_at l.source j) → j ≤ l.advancer.high;
       moved : AreChainsMoved g.Q.PtrCore.index g.Q.PtrCore.generation g.P.PtrCore.index
-          g.P.PtrCore.generation g.Q.Inx.PtrInxCore.number g.P.Inx.PtrInxCore.number
-          (goal.F-step g) l.fn.map g.Q.Gen.PtrGenCore.last l.fn.source
+          g.P.PtrCore.generation (goal.F-step g) l.fn.map g.Q.Gen.PtrGenCore.last l.fn.source
           (g.P.Gen.PtrGenCore.number l.generation) l.fn.target.room l.advancer.low l.map
           l.source l.target;
     }
@@ -31,8 +30,7 @@ invariant-link g l =
       live : IsSome (entry_at l.source (g.Q.Inx.PtrInxCore.number l.at));
       way : (k : ℕ) × (l.advancer.low ≡ k + 1)
           × IsOnWay g.Q.PtrCore.index g.Q.PtrCore.generation g.P.PtrCore.index
-          g.P.PtrCore.generation g.Q.Inx.PtrInxCore.number g.P.Inx.PtrInxCore.number
-          (goal.F-step g) l.fn.map g.Q.Gen.PtrGenCore.last l.fn.source
+          g.P.PtrCore.generation (goal.F-step g) l.fn.map g.Q.Gen.PtrGenCore.last l.fn.source
           (g.P.Gen.PtrGenCore.number l.generation) l.fn.target.room
           k (g.Q.Inx.PtrInxCore.number l.start) (g.Q.Inx.PtrInxCore.number l.at)
           (g.P.Inx.PtrInxCore.number l.first)

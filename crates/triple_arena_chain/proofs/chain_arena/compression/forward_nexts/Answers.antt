@@ -1,3 +1,4 @@
+use Rattle.std.proofs.Common.{option_map}
 use Rattle.std.proofs.Common.{◌≡◌, ◌≤◌, Some, IsSome, sym, ap, subst, ◌∙◌}
 use Rattle.triple_arena_chain.specs.Chains.{next_at}
 use Rattle.triple_arena.specs.Content.{entry_at}
@@ -15,8 +16,8 @@ loop-p-init g c =
       rises = c.advancer-advancer.ensures.rises;
       reaches = c.advancer-advancer.ensures.high;
       passed =
-          begun g.P.Inx.PtrInxCore.number _ c.args.arena.now
-          (free_forwarded g.P.Inx.PtrInxCore.number c.args.arena.now) _
+          begun _ c.args.arena.now
+          (free_forwarded c.args.arena.now) _
           c.advancer-advancer.ensures.low
           c.requires.formed;
     }
@@ -30,10 +31,10 @@ pub name_of_next-renamed-requires-clause-next : goal.name_of_next-renamed-requir
 name_of_next-renamed-requires-clause-next g c =
     let number = g.P.Inx.PtrInxCore.number in
     λ q goes.
-    passed_next number c.args.arena.now c.loop-p.arena c.loop-p.advancer.low
+    passed_next c.args.arena.now c.loop-p.arena c.loop-p.advancer.low
     c.loop-p.invariant.passed c.requires.live (g.P.PtrCore.index c.in-Some.p)
     (c.in-Some.ensures).given.0.ahead.0 q
-    (ap (next_at (ends_in number c.loop-p.arena)) (sym c.inx-i.ensures) ∙ goes)
+    (ap (next_at (ends_in c.loop-p.arena)) (sym c.inx-i.ensures) ∙ goes)
 
 pub loop-p-preserved : goal.loop-p-preserved
 loop-p-preserved g c =
@@ -44,26 +45,28 @@ loop-p-preserved g c =
     after in
     let same =
     live_as c.loop-p.arena c.set_next.new.arena
-    (next_unchanged g.P.Inx.PtrInxCore.number c.loop-p.arena c.set_next.new.arena
-    (Some c.inx-i.result) c.name_of_next-renamed.result c.set_next.ensures) in
+    (next_unchanged c.loop-p.arena c.set_next.new.arena
+    (Some (g.P.Inx.PtrInxCore.number c.inx-i.result))
+    (option_map g.P.Inx.PtrInxCore.number c.name_of_next-renamed.result) c.set_next.ensures) in
     record {
       rises = next.rises;
       reaches = λ j some. subst (λ h. j ≤ h) (sym next.high)
           (c.loop-p.invariant.reaches j (sym (same j) ∙ some));
       passed =
           subst
-          (λ n. IsPassed g.P.Inx.PtrInxCore.number
-          (forwarded (ends_in g.P.Inx.PtrInxCore.number c.args.arena.now)) n c.args.arena.now
+          (λ n. IsPassed
+          (forwarded (ends_in c.args.arena.now)) n c.args.arena.now
           c.set_next.new.arena)
           (sym next.low)
-          (forwarded_one g.P.Inx.PtrInxCore.number c.args.arena.now c.loop-p.arena
+          (forwarded_one c.args.arena.now c.loop-p.arena
           c.set_next.new.arena c.loop-p.advancer (g.P.PtrCore.index c.in-Some.p)
-          (g.P.PtrCore.generation c.in-Some.p) c.inx-i.result c.name_of_next-renamed.result
+          (g.P.PtrCore.generation c.in-Some.p) (g.P.Inx.PtrInxCore.number c.inx-i.result)
+          (option_map g.P.Inx.PtrInxCore.number c.name_of_next-renamed.result)
           c.loop-p.invariant.passed rises
           (c.in-Some.ensures).given.0 c.inx-i.ensures
           (c.name_of_next-renamed.ensures
-          ∙ ap (λ n. prev_of (ends_in g.P.Inx.PtrInxCore.number c.loop-p.arena)
-          (next_at (ends_in g.P.Inx.PtrInxCore.number c.loop-p.arena) n))
+          ∙ ap (λ n. prev_of (ends_in c.loop-p.arena)
+          (next_at (ends_in c.loop-p.arena) n))
           c.inx-i.ensures)
           c.set_next.ensures);
     }

@@ -11,8 +11,8 @@ invariant-loop-p g l =
     record {
       rises : l.advancer.falls ≡ false;
       reaches : (j : ℕ) → IsSome (entry_at l.arena j) → j ≤ l.advancer.high;
-      passed : IsPassed g.P.Inx.PtrInxCore.number
-          (forwarded (ends_in g.P.Inx.PtrInxCore.number l.fn.arena)) l.advancer.low l.fn.arena
+      passed : IsPassed
+          (forwarded (ends_in l.fn.arena)) l.advancer.low l.fn.arena
           l.arena;
     }
 

@@ -13,7 +13,7 @@ loop-p-init g c =
     record {
       rises = c.advancer-advancer.ensures.rises;
       reaches = c.advancer-advancer.ensures.high;
-      joined = joined_none g.P.Inx.PtrInxCore.number c.args.arena.now _
+      joined = joined_none c.args.arena.now _
           c.advancer-advancer.ensures.low c.requires.alone c.requires.formed;
     }
 
@@ -24,8 +24,9 @@ read_next-next-requires-clause-live g c =
 
 pub set_prev-requires-clause-live : goal.set_prev-requires-clause-live
 set_prev-requires-clause-live g c =
-    next_live g.P.Inx.PtrInxCore.number c.args.arena.now c.loop-p.advancer.low c.loop-p.arena
-    c.read_next-next.result _ c.loop-p.invariant.joined c.requires.live c.read_next-next.ensures
+    next_live c.args.arena.now c.loop-p.advancer.low c.loop-p.arena
+    (option_map g.P.Inx.PtrInxCore.number c.read_next-next.result) _ c.loop-p.invariant.joined
+    c.requires.live c.read_next-next.ensures
 
 pub loop-p-preserved : goal.loop-p-preserved
 loop-p-preserved g c =
@@ -36,25 +37,27 @@ loop-p-preserved g c =
     after in
     let same =
     live_as c.loop-p.arena c.set_prev.new.arena
-    (unchanged g.P.Inx.PtrInxCore.number c.loop-p.arena c.set_prev.new.arena c.read_next-next.result
-    (Some c.inx-i.result) c.set_prev.ensures) in
+    (unchanged c.loop-p.arena c.set_prev.new.arena
+    (option_map g.P.Inx.PtrInxCore.number c.read_next-next.result)
+    (Some (g.P.Inx.PtrInxCore.number c.inx-i.result)) c.set_prev.ensures) in
     record {
       rises = next.rises;
       reaches = λ j some. subst (λ h. j ≤ h) (sym next.high)
           (c.loop-p.invariant.reaches j (sym (same j) ∙ some));
       joined =
-          subst (λ n. IsJoined g.P.Inx.PtrInxCore.number c.args.arena.now n c.set_prev.new.arena)
+          subst (λ n. IsJoined c.args.arena.now n c.set_prev.new.arena)
           (sym next.low)
-          (joined_one g.P.Inx.PtrInxCore.number c.args.arena.now c.requires.apart c.loop-p.arena
+          (joined_one c.args.arena.now c.requires.apart c.loop-p.arena
           c.set_prev.new.arena c.loop-p.advancer
-          (g.P.PtrCore.index c.in-Some.p) (g.P.PtrCore.generation c.in-Some.p) c.inx-i.result
+          (g.P.PtrCore.index c.in-Some.p) (g.P.PtrCore.generation c.in-Some.p)
+          (g.P.Inx.PtrInxCore.number c.inx-i.result)
           c.loop-p.invariant.joined rises (c.in-Some.ensures).given.0
-          c.inx-i.ensures c.read_next-next.result
+          c.inx-i.ensures (option_map g.P.Inx.PtrInxCore.number c.read_next-next.result)
           (subst (λ n. option_map g.P.Inx.PtrInxCore.number c.read_next-next.result
-          ≡ next_at (ends_in g.P.Inx.PtrInxCore.number c.loop-p.arena) n) c.inx-i.ensures
+          ≡ next_at (ends_in c.loop-p.arena) n) c.inx-i.ensures
           c.read_next-next.ensures)
-          (next_live g.P.Inx.PtrInxCore.number c.args.arena.now c.loop-p.advancer.low c.loop-p.arena
-          c.read_next-next.result _ c.loop-p.invariant.joined
+          (next_live c.args.arena.now c.loop-p.advancer.low c.loop-p.arena
+          (option_map g.P.Inx.PtrInxCore.number c.read_next-next.result) _ c.loop-p.invariant.joined
           c.requires.live c.read_next-next.ensures)
           c.set_prev.ensures);
     }

@@ -9,7 +9,7 @@ invariant-loop-p g l =
     record {
       rises : l.advancer.falls ≡ false;
       reaches : (j : ℕ) → IsSome (entry_at l.arena j) → j ≤ l.advancer.high;
-      joined : IsJoined g.P.Inx.PtrInxCore.number l.fn.arena l.advancer.low l.arena;
+      joined : IsJoined l.fn.arena l.advancer.low l.arena;
     }
 
 abbrev pub decreases-loop-p : goal.decreases-loop-p

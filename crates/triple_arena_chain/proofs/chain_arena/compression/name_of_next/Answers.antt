@@ -13,11 +13,11 @@ pub returns-in-Some : goal.returns-in-Some
 returns-in-Some g c =
     let number = g.P.Inx.PtrInxCore.number in
     c.read_prev.ensures
-    ∙ ap (prev_of (ends_in number c.args.arena.now))
+    ∙ ap (prev_of (ends_in c.args.arena.now))
     (sym (ap (option_map number) c.in-Some.is) ∙ c.read_next.ensures)
 
 pub returns-in-None : goal.returns-in-None
 returns-in-None g c =
     let number = g.P.Inx.PtrInxCore.number in
-    ap (prev_of (ends_in number c.args.arena.now))
+    ap (prev_of (ends_in c.args.arena.now))
     (sym (ap (option_map number) c.in-None.is) ∙ c.read_next.ensures)

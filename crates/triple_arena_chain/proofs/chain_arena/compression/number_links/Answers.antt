@@ -1,3 +1,4 @@
+use Rattle.std.proofs.Common.{option_map}
 use Rattle.std.proofs.Common.{◌≡◌, ◌≤◌, Some, rules, arith, sym, ap, subst, ◌∙◌}
 use Rattle.triple_arena_ptr.specs.Index.{max_index_of}
 use Rattle.triple_arena.specs.Content.{entry_at}
@@ -17,16 +18,16 @@ loop-p-init g c =
       reaches = c.advancer-advancer.ensures.high;
       indexes = λ j some. let within = c.capacity.ensures.indexes j some in let bound =
           c.capacity.ensures.bounded in omega (arith, within, bound);
-      count = ap (live_below (ends_in g.P.Inx.PtrInxCore.number c.args.arena.now)) (sym low);
-      passed = begun g.P.Inx.PtrInxCore.number _ c.args.arena.now
-          (free_numbered g.P.Inx.PtrInxCore.number c.args.arena.now) _ low c.requires;
+      count = ap (live_below (ends_in c.args.arena.now)) (sym low);
+      passed = begun _ c.args.arena.now
+          (free_numbered c.args.arena.now) _ low c.requires;
     }
 
 is_counted : (g : _) (c : goal.After-set_prev g)
-    → IsCounted g.P.Inx.PtrInxCore.number c.args.arena.now c.loop-p.arena c.loop-p.advancer
+    → IsCounted c.args.arena.now c.loop-p.arena c.loop-p.advancer
     (g.P.PtrCore.index c.in-Some.p) c.loop-p.count
 is_counted g c =
-    counted g.P.Inx.PtrInxCore.number c.args.arena.now c.loop-p.arena c.loop-p.advancer
+    counted c.args.arena.now c.loop-p.arena c.loop-p.advancer
     (g.P.PtrCore.index c.in-Some.p) (g.P.PtrCore.generation c.in-Some.p) c.loop-p.count
     c.loop-p.invariant.passed c.loop-p.invariant.rises (c.in-Some.ensures).given.0
     c.loop-p.invariant.count
@@ -52,23 +53,24 @@ loop-p-preserved g c =
     let next = passed_by c.loop-p.advancer c.advance.new.self (g.P.PtrCore.index c.in-Some.p) rises
     after in
     let same = live_as c.loop-p.arena c.set_prev.new.arena
-    (unchanged g.P.Inx.PtrInxCore.number c.loop-p.arena c.set_prev.new.arena (Some c.inx.result)
-    c.try_from_usize.result c.set_prev.ensures) in
+    (unchanged c.loop-p.arena c.set_prev.new.arena (Some (g.P.Inx.PtrInxCore.number c.inx.result))
+    (option_map g.P.Inx.PtrInxCore.number c.try_from_usize.result) c.set_prev.ensures) in
     record {
       rises = next.rises;
       reaches = λ j some. subst (λ h. j ≤ h) (sym next.high)
           (c.loop-p.invariant.reaches j (sym (same j) ∙ some));
       indexes = λ j some. c.loop-p.invariant.indexes j (sym (same j) ∙ some);
       count = (is_counted g c).after
-          ∙ ap (live_below (ends_in g.P.Inx.PtrInxCore.number c.args.arena.now)) (sym next.low);
+          ∙ ap (live_below (ends_in c.args.arena.now)) (sym next.low);
       passed =
-          subst (λ n. IsPassed g.P.Inx.PtrInxCore.number
-          (numbered (ends_in g.P.Inx.PtrInxCore.number c.args.arena.now)) n c.args.arena.now
+          subst (λ n. IsPassed
+          (numbered (ends_in c.args.arena.now)) n c.args.arena.now
           c.set_prev.new.arena) (sym next.low)
-          (numbered_one g.P.Inx.PtrInxCore.number c.args.arena.now c.loop-p.arena
+          (numbered_one c.args.arena.now g.P.Inx.PtrInxCore.number c.loop-p.arena
           c.set_prev.new.arena c.loop-p.advancer (g.P.PtrCore.index c.in-Some.p)
           (g.P.PtrCore.generation c.in-Some.p) c.loop-p.count g.P.Inx.PtrInxCore.greatest _
-          c.inx.result c.try_from_usize.result c.loop-p.invariant.passed rises
+          (g.P.Inx.PtrInxCore.number c.inx.result) c.try_from_usize.result c.loop-p.invariant.passed
+          rises
           (c.in-Some.ensures).given.0 (is_counted g c) c.inx.ensures c.set_prev.ensures
           c.try_from_usize.ensures.past c.try_from_usize.ensures.same
           (let fits = c.saturating_add-number.ensures in omega (arith, fits, below, index))

@@ -14,9 +14,9 @@ invariant-loop-p g l =
       reaches : (j : ℕ) → IsSome (entry_at l.arena j) → j ≤ l.advancer.high;
       indexes : (j : ℕ) → IsSome (entry_at l.arena j)
           → j ≤ max_index_of g.P.Inx.PtrInxCore.greatest;
-      count : l.count ≡ live_below (ends_in g.P.Inx.PtrInxCore.number l.fn.arena) l.advancer.low;
-      passed : IsPassed g.P.Inx.PtrInxCore.number
-          (numbered (ends_in g.P.Inx.PtrInxCore.number l.fn.arena)) l.advancer.low l.fn.arena
+      count : l.count ≡ live_below (ends_in l.fn.arena) l.advancer.low;
+      passed : IsPassed
+          (numbered (ends_in l.fn.arena)) l.advancer.low l.fn.arena
           l.arena;
     }
 

@@ -9,26 +9,26 @@ returns-in_default-clause-ascends g c =
     let number = g.P.Inx.PtrInxCore.number in
     let cmp = g.T.Key.Ord.cmp in
     let key = g.T.SimpleOrdItem.key_of in
-    let o : Ordered g.row.P-Inx.Denot g.row.T.Denot =
+    let o : Ordered g.row.T.Denot =
     record { chains = c.this.inside.chains; root = option_map number c.this.inside.root } in
-    let empty = empty_ascends number cmp key o
+    let empty = empty_ascends cmp key o
     (sym c.this.invariant.1 ∙ ap (option_map number) c.in_default.is) in
-    (λ _. subst (λ z. IsAscending number cmp key z) c.this.view_is empty, λ _. refl)
+    (λ _. subst (λ z. IsAscending cmp key z) c.this.view_is empty, λ _. refl)
 
 pub returns-then-ascends-clause-ascends : goal.returns-then-ascends-clause-ascends
 returns-then-ascends-clause-ascends g c =
     let number = g.P.Inx.PtrInxCore.number in
     let cmp = g.T.Key.Ord.cmp in
     let key = g.T.SimpleOrdItem.key_of in
-    let o : Ordered g.row.P-Inx.Denot g.row.T.Denot =
+    let o : Ordered g.row.T.Denot =
     record { chains = c.this.inside.chains; root = option_map number c.this.inside.root } in
     let is = c.this.invariant.0 in
     let counted = is.counted in
     let most = c.len-most.ensures.value in
-    let tells = c.ascends.ensures (order_in number o) is.linear
+    let tells = c.ascends.ensures (order_in o) is.linear
     (sym c.this.invariant.1 ∙ ap (option_map number) c.in-Some.is)
     (omega (arith, counted, most)) in (
-      λ _. subst (λ z. IsAscending number cmp key z) c.this.view_is (tells.0 c.if-ascends.true),
+      λ _. subst (λ z. IsAscending cmp key z) c.this.view_is (tells.0 c.if-ascends.true),
       λ _. refl,
     )
 
@@ -37,16 +37,16 @@ returns-else-ascends-clause-ascends g c =
     let number = g.P.Inx.PtrInxCore.number in
     let cmp = g.T.Key.Ord.cmp in
     let key = g.T.SimpleOrdItem.key_of in
-    let o : Ordered g.row.P-Inx.Denot g.row.T.Denot =
+    let o : Ordered g.row.T.Denot =
     record { chains = c.this.inside.chains; root = option_map number c.this.inside.root } in
     let is = c.this.invariant.0 in
     let counted = is.counted in
     let most = c.len-most.ensures.value in
-    let tells = c.ascends.ensures (order_in number o) is.linear
+    let tells = c.ascends.ensures (order_in o) is.linear
     (sym c.this.invariant.1 ∙ ap (option_map number) c.in-Some.is)
     (omega (arith, counted, most)) in (
       λ t. absurd (cc),
       λ a. let yes =
-          tells.1 (subst (λ z. IsAscending number cmp key z) (sym c.this.view_is) a) in let no =
+          tells.1 (subst (λ z. IsAscending cmp key z) (sym c.this.view_is) a) in let no =
           c.if-ascends.false in absurd (cc),
     )

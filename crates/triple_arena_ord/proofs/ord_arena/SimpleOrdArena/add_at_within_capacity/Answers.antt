@@ -8,5 +8,5 @@ pub returns : goal.returns
 returns g c =
     let old = c.args.self.now in
     let fits : size_in old < capacity old.chains.room = search rules in
-    adds_within g.P.Inx.PtrInxCore.number g.P.PtrCore.index g.P.PtrCore.generation _ _ _
+    adds_within g.P.PtrCore.index g.P.PtrCore.generation _ _ _
     old c.put_at.new.self fits c.put_at.ensures

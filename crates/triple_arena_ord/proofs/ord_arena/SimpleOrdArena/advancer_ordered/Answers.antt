@@ -6,6 +6,6 @@ use Rattle.triple_arena_ord.proofs.ord_arena.SimpleOrdArena.advancer_ordered.Goa
 pub returns-then-finds-clause-along : goal.returns-then-finds-clause-along
 returns-then-finds-clause-along g c =
     let starts : c.from.result ≡ walk_at (g.P.PtrCore.index c.args.p) c.args.rev = search rules in
-    begins g.P.Inx.PtrInxCore.number c.args.self.now c.finds.ensures.ordered c.from.result
+    begins c.args.self.now c.finds.ensures.ordered c.from.result
     (g.P.PtrCore.index c.args.p) (g.P.PtrCore.generation c.args.p) c.args.rev
     (c.finds.ensures.found.0 c.if-finds.true) starts

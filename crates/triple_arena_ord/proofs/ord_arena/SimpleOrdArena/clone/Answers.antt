@@ -11,26 +11,26 @@ use Rattle.triple_arena_ord.proofs.CloneLemmas.{Cloned, cloned, error_kept, list
 use Rattle.triple_arena_ord.proofs.ord_arena.SimpleOrdArena.clone.Goals as goal
 use Rattle.triple_arena_ord.proofs.ord_arena.SimpleOrdArena.clone.Goals.{In-Ok}
 
-abbrev source : (g : _) (c : In-Ok g) → Ordered g.row.P-Inx.Denot g.row.T.Denot
+abbrev source : (g : _) (c : In-Ok g) → Ordered g.row.T.Denot
 source g c = record {
   chains = c.self.inside.chains;
   root = option_map g.P.Inx.PtrInxCore.number c.self.inside.root;
 }
 
-abbrev clone_of : (g : _) (c : In-Ok g) (s : Ordered g.row.P-Inx.Denot g.row.T.Denot)
-    → Ordered g.row.P-Inx.Denot g.row.T.Denot → Type 0
+abbrev clone_of : (g : _) (c : In-Ok g) (s : Ordered g.row.T.Denot)
+    → Ordered g.row.T.Denot → Type 0
 clone_of g c s new =
-    IsClone g.P.Inx.PtrInxCore.number
+    IsClone
     (empty (second_generation g.P.Gen.PtrGenCore.last)
     (room_of g.P.Inx.PtrInxCore.greatest (g.S.NonZeroInxGenericStack.room_at (last_inx s)))) s
     new
 
-made : (g : _) (c : In-Ok g) → Cloned g.P.Inx.PtrInxCore.number
+made : (g : _) (c : In-Ok g) → Cloned
     (empty (second_generation g.P.Gen.PtrGenCore.last)
     (room_of g.P.Inx.PtrInxCore.greatest
     (g.S.NonZeroInxGenericStack.room_at (last_inx (source g c)))))
     (source g c) (record { chains = c.in-Ok.chains; root = (source g c).root })
-made g c = cloned g.P.Inx.PtrInxCore.number _ c.in-Ok.chains (source g c) (c.in-Ok.ensures).exact
+made g c = cloned _ c.in-Ok.chains (source g c) (c.in-Ok.ensures).exact
     c.self.invariant.0
 
 pub invariant_of-result : goal.invariant_of-result

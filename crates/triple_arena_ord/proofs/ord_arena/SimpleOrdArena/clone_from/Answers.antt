@@ -7,16 +7,16 @@ use Rattle.triple_arena_ord.proofs.CloneLemmas.{Cloned, cloned, listed_as_item, 
 use Rattle.triple_arena_ord.proofs.ord_arena.SimpleOrdArena.clone_from.Goals as goal
 use Rattle.triple_arena_ord.proofs.ord_arena.SimpleOrdArena.clone_from.Goals.{In-Ok}
 
-abbrev given : (g : _) (c : In-Ok g) → Ordered g.row.P-Inx.Denot g.row.T.Denot
+abbrev given : (g : _) (c : In-Ok g) → Ordered g.row.T.Denot
 given g c = record {
   chains = c.source.inside.chains;
   root = option_map g.P.Inx.PtrInxCore.number c.source.inside.root;
 }
 
 made : (g : _) (c : In-Ok g)
-    → Cloned g.P.Inx.PtrInxCore.number c.self.inside.chains (given g c)
+    → Cloned c.self.inside.chains (given g c)
     (record { chains = c.clone_from.new.self; root = (given g c).root })
-made g c = cloned g.P.Inx.PtrInxCore.number c.self.inside.chains c.clone_from.new.self (given g c)
+made g c = cloned c.self.inside.chains c.clone_from.new.self (given g c)
     (c.in-Ok.ensures).exact c.source.invariant.0
 
 pub invariant_of-self : goal.invariant_of-self
@@ -39,10 +39,10 @@ returns-in-Ok-clause-ordered g c = (made g (goal.at.returns-in-Ok-clause-ordered
 pub returns-then-is_empty-clause-unmade : goal.returns-then-is_empty-clause-unmade
 returns-then-is_empty-clause-unmade g c =
     let number = g.P.Inx.PtrInxCore.number in
-    let o : Ordered g.row.P-Inx.Denot g.row.T.Denot =
+    let o : Ordered g.row.T.Denot =
     record { chains = c.self.inside.chains; root = option_map number c.self.inside.root } in
     rw (← c.self.view_is, ← c.source.view_is)
-    (λ failed. unmade_none number o c.clone_from.new.self c.self.invariant.0 _ _ _ _ _
+    (λ failed. unmade_none o c.clone_from.new.self c.self.invariant.0 _ _ _ _ _
     (λ refuses never. refuses (λ k e at.
     let sure : g.T.Clone.is_infallible e.1.1.t =
     never k (listed_item e) (listed_as_item _ k e at) in

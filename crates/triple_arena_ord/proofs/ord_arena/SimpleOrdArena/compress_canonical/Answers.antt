@@ -11,14 +11,14 @@ pub rebuild_run-self-inside-requires-clause-linear :
     goal.rebuild_run-self-inside-requires-clause-linear
 rebuild_run-self-inside-requires-clause-linear g c =
     let number = g.P.Inx.PtrInxCore.number in
-    let o : Ordered g.row.P-Inx.Denot g.row.T.Denot =
+    let o : Ordered g.row.T.Denot =
     record { chains = c.self.inside.chains; root = option_map number c.self.inside.root } in
-    run_linear number g.P.Gen.PtrGenCore.last c.args.reset o c.compress_canonical-answer.new.self
+    run_linear g.P.Gen.PtrGenCore.last c.args.reset o c.compress_canonical-answer.new.self
     c.self.invariant.0
     c.compress_canonical-answer.ensures.canonical
 
 done : (g : _) (c : goal.After-self-3-1 g)
-    → Laid g.P.Inx.PtrInxCore.number g.P.Gen.PtrGenCore.last c.args.reset
+    → Laid g.P.Gen.PtrGenCore.last c.args.reset
     (record {
       chains = c.self.inside.chains;
       root = option_map g.P.Inx.PtrInxCore.number c.self.inside.root;
@@ -32,16 +32,16 @@ done : (g : _) (c : goal.After-self-3-1 g)
 done g c =
     let number = g.P.Inx.PtrInxCore.number in
     let last = g.P.Gen.PtrGenCore.last in
-    let o : Ordered g.row.P-Inx.Denot g.row.T.Denot =
+    let o : Ordered g.row.T.Denot =
     record { chains = c.self.inside.chains; root = option_map number c.self.inside.root } in
-    laid_by number last c.args.reset o c.compress_canonical-answer.new.self c.self.invariant.0
+    laid_by last c.args.reset o c.compress_canonical-answer.new.self c.self.invariant.0
     c.compress_canonical-answer.ensures.canonical _
     c.rebuild_run-self-inside.ensures.keeps c.rebuild_run-self-inside.ensures.rebuilt
 
 pub invariant_of-self : goal.invariant_of-self
 invariant_of-self g c =
     let number = g.P.Inx.PtrInxCore.number in
-    let o : Ordered g.row.P-Inx.Denot g.row.T.Denot =
+    let o : Ordered g.row.T.Denot =
     record { chains = c.self.inside.chains; root = option_map number c.self.inside.root } in
     let d = done g c in
     let size : c.len.result ≡ size_in o = c.len.ensures.value
@@ -56,12 +56,12 @@ invariant_of-self g c =
 pub returns-clause-laid : goal.returns-clause-laid
 returns-clause-laid g c =
     let number = g.P.Inx.PtrInxCore.number in
-    let p : Ordered g.row.P-Inx.Denot g.row.T.Denot =
+    let p : Ordered g.row.T.Denot =
     record {
       chains = c.rebuild_run-self-inside.new.chains;
       root = option_map number c.rebuild_run-self-inside.result;
     } in
-    subst (λ z. IsLaidInOrder number g.P.Gen.PtrGenCore.last c.args.reset z p) c.self.view_is
+    subst (λ z. IsLaidInOrder g.P.Gen.PtrGenCore.last c.args.reset z p) c.self.view_is
     (done g c).laid
 
 pub returns-clause-ordered : goal.returns-clause-ordered

@@ -3,5 +3,5 @@ use Rattle.triple_arena_ord.proofs.ord_arena.SimpleOrdArena.drain_ordered.Goals 
 
 pub returns-clause-stays : goal.returns-clause-stays
 returns-clause-stays g c =
-    keeps_along g.P.Gen.PtrGenCore.last g.P.Inx.PtrInxCore.number g.P.PtrCore.index
+    keeps_along g.P.Gen.PtrGenCore.last g.P.PtrCore.index
     g.P.PtrCore.generation _

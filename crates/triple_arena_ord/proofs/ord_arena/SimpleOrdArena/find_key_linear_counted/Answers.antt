@@ -15,7 +15,7 @@ use Rattle.triple_arena_ord.proofs.ord_arena.SimpleOrdArena.find_key_linear_coun
 use Rattle.triple_arena_ord.proofs.ord_arena.SimpleOrdArena.find_key_linear_counted.Goals as goal
 
 module _ (g : Over) (c : After-inx g) where
-  abbrev inside : Ordered g.row.P-Inx.Denot g.row.T.Denot
+  abbrev inside : Ordered g.row.T.Denot
   inside = record {
     chains = c.self.inside.chains;
     root = option_map g.P.Inx.PtrInxCore.number c.self.inside.root;
@@ -24,7 +24,7 @@ module _ (g : Over) (c : After-inx g) where
   -- the walk begins at an entry
   lives : IsSome (entry_in inside (g.P.Inx.PtrInxCore.number c.inx.result))
   lives =
-      pointed_lives g.P.Inx.PtrInxCore.number inside (g.P.PtrCore.generation c.args.p_init)
+      pointed_lives inside (g.P.PtrCore.generation c.args.p_init)
       (g.P.PtrCore.index c.args.p_init)
       (g.P.Inx.PtrInxCore.number c.inx.result)
       (c.contains.ensures.value.0 (let no = c.if-not-contains.false in cc)) c.inx.ensures
@@ -32,17 +32,17 @@ module _ (g : Over) (c : After-inx g) where
   not_gone : value_if (g.P.PtrCore.generation c.args.p_init)
       (entry_in c.args.self.now (g.P.PtrCore.index c.args.p_init)) ≡ None → ⊥
   not_gone =
-      not_missed g.P.Inx.PtrInxCore.number c.args.self.now inside c.self.view_is
+      not_missed c.args.self.now inside c.self.view_is
       (g.P.PtrCore.generation c.args.p_init) (g.P.PtrCore.index c.args.p_init)
       (c.contains.ensures.value.0 (let no = c.if-not-contains.false in cc))
 
-  ordered : IsOrdered g.P.Inx.PtrInxCore.number c.args.self.now
-  ordered = subst (IsOrdered g.P.Inx.PtrInxCore.number) c.self.view_is c.self.invariant.0
+  ordered : IsOrdered c.args.self.now
+  ordered = subst IsOrdered c.self.view_is c.self.invariant.0
 
 pub walk_from-place-requires-clause-place : goal.walk_from-place-requires-clause-place
 walk_from-place-requires-clause-place g c =
     let start = (goal.at.walk_from-place-requires-clause-place g c).After-inx in
-    on_chain g.P.Inx.PtrInxCore.number (inside g start) c.self.invariant.0 _ (lives g start)
+    on_chain (inside g start) c.self.invariant.0 _ (lives g start)
 
 pub found_at-requires-clause-live : goal.found_at-requires-clause-live
 found_at-requires-clause-live g c =
@@ -64,9 +64,9 @@ returns-in-Some-clause-found g c =
     (lives g start) c.walk_from-place.result
     c.walk_from-place.ensures.stops (g.P.PtrCore.index c.in-Some.p) Equal
     (c.found_at.ensures.some c.in-Some.p c.in-Some.is) in
-    found_from number g.P.PtrCore.index g.P.PtrCore.generation (asked_at cmp key k o)
-    (IsAscending number cmp key o) o is
-    (parts_at number cmp key k g.met.T.Key.Ord.total o is) _ answer (Some c.in-Some.p)
+    found_from g.P.PtrCore.index g.P.PtrCore.generation (asked_at cmp key k o)
+    (IsAscending cmp key o) o is
+    (parts_at cmp key k g.met.T.Key.Ord.total o is) _ answer (Some c.in-Some.p)
     (λ p e. let z : c.in-Some.p ≡ p = cc in ap (λ q. Some (g.P.PtrCore.index q, Equal)) z)
     (λ e. absurd (cc))
     (subst (λ r. IfSome r
@@ -89,8 +89,8 @@ returns-in-None-clause-near g c = λ ascending there end.
     c.walk_from-place.result
     c.args.num c.walk_from-place.ensures.stops c.walk_from-place.ensures.near
     (c.found_at.ensures.none c.in-None.is)
-    (parts_at number cmp key k g.met.T.Key.Ord.total o (ordered g start) ascending)
-    (subst (IsEndNear c.args.num (asked_at cmp key k o) (order_in number o)) (sym c.inx.ensures)
+    (parts_at cmp key k g.met.T.Key.Ord.total o (ordered g start) ascending)
+    (subst (IsEndNear c.args.num (asked_at cmp key k o) (order_in o)) (sym c.inx.ensures)
     end))
 
 pub returns-in-Some-clause-gone : goal.returns-in-Some-clause-gone
@@ -132,7 +132,7 @@ returns-in-Some-clause-ends g c = λ there i ends.
     let ended = linear_ends number cmp key k o _ c.self.view_is c.self.invariant.0 _ (lives g start)
     c.walk_from-place.result c.args.num _ _ c.walk_from-place.ensures.stops
     c.walk_from-place.ensures.walked i Equal
-    (subst (λ s. EndsWithin c.args.num (asked_at cmp key k o) (order_in number o) s i Equal)
+    (subst (λ s. EndsWithin c.args.num (asked_at cmp key k o) (order_in o) s i Equal)
     (sym c.inx.ensures) ends) in
     ap (option_map {U = ℕ} (λ (p : ℕ × Ordering). p.0))
     (sym (c.found_at.ensures.some c.in-Some.p c.in-Some.is) ∙ ended)
@@ -148,6 +148,6 @@ returns-in-None-clause-ends g c = λ there i ends.
     let ended = linear_ends number cmp key k o _ c.self.view_is c.self.invariant.0 _ (lives g start)
     c.walk_from-place.result c.args.num _ _ c.walk_from-place.ensures.stops
     c.walk_from-place.ensures.walked i Equal
-    (subst (λ s. EndsWithin c.args.num (asked_at cmp key k o) (order_in number o) s i Equal)
+    (subst (λ s. EndsWithin c.args.num (asked_at cmp key k o) (order_in o) s i Equal)
     (sym c.inx.ensures) ends) in
     absurd (c.found_at.ensures.none c.in-None.is i ended)

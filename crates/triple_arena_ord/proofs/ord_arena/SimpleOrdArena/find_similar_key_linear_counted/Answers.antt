@@ -8,14 +8,13 @@ use Rattle.triple_arena_ord.proofs.ord_arena.SimpleOrdArena.find_similar_key_lin
 
 pub returns-clause-similar : goal.returns-clause-similar
 returns-clause-similar g c =
-    let number = g.P.Inx.PtrInxCore.number in
     let cmp = g.T.Key.Ord.cmp in
     let key = g.T.SimpleOrdItem.key_of in
     let k = c.args.k.now in
     let o = c.args.self.now in
-    similar_from number g.P.PtrCore.index g.P.PtrCore.generation (asked_at cmp key k o)
-    (IsAscending number cmp key o) o c.seek_linear-place.ensures.ordered
-    (parts_at number cmp key k g.met.T.Key.Ord.total o c.seek_linear-place.ensures.ordered) _
+    similar_from g.P.PtrCore.index g.P.PtrCore.generation (asked_at cmp key k o)
+    (IsAscending cmp key o) o c.seek_linear-place.ensures.ordered
+    (parts_at cmp key k g.met.T.Key.Ord.total o c.seek_linear-place.ensures.ordered) _
     c.seek_linear-place.ensures.answer c.similar_at.result c.similar_at.ensures.same
     (subst (λ z. IfSome c.similar_at.result
     (λ x. generation_at (entry_in z) (g.P.PtrCore.index x.0)
@@ -29,17 +28,16 @@ similar_at-requires-clause-live g c =
 
 pub returns-clause-bound : goal.returns-clause-bound
 returns-clause-bound g c =
-    few_more _ _ _ _ _ c.seek_linear-place.ensures.ordered c.seek_linear-place.ensures.ticks
+    few_more _ _ _ _ c.seek_linear-place.ensures.ordered c.seek_linear-place.ensures.ticks
 
 pub returns-clause-near : goal.returns-clause-near
 returns-clause-near g c = λ ascending lives hand.
-    let number = g.P.Inx.PtrInxCore.number in
     let cmp = g.T.Key.Ord.cmp in
     let key = g.T.SimpleOrdItem.key_of in
     let k = c.args.k.now in
     let o = c.args.self.now in
     c.seek_linear-place.ensures.near
-    (parts_at number cmp key k g.met.T.Key.Ord.total o c.seek_linear-place.ensures.ordered
+    (parts_at cmp key k g.met.T.Key.Ord.total o c.seek_linear-place.ensures.ordered
     ascending) lives hand
 
 pub returns-clause-ends : goal.returns-clause-ends

@@ -10,7 +10,7 @@ returns-clause-asked g c =
     let bound = c.find_similar_with_counted.ensures.bound in (
       c.find_similar_with_counted.new.probes,
       subst (λ z. IsAsked g.P.PtrCore.index g.P.PtrCore.generation (goal.F-step g)
-          (entry_in c.args.self.now) (order_in g.P.Inx.PtrInxCore.number c.args.self.now) c.args.f
+          (entry_in c.args.self.now) (order_in c.args.self.now) c.args.f
           c.find_similar_with_counted.result z c.find_similar_with_counted.new.probes)
           none c.find_similar_with_counted.ensures.asked,
       omega (arith, none, rank),

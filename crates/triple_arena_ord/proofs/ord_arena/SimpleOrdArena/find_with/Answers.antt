@@ -11,7 +11,7 @@ returns-clause-asked g c =
       c.find_with_counted.new.probes,
       c.find_with_counted.ensures.asked.0,
       subst (λ z. IsAsked g.P.PtrCore.index g.P.PtrCore.generation (goal.F-step g)
-          (entry_in c.args.self.now) (order_in g.P.Inx.PtrInxCore.number c.args.self.now) c.args.f
+          (entry_in c.args.self.now) (order_in c.args.self.now) c.args.f
           c.find_with_counted.ensures.asked.0 z c.find_with_counted.new.probes)
           none c.find_with_counted.ensures.asked.1,
       c.find_with_counted.ensures.asked.2,

@@ -5,7 +5,7 @@ use Rattle.triple_arena_ord.proofs.ord_arena.SimpleOrdArena.find_with_counted.Go
 
 pub returns-in-Equal-clause-found : goal.returns-in-Equal-clause-found
 returns-in-Equal-clause-found g c = λ side by.
-    found_asked g.P.Inx.PtrInxCore.number g.P.PtrCore.index g.P.PtrCore.generation (goal.F-step g)
+    found_asked g.P.PtrCore.index g.P.PtrCore.generation (goal.F-step g)
     c.args.self.now c.find_similar_with_counted.ensures.ordered
     c.args.f c.find_similar_with_counted.result c.args.probes.now
     c.find_similar_with_counted.new.probes c.find_similar_with_counted.ensures.asked side by _
@@ -13,7 +13,7 @@ returns-in-Equal-clause-found g c = λ side by.
 
 pub returns-in-None-clause-found : goal.returns-in-None-clause-found
 returns-in-None-clause-found g c = λ side by.
-    found_asked g.P.Inx.PtrInxCore.number g.P.PtrCore.index g.P.PtrCore.generation (goal.F-step g)
+    found_asked g.P.PtrCore.index g.P.PtrCore.generation (goal.F-step g)
     c.args.self.now c.find_similar_with_counted.ensures.ordered
     c.args.f c.find_similar_with_counted.result c.args.probes.now
     c.find_similar_with_counted.new.probes c.find_similar_with_counted.ensures.asked side by
@@ -30,7 +30,7 @@ returns-in_default g c =
         other,
       );
       found = λ side by.
-          found_asked g.P.Inx.PtrInxCore.number g.P.PtrCore.index g.P.PtrCore.generation
+          found_asked g.P.PtrCore.index g.P.PtrCore.generation
           (goal.F-step g) c.args.self.now c.find_similar_with_counted.ensures.ordered
           c.args.f c.find_similar_with_counted.result c.args.probes.now
           c.find_similar_with_counted.new.probes c.find_similar_with_counted.ensures.asked side

@@ -8,7 +8,7 @@ use Rattle.triple_arena_ord.proofs.ord_arena.SimpleOrdArena.get_or_insert_counte
 pub returns-in-Some-clause-gets : goal.returns-in-Some-clause-gets
 returns-in-Some-clause-gets g c =
     let found = c.seek-place.ensures in
-    gets_found g.P.Inx.PtrInxCore.number g.T.Key.Ord.cmp g.T.SimpleOrdItem.key_of
+    gets_found g.T.Key.Ord.cmp g.T.SimpleOrdItem.key_of
     g.met.T.Key.Ord.total g.P.PtrCore.index g.P.PtrCore.generation
     (Some g.S.NonZeroInxGenericStack.takes_memory) c.args.self.now c.args.t _ c.key.ensures _
     found.ordered found.answer c.in-Some.p (c.found_at.ensures.some _ c.in-Some.is)
@@ -18,14 +18,14 @@ returns-in-Some-clause-gets g c =
 pub returns-in-None-clause-gets : goal.returns-in-None-clause-gets
 returns-in-None-clause-gets g c =
     let found = c.seek-place.ensures in
-    inserts_unfound g.P.Inx.PtrInxCore.number g.T.Key.Ord.cmp g.T.SimpleOrdItem.key_of
+    inserts_unfound g.T.Key.Ord.cmp g.T.SimpleOrdItem.key_of
     g.met.T.Key.Ord.total g.P.PtrCore.index g.P.PtrCore.generation
     (Some g.S.NonZeroInxGenericStack.takes_memory) c.args.self.now c.add_at_reallocating.new.self
     c.args.t _ c.key.ensures _ _ found.ordered found.answer
     (c.found_at.ensures.none c.in-None.is) c.add_at_reallocating.ensures
 
 pub returns-in-Some-clause-few : goal.returns-in-Some-clause-few
-returns-in-Some-clause-few g c = few _ _ _ _ c.seek-place.ensures.ordered c.seek-place.ensures.bound
+returns-in-Some-clause-few g c = few _ _ _ c.seek-place.ensures.ordered c.seek-place.ensures.bound
 
 pub returns-in-None-clause-few : goal.returns-in-None-clause-few
-returns-in-None-clause-few g c = few _ _ _ _ c.seek-place.ensures.ordered c.seek-place.ensures.bound
+returns-in-None-clause-few g c = few _ _ _ c.seek-place.ensures.ordered c.seek-place.ensures.bound

@@ -7,7 +7,7 @@ use Rattle.triple_arena_ord.proofs.ord_arena.SimpleOrdArena.get_or_insert_within
 pub returns-in-Some : goal.returns-in-Some
 returns-in-Some g c =
     let found = c.seek-place.ensures in
-    gets_found g.P.Inx.PtrInxCore.number g.T.Key.Ord.cmp g.T.SimpleOrdItem.key_of
+    gets_found g.T.Key.Ord.cmp g.T.SimpleOrdItem.key_of
     g.met.T.Key.Ord.total g.P.PtrCore.index g.P.PtrCore.generation None c.args.self.now c.args.t
     _ c.key.ensures _ found.ordered found.answer c.in-Some.p
     (c.found_at.ensures.some _ c.in-Some.is)
@@ -17,7 +17,7 @@ returns-in-Some g c =
 pub returns-in-None : goal.returns-in-None
 returns-in-None g c =
     let found = c.seek-place.ensures in
-    inserts_unfound g.P.Inx.PtrInxCore.number g.T.Key.Ord.cmp g.T.SimpleOrdItem.key_of
+    inserts_unfound g.T.Key.Ord.cmp g.T.SimpleOrdItem.key_of
     g.met.T.Key.Ord.total g.P.PtrCore.index g.P.PtrCore.generation None c.args.self.now
     c.add_at_within_capacity.new.self c.args.t _ c.key.ensures _ _ found.ordered found.answer
     (c.found_at.ensures.none c.in-None.is) c.add_at_within_capacity.ensures

@@ -8,12 +8,12 @@ use Rattle.triple_arena_ord.proofs.ord_arena.SimpleOrdArena.inc_generation.Goals
 pub invariant_of-self : goal.invariant_of-self
 invariant_of-self g c =
     let number = g.P.Inx.PtrInxCore.number in
-    let o : Ordered g.row.P-Inx.Denot g.row.T.Denot =
+    let o : Ordered g.row.T.Denot =
     record { chains = c.self.inside.chains; root = option_map number c.self.inside.root } in
-    let p : Ordered g.row.P-Inx.Denot g.row.T.Denot =
+    let p : Ordered g.row.T.Denot =
     record { chains = c.inc_generation.new.self; root = option_map number c.self.inside.root }
     in
-    let r = same_slots_list number o p refl (ap (λ c. c.slots) c.inc_generation.ensures.exact)
+    let r = same_slots_list o p refl (ap (λ c. c.slots) c.inc_generation.ensures.exact)
     c.self.invariant.0 in (
       r.ordered,
       c.self.invariant.1 ∙ ap (λ l. first_or l None) (sym r.order),
@@ -23,11 +23,11 @@ invariant_of-self g c =
 pub returns-clause-ordered : goal.returns-clause-ordered
 returns-clause-ordered g c =
     let number = g.P.Inx.PtrInxCore.number in
-    let o : Ordered g.row.P-Inx.Denot g.row.T.Denot =
+    let o : Ordered g.row.T.Denot =
     record { chains = c.self.inside.chains; root = option_map number c.self.inside.root } in
-    let p : Ordered g.row.P-Inx.Denot g.row.T.Denot =
+    let p : Ordered g.row.T.Denot =
     record { chains = c.inc_generation.new.self; root = option_map number c.self.inside.root }
     in
-    let r = same_slots_list number o p refl (ap (λ c. c.slots) c.inc_generation.ensures.exact)
+    let r = same_slots_list o p refl (ap (λ c. c.slots) c.inc_generation.ensures.exact)
     c.self.invariant.0 in
     r.ordered

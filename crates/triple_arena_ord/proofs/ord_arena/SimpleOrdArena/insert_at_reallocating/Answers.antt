@@ -3,7 +3,7 @@ use Rattle.triple_arena_ord.proofs.ord_arena.SimpleOrdArena.insert_at_reallocati
 
 pub returns-then-replaces : goal.returns-then-replaces
 returns-then-replaces g c =
-    inserts_replacing g.P.Inx.PtrInxCore.number g.P.PtrCore.index g.P.PtrCore.generation _ _
+    inserts_replacing g.P.PtrCore.index g.P.PtrCore.generation _ _
     g.S.NonZeroInxGenericStack.takes_memory _ c.args.self.now
     c.insert_at_within_capacity.new.self (c.replaces.ensures.0 c.if-replaces.true)
     c.insert_at_within_capacity.ensures

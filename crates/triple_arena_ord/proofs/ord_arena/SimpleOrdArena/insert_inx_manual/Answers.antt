@@ -5,15 +5,15 @@ use Rattle.triple_arena_ord.proofs.ord_arena.SimpleOrdArena.insert_inx_manual.Go
 
 pub settle-place-requires-clause-live : goal.settle-place-requires-clause-live
 settle-place-requires-clause-live g c =
-    item-some g.P.Inx.PtrInxCore.number
+    item-some
     (values_in c.args.self.now.chains (g.P.Inx.PtrInxCore.number c.args.p)) c.requires
 
 pub returns-in-Ok : goal.returns-in-Ok
 returns-in-Ok g c =
-    numbered_ok g.P.Inx.PtrInxCore.number g.P.PtrCore.index g.P.PtrCore.generation _ _ _ _ _ _ _ _
+    numbered_ok g.P.PtrCore.index g.P.PtrCore.generation _ _ _ _ _ _ _ _
     c.in-Ok.replaced c.in-Ok.is c.settle-place.ensures.same c.insert_at_reallocating.ensures
 
 pub returns-in-Err : goal.returns-in-Err
 returns-in-Err g c =
-    numbered_err g.P.Inx.PtrInxCore.number g.P.PtrCore.index g.P.PtrCore.generation _ _ _ _ _ _ _
+    numbered_err g.P.PtrCore.index g.P.PtrCore.generation _ _ _ _ _ _ _
     c.in-Err.error c.in-Err.is c.settle-place.ensures.same c.insert_at_reallocating.ensures

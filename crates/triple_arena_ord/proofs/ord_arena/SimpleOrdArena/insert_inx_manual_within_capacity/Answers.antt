@@ -7,5 +7,5 @@ put_at-requires-clause-new g c = λ h.
 
 pub returns : goal.returns
 returns g c =
-    adds_there g.P.Inx.PtrInxCore.number c.args.t c.args.self.now c.put_at.new.self _ _ _ _
+    adds_there c.args.t c.args.self.now c.put_at.new.self _ _ _ _
     c.settle-place.ensures.same c.put_at.ensures

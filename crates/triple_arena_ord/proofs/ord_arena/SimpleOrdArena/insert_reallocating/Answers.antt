@@ -5,7 +5,7 @@ use Rattle.triple_arena_ord.proofs.ord_arena.SimpleOrdArena.insert_reallocating.
 pub returns : goal.returns
 returns g c =
     let found = c.seek-found.ensures in
-    inserts_by_key g.P.Inx.PtrInxCore.number g.T.Key.Ord.cmp g.T.SimpleOrdItem.key_of
+    inserts_by_key g.T.Key.Ord.cmp g.T.SimpleOrdItem.key_of
     g.met.T.Key.Ord.total g.P.PtrCore.index g.P.PtrCore.generation
     (Some g.S.NonZeroInxGenericStack.takes_memory) c.args.self.now
     c.insert_at_reallocating.new.self c.args.t _ c.key.ensures _ _ found.ordered found.answer

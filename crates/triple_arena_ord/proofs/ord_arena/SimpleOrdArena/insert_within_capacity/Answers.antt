@@ -5,7 +5,7 @@ use Rattle.triple_arena_ord.proofs.ord_arena.SimpleOrdArena.insert_within_capaci
 pub returns : goal.returns
 returns g c =
     let found = c.seek-place.ensures in
-    inserts_by_key g.P.Inx.PtrInxCore.number g.T.Key.Ord.cmp g.T.SimpleOrdItem.key_of
+    inserts_by_key g.T.Key.Ord.cmp g.T.SimpleOrdItem.key_of
     g.met.T.Key.Ord.total g.P.PtrCore.index g.P.PtrCore.generation None c.args.self.now
     c.insert_at_within_capacity.new.self c.args.t _ c.key.ensures _ _ found.ordered found.answer
     c.insert_at_within_capacity.ensures

@@ -6,16 +6,15 @@ use Rattle.triple_arena_ord.proofs.ord_arena.SimpleOrdArena.iter_ordered.Goals a
 
 pub invariant_of-result : goal.invariant_of-result
 invariant_of-result g c =
-    let number = g.P.Inx.PtrInxCore.number in
     let o = c.args.self.now in
     let ordered = c.first_index.ensures.ordered in
-    let along = whole number o ordered c.from.result (c.from.ensures.at ∙ c.first_index.ensures.at)
+    let along = whole o ordered c.from.result (c.from.ensures.at ∙ c.first_index.ensures.at)
     c.from.ensures.back in
-    c.len.ensures.value ∙ sym (all_listed number o ordered)
+    c.len.ensures.value ∙ sym (all_listed o ordered)
     ∙ sym (ap (λ w. length (entries_at o w)) along)
 
 pub returns : goal.returns
 returns g c =
     let o = c.args.self.now in
-    ap (entries_at o) (whole g.P.Inx.PtrInxCore.number o c.first_index.ensures.ordered c.from.result
+    ap (entries_at o) (whole o c.first_index.ensures.ordered c.from.result
     (c.from.ensures.at ∙ c.first_index.ensures.at) c.from.ensures.back)

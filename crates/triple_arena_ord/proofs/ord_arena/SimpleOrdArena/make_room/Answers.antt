@@ -11,13 +11,13 @@ use Rattle.triple_arena_ord.proofs.ord_arena.SimpleOrdArena.make_room.Goals as g
 pub invariant_of-self : goal.invariant_of-self
 invariant_of-self g c =
     let number = g.P.Inx.PtrInxCore.number in
-    let o : Ordered g.row.P-Inx.Denot g.row.T.Denot =
+    let o : Ordered g.row.T.Denot =
     record { chains = c.self.inside.chains; root = option_map number c.self.inside.root } in
     let d = c.make_room.new.self in
     let r = room_after (size_in o) o.chains.room in
-    let order = same_order number o d r c.make_room.result c.make_room.ensures.grown
+    let order = same_order o d r c.make_room.result c.make_room.ensures.grown
     c.make_room.ensures.err in (
-      still_ordered number o d r c.make_room.result c.make_room.ensures.grown
+      still_ordered o d r c.make_room.result c.make_room.ensures.grown
           c.make_room.ensures.err c.self.invariant.0,
       c.self.invariant.1 ∙ ap (λ w. first_or w None) order,
       c.self.invariant.2 ∙ ap (last_or None) order,
@@ -26,19 +26,19 @@ invariant_of-self g c =
 pub returns-clause-grown : goal.returns-clause-grown
 returns-clause-grown g c =
     let number = g.P.Inx.PtrInxCore.number in
-    let o : Ordered g.row.P-Inx.Denot g.row.T.Denot =
+    let o : Ordered g.row.T.Denot =
     record { chains = c.self.inside.chains; root = option_map number c.self.inside.root } in
     let d = c.make_room.new.self in
     subst (λ z. OnOk c.make_room.result
-    (IsInRoom number (room_after (size_in z) z.chains.room) z
+    (IsInRoom (room_after (size_in z) z.chains.room) z
     (record { chains = d; root = o.root }))) c.self.view_is
-    (ok_roomier number o d (room_after (size_in o) o.chains.room) c.make_room.result
+    (ok_roomier o d (room_after (size_in o) o.chains.room) c.make_room.result
     c.make_room.ensures.grown)
 
 pub returns-clause-ordered : goal.returns-clause-ordered
 returns-clause-ordered g c =
     let number = g.P.Inx.PtrInxCore.number in
-    let o : Ordered g.row.P-Inx.Denot g.row.T.Denot =
+    let o : Ordered g.row.T.Denot =
     record { chains = c.self.inside.chains; root = option_map number c.self.inside.root } in
-    still_ordered number o c.make_room.new.self (room_after (size_in o) o.chains.room)
+    still_ordered o c.make_room.new.self (room_after (size_in o) o.chains.room)
     c.make_room.result c.make_room.ensures.grown c.make_room.ensures.err c.self.invariant.0

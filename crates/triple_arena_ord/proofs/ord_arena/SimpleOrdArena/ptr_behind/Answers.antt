@@ -1,35 +1,35 @@
 use Rattle.std.proofs.Common.{◌≡◌, ◌∙◌, ap, sym, subst, option_map, IsSome, Some}
 use Rattle.triple_arena_chain.specs.Chains.{next_in, next_at}
 use Rattle.triple_arena_chain.specs.Links.{ends_in}
-use Rattle.triple_arena_ord.specs.Node.{knots_in}
+use Rattle.triple_arena_ord.specs.Node.{nodes_in}
 use Rattle.triple_arena_ord.specs.Ordered.{Ordered}
-use Rattle.triple_arena_ord.proofs.BoundLemmas.{next_lives, knot_lives}
+use Rattle.triple_arena_ord.proofs.BoundLemmas.{next_lives, node_lives}
 use Rattle.triple_arena_ord.proofs.ord_arena.SimpleOrdArena.ptr_behind.Goals.{After-neighbors}
 use Rattle.triple_arena_ord.proofs.ord_arena.SimpleOrdArena.ptr_behind.Goals as goal
 
 -- what is read is the next index
 next : (g : _) (c : After-neighbors g)
-    → next_at (ends_in g.P.Inx.PtrInxCore.number c.args.self.now.chains)
+    → next_at (ends_in c.args.self.now.chains)
     (g.P.Inx.PtrInxCore.number c.args.i)
     ≡ option_map g.P.Inx.PtrInxCore.number c.neighbors.result.1
 next g c =
     let number = g.P.Inx.PtrInxCore.number in
-    subst (λ (z : Ordered g.row.P-Inx.Denot g.row.T.Denot).
-    next_at (ends_in number z.chains) (number c.args.i)
+    subst (λ (z : Ordered g.row.T.Denot).
+    next_at (ends_in z.chains) (number c.args.i)
     ≡ option_map number c.neighbors.result.1) c.self.view_is (ap next_in c.neighbors.ensures)
 
 pub neighbors-requires : goal.neighbors-requires
 neighbors-requires g c =
     let number = g.P.Inx.PtrInxCore.number in
-    subst (λ (z : Ordered g.row.P-Inx.Denot g.row.T.Denot).
-    IsSome (knots_in number z.chains (number c.args.i))) (sym c.self.view_is)
-    (knot_lives number c.args.self.now (number c.args.i) c.requires)
+    subst (λ (z : Ordered g.row.T.Denot).
+    IsSome (nodes_in z.chains (number c.args.i))) (sym c.self.view_is)
+    (node_lives c.args.self.now (number c.args.i) c.requires)
 
 pub ptr_to-requires-clause-live : goal.ptr_to-requires-clause-live
 ptr_to-requires-clause-live g c =
     let number = g.P.Inx.PtrInxCore.number in
     let at = (goal.at.ptr_to-requires-clause-live g c).After-neighbors in
-    next_lives number c.args.self.now c.len.ensures.formed.ordered (number c.args.i) c.requires
+    next_lives c.args.self.now c.len.ensures.formed.ordered (number c.args.i) c.requires
     (number c.in-Some.next)
     (next g at ∙ ap (option_map number) c.in-Some.is)
 

@@ -12,15 +12,15 @@ use Rattle.triple_arena_ord.proofs.ord_arena.SimpleOrdArena.remove_live.Goals as
 pub take_entry-taken-requires-clause-next : goal.take_entry-taken-requires-clause-next
 take_entry-taken-requires-clause-next g c =
     let number = g.P.Inx.PtrInxCore.number in
-    subst (λ z. next_at (ends_in number z.chains) (number c.args.gone)
+    subst (λ z. next_at (ends_in z.chains) (number c.args.gone)
     ≡ option_map number c.args.next) (sym c.self.view_is) (ap next_in c.requires.ends)
 
 pub invariant_of-self : goal.invariant_of-self
 invariant_of-self g c =
     let number = g.P.Inx.PtrInxCore.number in
-    let o : Ordered g.row.P-Inx.Denot g.row.T.Denot =
+    let o : Ordered g.row.T.Denot =
     record { chains = c.self.inside.chains; root = option_map number c.self.inside.root } in
-    let p : Ordered g.row.P-Inx.Denot g.row.T.Denot =
+    let p : Ordered g.row.T.Denot =
     record {
       chains = c.take_entry-taken.new.chains;
       root = option_map number c.take_entry-taken.new.root;
@@ -28,22 +28,22 @@ invariant_of-self g c =
     let h = number c.args.gone in
     let prev = option_map number c.args.prev in
     let next = option_map number c.args.next in
-    let ends = subst (λ z. ends_in number z.chains h ≡ Some (prev, next)) (sym c.self.view_is)
+    let ends = subst (λ z. ends_in z.chains h ≡ Some (prev, next)) (sym c.self.view_is)
     c.requires.ends in (
       c.take_entry-taken.ensures.ordered,
       c.leave_end.ensures
-          ∙ first_lost number o p c.self.invariant.0 h c.take_entry-taken.ensures.order
+          ∙ first_lost o p c.self.invariant.0 h c.take_entry-taken.ensures.order
           prev next ends _ c.self.invariant.1,
-      c.leave_end-2.ensures ∙ last_lost number o p c.self.invariant.0 h
+      c.leave_end-2.ensures ∙ last_lost o p c.self.invariant.0 h
           c.take_entry-taken.ensures.order prev next ends _ c.self.invariant.2,
     )
 
 pub returns-clause-removed : goal.returns-clause-removed
 returns-clause-removed g c =
     let number = g.P.Inx.PtrInxCore.number in
-    let o : Ordered g.row.P-Inx.Denot g.row.T.Denot =
+    let o : Ordered g.row.T.Denot =
     record { chains = c.self.inside.chains; root = option_map number c.self.inside.root } in
-    let p : Ordered g.row.P-Inx.Denot g.row.T.Denot =
+    let p : Ordered g.row.T.Denot =
     record {
       chains = c.take_entry-taken.new.chains;
       root = option_map number c.take_entry-taken.new.root;
@@ -51,8 +51,8 @@ returns-clause-removed g c =
     let h = number c.args.gone in
     let last = g.P.Gen.PtrGenCore.last in
     let done = c.take_entry-taken.ensures in
-    subst (λ z. IsEntryRemoved number last h z p) c.self.view_is
-    (removed number last o p h c.self.invariant.0 done.ordered done.order done.entries done.counter
+    subst (λ z. IsEntryRemoved last h z p) c.self.view_is
+    (removed last o p h c.self.invariant.0 done.ordered done.order done.entries done.counter
     done.free done.slots done.room)
 
 pub returns-clause-overflow : goal.returns-clause-overflow

@@ -8,11 +8,11 @@ use Rattle.triple_arena_ord.proofs.ord_arena.SimpleOrdArena.replace_item.Goals a
 pub invariant_of-self : goal.invariant_of-self
 invariant_of-self g c =
     let number = g.P.Inx.PtrInxCore.number in
-    let o : Ordered g.row.P-Inx.Denot g.row.T.Denot =
+    let o : Ordered g.row.T.Denot =
     record { chains = c.self.inside.chains; root = option_map number c.self.inside.root } in
-    let p : Ordered g.row.P-Inx.Denot g.row.T.Denot =
+    let p : Ordered g.row.T.Denot =
     record { chains = c.renew.new.chains; root = option_map number c.self.inside.root } in
-    let r = renewed_ordered number o p _ _ _ _ refl c.renew.ensures.renewed c.self.invariant.0 in (
+    let r = renewed_ordered o p _ _ _ _ refl c.renew.ensures.renewed c.self.invariant.0 in (
       r.ordered,
       c.self.invariant.1 ∙ ap (λ l. first_or l None) (sym r.order),
       c.self.invariant.2 ∙ ap (last_or None) (sym r.order),
@@ -21,19 +21,19 @@ invariant_of-self g c =
 pub returns-clause-replaced : goal.returns-clause-replaced
 returns-clause-replaced g c =
     let number = g.P.Inx.PtrInxCore.number in
-    let o : Ordered g.row.P-Inx.Denot g.row.T.Denot =
+    let o : Ordered g.row.T.Denot =
     record { chains = c.self.inside.chains; root = option_map number c.self.inside.root } in
-    let p : Ordered g.row.P-Inx.Denot g.row.T.Denot =
+    let p : Ordered g.row.T.Denot =
     record { chains = c.renew.new.chains; root = option_map number c.self.inside.root } in
-    replaced number c.args.self.now o p c.self.view_is _ _ _ _ refl c.renew.ensures.renewed
+    replaced c.args.self.now o p c.self.view_is _ _ _ _ refl c.renew.ensures.renewed
     c.self.invariant.0
 
 pub returns-clause-ordered : goal.returns-clause-ordered
 returns-clause-ordered g c =
     let number = g.P.Inx.PtrInxCore.number in
-    let o : Ordered g.row.P-Inx.Denot g.row.T.Denot =
+    let o : Ordered g.row.T.Denot =
     record { chains = c.self.inside.chains; root = option_map number c.self.inside.root } in
-    let p : Ordered g.row.P-Inx.Denot g.row.T.Denot =
+    let p : Ordered g.row.T.Denot =
     record { chains = c.renew.new.chains; root = option_map number c.self.inside.root } in
-    let r = renewed_ordered number o p _ _ _ _ refl c.renew.ensures.renewed c.self.invariant.0 in
+    let r = renewed_ordered o p _ _ _ _ refl c.renew.ensures.renewed c.self.invariant.0 in
     r.ordered

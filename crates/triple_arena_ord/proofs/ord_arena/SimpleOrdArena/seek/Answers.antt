@@ -6,9 +6,9 @@ use Rattle.std.specs.declared.cmp.Ordering.TheVariants.{Less, Equal, Greater}
 use Rattle.rank_tree.specs.Store.{Store}
 use Rattle.rank_tree.specs.Tree.{Tree}
 use Rattle.rank_tree.specs.Search.{IsAnswer, IsFreeAt}
-use Rattle.rank_tree.specs.Knot.{Knot}
+use Rattle.rank_tree.specs.NodeView.{NodeView}
 use Rattle.triple_arena_chain.specs.Links.{values_in}
-use Rattle.triple_arena_ord.specs.Node.{knots_in}
+use Rattle.triple_arena_ord.specs.Node.{nodes_in}
 use Rattle.triple_arena_ord.specs.Ordered.{asked_at}
 use Rattle.rank_tree.specs.DescentLaws.{Descent, falls_down, descent_ends, descent_asked}
 use Rattle.rank_tree.specs.DescentLaws.{descent_lives}
@@ -44,7 +44,7 @@ answered_so : (f : ℕ → Ordering) (t : Tree) (i : ℕ) (d e : Ordering) → d
     → IsAnswer f t (Some (i, e)) → IsAnswer f t (Some (i, d))
 answered_so f t i d e same = subst (λ o. IsAnswer f t (Some (i, o))) (sym same)
 
-lives_so : (v : Option Knot) (d : Ordering) → d ≡ Equal → IsSome v → IsFreeAt d v
+lives_so : (v : Option NodeView) (d : Ordering) → d ≡ Equal → IsSome v → IsFreeAt d v
 lives_so v d same = subst (λ o. IsFreeAt o v) (sym same)
 
 some_of : {A B : Type 0} (f : A → B) (v : Option A) → IsSome (option_map f v) → IsSome v
@@ -55,22 +55,22 @@ pub get_inx_unwrap-node-requires : goal.get_inx_unwrap-node-requires
 get_inx_unwrap-node-requires g c =
     let i = g.P.Inx.PtrInxCore.number c.in-Some.i in
     let lives = (descent_lives _ _ _ _ _ _ i
-    (ap (option_map g.P.Inx.PtrInxCore.number) (sym c.get.ensures ∙ c.in-Some.is))
+    (sym c.get.ensures ∙ ap (option_map g.P.Inx.PtrInxCore.number) c.in-Some.is)
     c.down.invariant.1.1).1 in
     subst (λ o. IsSome (values_in o.chains i)) (sym c.self.view_is)
     (some_of _ (values_in c.args.self.now.chains i) lives)
 
 -- the node at the link is asked
 step : (g : _) (c : After-cmp-answer g)
-    → Step g.P.Inx.PtrInxCore.number g.T.Key.Ord.cmp g.T.SimpleOrdItem.key_of c.args.k.now
+    → Step g.T.Key.Ord.cmp g.T.SimpleOrdItem.key_of c.args.k.now
     c.args.self.now
     (g.P.Inx.PtrInxCore.number c.in-Some.i) c.get_inx_unwrap-node.result.now c.down.invariant.0
 step g c =
-    seek_step g.P.Inx.PtrInxCore.number g.T.Key.Ord.cmp g.T.SimpleOrdItem.key_of c.args.k.now
+    seek_step g.T.Key.Ord.cmp g.T.SimpleOrdItem.key_of c.args.k.now
     c.args.self.now _ c.self.view_is
     (g.P.Inx.PtrInxCore.number c.in-Some.i) _ _ refl c.get_inx_unwrap-node.ensures _ _
     c.down.invariant.0
-    (ap (option_map g.P.Inx.PtrInxCore.number) (sym c.get.ensures ∙ c.in-Some.is))
+    (sym c.get.ensures ∙ ap (option_map g.P.Inx.PtrInxCore.number) c.in-Some.is)
     c.down.invariant.1.1
 
 asked : (g : _) (c : After-cmp-answer g)
@@ -82,19 +82,17 @@ asked g c = (step g c).is ∙ ap (g.T.Key.Ord.cmp c.args.k.now) (sym c.key.ensur
 pub returns-then-is_none-2-clause-answer : goal.returns-then-is_none-2-clause-answer
 returns-then-is_none-2-clause-answer g c =
     let at = (goal.at.returns-then-is_none-2-clause-answer g c).After-cmp-answer in
-    let number = g.P.Inx.PtrInxCore.number in
-    (leaf_ends _ _ _ _ _ _ (step g at).here (no_child number _ c.if-is_none.ensures)
-    (no_child number _ c.if-is_none-2.ensures) _ (asked g at)).0
+    (leaf_ends _ _ _ _ _ _ (step g at).here (no_child _ c.if-is_none.ensures)
+    (no_child _ c.if-is_none-2.ensures) _ (asked g at)).0
 
 pub returns-then-is_none-2-clause-ticks : goal.returns-then-is_none-2-clause-ticks
 returns-then-is_none-2-clause-ticks g c =
     let taken = c.replace-count.ensures.value in
     let at = (goal.at.returns-then-is_none-2-clause-ticks g c).After-cmp-answer in
-    let number = g.P.Inx.PtrInxCore.number in
     let before = c.down.invariant.1.0 in
     let ticked = c.tick.ensures in
-    let all = (leaf_ends _ _ _ _ _ _ (step g at).here (no_child number _ c.if-is_none.ensures)
-    (no_child number _ c.if-is_none-2.ensures) _ (asked g at)).1 in
+    let all = (leaf_ends _ _ _ _ _ _ (step g at).here (no_child _ c.if-is_none.ensures)
+    (no_child _ c.if-is_none-2.ensures) _ (asked g at)).1 in
     omega (arith, taken, before, ticked, all)
 
 pub down-init : goal.down-init
@@ -103,7 +101,7 @@ down-init g c = (
   (
     (let taken = c.replace-count.ensures.value in omega (arith, taken)),
     rw (c.of-link.ensures)
-        (seek_begins g.P.Inx.PtrInxCore.number g.T.Key.Ord.cmp g.T.SimpleOrdItem.key_of c.args.k.now
+        (seek_begins g.T.Key.Ord.cmp g.T.SimpleOrdItem.key_of c.args.k.now
         c.args.self.now _ c.self.view_is
         c.self.invariant.0),
   ),
@@ -111,9 +109,9 @@ down-init g c = (
 
 pub down-smaller-then-is_lt : goal.down-smaller-then-is_lt
 down-smaller-then-is_lt g c =
-    falls_down (knots_in g.P.Inx.PtrInxCore.number c.args.self.now.chains) _
-    (option_map g.P.Inx.PtrInxCore.number c.get_inx_unwrap-node.result.now.p_tree0) _
-    (ap (option_map g.P.Inx.PtrInxCore.number) (sym c.get.ensures ∙ c.in-Some.is))
+    falls_down (nodes_in c.args.self.now.chains) _
+    c.get_inx_unwrap-node.result.now.p_tree0 _
+    (sym c.get.ensures ∙ ap (option_map g.P.Inx.PtrInxCore.number) c.in-Some.is)
     (step g (goal.at.down-smaller-then-is_lt g c).After-cmp-answer).here.rank_left
 
 pub down-preserved-then-is_lt : goal.down-preserved-then-is_lt
@@ -147,7 +145,7 @@ returns-clause-ticks g c =
     let taken = c.replace-count.ensures.value in
     let before = c.down.invariant.1.0 in
     let all = descent_asked _ _ _ _ _ _
-    (ap (option_map g.P.Inx.PtrInxCore.number) (sym c.get.ensures ∙ c.in_default.is))
+    (sym c.get.ensures ∙ ap (option_map g.P.Inx.PtrInxCore.number) c.in_default.is)
     c.down.invariant.1.1 in
     omega (arith, taken, before, all)
 
@@ -162,9 +160,9 @@ returns-then-is_eq-clause-bound g c =
 
 pub down-smaller : goal.down-smaller
 down-smaller g c =
-    falls_down (knots_in g.P.Inx.PtrInxCore.number c.args.self.now.chains) _
-    (option_map g.P.Inx.PtrInxCore.number c.get_inx_unwrap-node.result.now.p_tree1) _
-    (ap (option_map g.P.Inx.PtrInxCore.number) (sym c.get.ensures ∙ c.in-Some.is))
+    falls_down (nodes_in c.args.self.now.chains) _
+    c.get_inx_unwrap-node.result.now.p_tree1 _
+    (sym c.get.ensures ∙ ap (option_map g.P.Inx.PtrInxCore.number) c.in-Some.is)
     (step g (goal.at.down-smaller g c).After-cmp-answer).here.rank_right
 
 pub down-preserved : goal.down-preserved
@@ -184,7 +182,7 @@ down-preserved g c =
 pub returns-clause-answer : goal.returns-clause-answer
 returns-clause-answer g c =
     descent_ends _ _ _ _ _ _
-    (ap (option_map g.P.Inx.PtrInxCore.number) (sym c.get.ensures ∙ c.in_default.is))
+    (sym c.get.ensures ∙ ap (option_map g.P.Inx.PtrInxCore.number) c.in_default.is)
     c.down.invariant.1.1
 
 pub returns-clause-free : goal.returns-clause-free
@@ -192,12 +190,12 @@ returns-clause-free g c =
     seek_ends g.P.Inx.PtrInxCore.number g.T.Key.Ord.cmp g.T.SimpleOrdItem.key_of c.args.k.now
     c.args.self.now _ c.self.view_is
     c.self.invariant.0 c.before.down.place _ _
-    (ap (option_map g.P.Inx.PtrInxCore.number) (sym c.get.ensures ∙ c.in_default.is))
+    (sym c.get.ensures ∙ ap (option_map g.P.Inx.PtrInxCore.number) c.in_default.is)
     c.down.invariant.1.1
 
 pub returns-then-is_eq-clause-free : goal.returns-then-is_eq-clause-free
 returns-then-is_eq-clause-free g c =
     let equal = equal_of c.cmp-answer.result c.is_eq.result c.is_eq.ensures c.if-is_eq.true in
     lives_so _ _ equal (descent_lives _ _ _ _ _ _ (g.P.Inx.PtrInxCore.number c.in-Some.i)
-    (ap (option_map g.P.Inx.PtrInxCore.number) (sym c.get.ensures ∙ c.in-Some.is))
+    (sym c.get.ensures ∙ ap (option_map g.P.Inx.PtrInxCore.number) c.in-Some.is)
     c.down.invariant.1.1).1

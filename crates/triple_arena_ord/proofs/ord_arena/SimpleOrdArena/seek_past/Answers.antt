@@ -8,7 +8,7 @@ use Rattle.rank_tree.specs.Store.{Store}
 use Rattle.rank_tree.specs.Tree.{Tree}
 use Rattle.triple_arena_chain.specs.Links.{values_in}
 use Rattle.triple_arena_ord.specs.Bounds.{compares_past, way_past}
-use Rattle.triple_arena_ord.specs.Node.{knots_in}
+use Rattle.triple_arena_ord.specs.Node.{nodes_in}
 use Rattle.triple_arena_ord.specs.Ordered.{asked_at}
 use Rattle.rank_tree.specs.DescentLaws.{Descent, falls_down, descent_ends, descent_asked}
 use Rattle.rank_tree.specs.DescentLaws.{descent_lives}
@@ -41,24 +41,24 @@ pub get_inx_unwrap-node-requires : goal.get_inx_unwrap-node-requires
 get_inx_unwrap-node-requires g c =
     let i = g.P.Inx.PtrInxCore.number c.in-Some.i in
     let lives = (descent_lives _ _ _ _ _ _ i
-    (ap (option_map g.P.Inx.PtrInxCore.number) (sym c.get.ensures ∙ c.in-Some.is))
+    (sym c.get.ensures ∙ ap (option_map g.P.Inx.PtrInxCore.number) c.in-Some.is)
     c.down.invariant.1.1).1 in
     subst (λ o. IsSome (values_in o.chains i)) (sym c.self.view_is)
     (some_of _ (values_in c.args.self.now.chains i) lives)
 
 -- the node at the link is asked
 step : (g : _) (c : After-way_past-answer g)
-    → Step g.P.Inx.PtrInxCore.number (compares_past c.args.past g.T.Key.Ord.cmp)
+    → Step (compares_past c.args.past g.T.Key.Ord.cmp)
     g.T.SimpleOrdItem.key_of c.args.k.now
     c.args.self.now
     (g.P.Inx.PtrInxCore.number c.in-Some.i) c.get_inx_unwrap-node.result.now c.down.invariant.0
 step g c =
-    seek_step g.P.Inx.PtrInxCore.number (compares_past c.args.past g.T.Key.Ord.cmp)
+    seek_step (compares_past c.args.past g.T.Key.Ord.cmp)
     g.T.SimpleOrdItem.key_of c.args.k.now
     c.args.self.now _ c.self.view_is
     (g.P.Inx.PtrInxCore.number c.in-Some.i) _ _ refl c.get_inx_unwrap-node.ensures _ _
     c.down.invariant.0
-    (ap (option_map g.P.Inx.PtrInxCore.number) (sym c.get.ensures ∙ c.in-Some.is))
+    (sym c.get.ensures ∙ ap (option_map g.P.Inx.PtrInxCore.number) c.in-Some.is)
     c.down.invariant.1.1
 
 asked : (g : _) (c : After-way_past-answer g)
@@ -75,7 +75,7 @@ down-init g c = (
   (
     (let taken = c.replace-count.ensures.value in omega (arith, taken)),
     rw (c.of-link.ensures)
-        (seek_begins g.P.Inx.PtrInxCore.number (compares_past c.args.past g.T.Key.Ord.cmp)
+        (seek_begins (compares_past c.args.past g.T.Key.Ord.cmp)
         g.T.SimpleOrdItem.key_of c.args.k.now
         c.args.self.now _ c.self.view_is
         c.self.invariant.0),
@@ -84,9 +84,9 @@ down-init g c = (
 
 pub down-smaller-then-is_lt : goal.down-smaller-then-is_lt
 down-smaller-then-is_lt g c =
-    falls_down (knots_in g.P.Inx.PtrInxCore.number c.args.self.now.chains) _
-    (option_map g.P.Inx.PtrInxCore.number c.get_inx_unwrap-node.result.now.p_tree0) _
-    (ap (option_map g.P.Inx.PtrInxCore.number) (sym c.get.ensures ∙ c.in-Some.is))
+    falls_down (nodes_in c.args.self.now.chains) _
+    c.get_inx_unwrap-node.result.now.p_tree0 _
+    (sym c.get.ensures ∙ ap (option_map g.P.Inx.PtrInxCore.number) c.in-Some.is)
     (step g (goal.at.down-smaller-then-is_lt g c).After-way_past-answer).here.rank_left
 
 pub down-preserved-then-is_lt : goal.down-preserved-then-is_lt
@@ -104,15 +104,15 @@ returns-clause-ticks g c =
     let taken = c.replace-count.ensures.value in
     let before = c.down.invariant.1.0 in
     let all = descent_asked _ _ _ _ _ _
-    (ap (option_map g.P.Inx.PtrInxCore.number) (sym c.get.ensures ∙ c.in_default.is))
+    (sym c.get.ensures ∙ ap (option_map g.P.Inx.PtrInxCore.number) c.in_default.is)
     c.down.invariant.1.1 in
     omega (arith, taken, before, all)
 
 pub down-smaller : goal.down-smaller
 down-smaller g c =
-    falls_down (knots_in g.P.Inx.PtrInxCore.number c.args.self.now.chains) _
-    (option_map g.P.Inx.PtrInxCore.number c.get_inx_unwrap-node.result.now.p_tree1) _
-    (ap (option_map g.P.Inx.PtrInxCore.number) (sym c.get.ensures ∙ c.in-Some.is))
+    falls_down (nodes_in c.args.self.now.chains) _
+    c.get_inx_unwrap-node.result.now.p_tree1 _
+    (sym c.get.ensures ∙ ap (option_map g.P.Inx.PtrInxCore.number) c.in-Some.is)
     (step g (goal.at.down-smaller g c).After-way_past-answer).here.rank_right
 
 pub down-preserved : goal.down-preserved
@@ -132,5 +132,5 @@ down-preserved g c =
 pub returns-clause-answer : goal.returns-clause-answer
 returns-clause-answer g c =
     descent_ends _ _ _ _ _ _
-    (ap (option_map g.P.Inx.PtrInxCore.number) (sym c.get.ensures ∙ c.in_default.is))
+    (sym c.get.ensures ∙ ap (option_map g.P.Inx.PtrInxCore.number) c.in_default.is)
     c.down.invariant.1.1

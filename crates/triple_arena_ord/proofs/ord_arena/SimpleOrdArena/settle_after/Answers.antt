@@ -9,7 +9,7 @@ use Rattle.triple_arena_ord.proofs.ord_arena.SimpleOrdArena.settle_after.Goals a
 pub unreached-unreachable-requires : goal.unreached-unreachable-requires
 unreached-unreachable-requires g c =
     let number = g.P.Inx.PtrInxCore.number in
-    let o : Ordered g.row.P-Inx.Denot g.row.T.Denot =
+    let o : Ordered g.row.T.Denot =
     record { chains = c.self.inside.chains; root = option_map number c.self.inside.root } in
     let s = settled_next number o c.self.invariant.0 (number c.args.i) _ c.read.ensures
     c.read.result.right c.if-is_none.ensures refl c.neighbors_beside.result.1
@@ -21,7 +21,7 @@ unreached-unreachable-requires g c =
 pub returns-clause-free : goal.returns-clause-free
 returns-clause-free g c =
     let number = g.P.Inx.PtrInxCore.number in
-    let o : Ordered g.row.P-Inx.Denot g.row.T.Denot =
+    let o : Ordered g.row.T.Denot =
     record { chains = c.self.inside.chains; root = option_map number c.self.inside.root } in
     let s = settled_next number o c.self.invariant.0 (number c.args.i) _ c.read.ensures
     c.read.result.right c.if-is_none.ensures refl c.neighbors_beside.result.1
@@ -32,7 +32,7 @@ returns-clause-free g c =
 pub returns-clause-same : goal.returns-clause-same
 returns-clause-same g c =
     let number = g.P.Inx.PtrInxCore.number in
-    let o : Ordered g.row.P-Inx.Denot g.row.T.Denot =
+    let o : Ordered g.row.T.Denot =
     record { chains = c.self.inside.chains; root = option_map number c.self.inside.root } in
     let s = settled_next number o c.self.invariant.0 (number c.args.i) _ c.read.ensures
     c.read.result.right c.if-is_none.ensures refl c.neighbors_beside.result.1

@@ -1,11 +1,11 @@
 use Rattle.std.proofs.Common.{◌∙◌, ap, sym, subst, IsSome, Some}
-use Rattle.triple_arena_ord.specs.Node.{knots_in}
+use Rattle.triple_arena_ord.specs.Node.{nodes_in}
 use Rattle.triple_arena_ord.proofs.ord_arena.SimpleOrdArena.take_live.Goals as goal
 
 pub neighbors-prev-requires : goal.neighbors-prev-requires
 neighbors-prev-requires g c =
     let number = g.P.Inx.PtrInxCore.number in
-    subst (λ z. IsSome (knots_in number z.chains (number c.args.i))) (sym c.self.view_is)
+    subst (λ z. IsSome (nodes_in z.chains (number c.args.i))) (sym c.self.view_is)
     c.requires
 
 pub returns-then-wrapped : goal.returns-then-wrapped

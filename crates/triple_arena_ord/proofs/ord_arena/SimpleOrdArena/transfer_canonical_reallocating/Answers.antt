@@ -13,14 +13,14 @@ pub rebuild_run-self-inside-requires-clause-linear :
     goal.rebuild_run-self-inside-requires-clause-linear
 rebuild_run-self-inside-requires-clause-linear g c =
     let before = g.Q.Inx.PtrInxCore.number in
-    let o : Ordered g.row.Q-Inx.Denot g.row.U.Denot =
+    let o : Ordered g.row.U.Denot =
     record { chains = c.source.inside.chains; root = option_map before c.source.inside.root } in
     let m = c.in_ok-move_items.ensures.moved in
-    run_linear before g.P.Inx.PtrInxCore.number o c.source.invariant.0 c.move_items.new.target m.0
+    run_linear o c.source.invariant.0 c.move_items.new.target m.0
     m.1.0 c.in_ok-move_items.ensures.filled.live
 
 done : (g : _) (c : goal.After-self-3-1 g)
-    → Transferred g.Q.Inx.PtrInxCore.number g.P.Inx.PtrInxCore.number
+    → Transferred
     (record {
       chains = c.source.inside.chains;
       root = option_map g.Q.Inx.PtrInxCore.number c.source.inside.root;
@@ -40,19 +40,18 @@ done : (g : _) (c : goal.After-self-3-1 g)
       root = option_map g.P.Inx.PtrInxCore.number c.rebuild_run-self-inside.result;
     })
 done g c =
-    let number = g.P.Inx.PtrInxCore.number in
     let before = g.Q.Inx.PtrInxCore.number in
-    let o : Ordered g.row.Q-Inx.Denot g.row.U.Denot =
+    let o : Ordered g.row.U.Denot =
     record { chains = c.source.inside.chains; root = option_map before c.source.inside.root } in
     let m = c.in_ok-move_items.ensures.moved in
-    transferred_by before number o c.source.invariant.0 c.move_items.new.target m.0 m.1.0
+    transferred_by o c.source.invariant.0 c.move_items.new.target m.0 m.1.0
     c.in_ok-move_items.ensures.filled.live _ _ _ _
     c.in_ok-move_items.ensures.filled _ c.rebuild_run-self-inside.ensures.keeps
     c.rebuild_run-self-inside.ensures.rebuilt
 
 pub invariant_of-self-2 : goal.invariant_of-self-2
 invariant_of-self-2 g c =
-    let o : Ordered g.row.Q-Inx.Denot g.row.U.Denot =
+    let o : Ordered g.row.U.Denot =
     record {
       chains = c.source.inside.chains;
       root = option_map g.Q.Inx.PtrInxCore.number c.source.inside.root;
@@ -71,13 +70,13 @@ pub returns-clause-moved : goal.returns-clause-moved
 returns-clause-moved g c =
     let before = g.Q.Inx.PtrInxCore.number in
     let number = g.P.Inx.PtrInxCore.number in
-    let o : Ordered g.row.Q-Inx.Denot g.row.U.Denot =
+    let o : Ordered g.row.U.Denot =
     record { chains = c.source.inside.chains; root = option_map before c.source.inside.root } in
     let d = done g c in
     let m = c.in_ok-move_items.ensures.moved in
     rw (← c.source.view_is) (record {
       moved = transferred_along
-          (nodes_are before number o c.source.invariant.0 c.move_items.new.target m.0 m.1.0
+          (nodes_are o c.source.invariant.0 c.move_items.new.target m.0 m.1.0
           c.in_ok-move_items.ensures.filled.live) d.listed m.1.1;
       order = d.order;
       tree = d.tree;

@@ -18,27 +18,25 @@ loop-p-preserved g c =
       rises = next.rises;
       reaches = λ j some. subst (λ h. j ≤ h) (sym next.high) (inv.reaches j some);
       first =
-          noted_step number c.args.chains.now (λ v. v.0) before after i stamp
+          noted_step c.args.chains.now (λ v. v.0) before after i stamp
           (number c.inx-i.result) _ _ _ inv.first inv.rises step.0 next.low c.inx-i.ensures
           c.neighbors-sides.ensures c.noted-first.ensures;
       last =
-          noted_step number c.args.chains.now (λ v. v.1) before after i stamp
+          noted_step c.args.chains.now (λ v. v.1) before after i stamp
           (number c.inx-i.result) _ _ _ inv.last inv.rises step.0 next.low c.inx-i.ensures
           c.neighbors-sides.ensures c.noted-last.ensures;
     }
 
 pub returns-clause-first : goal.returns-clause-first
 returns-clause-first g c w linear all =
-    let number = g.P.Inx.PtrInxCore.number in
     let inv = c.loop-p.invariant in
-    first_found (ends_in number c.args.chains.now) w _
-    (noted_whole number c.args.chains.now (λ v. v.0) c.loop-p.advancer _ inv.first inv.reaches
+    first_found (ends_in c.args.chains.now) w _
+    (noted_whole c.args.chains.now (λ v. v.0) c.loop-p.advancer _ inv.first inv.reaches
     c.in_default.ensures.given.0) linear all
 
 pub returns-clause-last : goal.returns-clause-last
 returns-clause-last g c w linear all =
-    let number = g.P.Inx.PtrInxCore.number in
     let inv = c.loop-p.invariant in
-    last_found (ends_in number c.args.chains.now) w _
-    (noted_whole number c.args.chains.now (λ v. v.1) c.loop-p.advancer _ inv.last inv.reaches
+    last_found (ends_in c.args.chains.now) w _
+    (noted_whole c.args.chains.now (λ v. v.1) c.loop-p.advancer _ inv.last inv.reaches
     c.in_default.ensures.given.0) linear all

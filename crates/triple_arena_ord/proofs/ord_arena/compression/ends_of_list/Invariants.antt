@@ -10,9 +10,9 @@ invariant-loop-p g l =
     record {
       rises : l.advancer.falls ≡ false;
       reaches : (j : ℕ) → IsSome (values_in l.fn.chains j) → j ≤ l.advancer.high;
-      first : IsNoted (ends_in g.P.Inx.PtrInxCore.number l.fn.chains) (λ v. v.0) l.advancer.low
+      first : IsNoted (ends_in l.fn.chains) (λ v. v.0) l.advancer.low
           (option_map g.P.Inx.PtrInxCore.number l.first);
-      last : IsNoted (ends_in g.P.Inx.PtrInxCore.number l.fn.chains) (λ v. v.1) l.advancer.low
+      last : IsNoted (ends_in l.fn.chains) (λ v. v.1) l.advancer.low
           (option_map g.P.Inx.PtrInxCore.number l.last);
     }
 

@@ -13,7 +13,7 @@ pub returns-clause-exact : goal.returns-clause-exact
 returns-clause-exact g c =
     let moved = c.move_entries-counter.ensures in
     rw c.none-self-inside.ensures
-    (given_up g.Q.Gen.PtrGenCore.last (option_map g.Q.Inx.PtrInxCore.number c.self.inside.head)
+    (given_up g.Q.Gen.PtrGenCore.last c.self.inside.head
     (g.R.NonZeroInxGenericStack.items c.self.inside.slots)
     c.self.view_is moved.emptied (ap (room_of g.Q.Inx.PtrInxCore.greatest) moved.from_room)
     (sym (ap (option_map g.Q.Gen.PtrGenCore.number) c.in-Some.is) ∙ moved.counter))

@@ -5,7 +5,7 @@ use Rattle.triple_arena_chain.proofs.chain_arena.arena_calls.ChainArenaArenaTrai
 
 pub invariant_of-self : goal.invariant_of-self
 invariant_of-self g c =
-    invalidated_chained g.P.Inx.PtrInxCore.number g.P.Gen.PtrGenCore.last
+    invalidated_chained g.P.Gen.PtrGenCore.last
     (λ a. g.P.PtrCore.generation (value_of a)) c.self.inside.arena c.invalidate.new.self
     (g.P.PtrCore.index c.args.p) (answer_of c.invalidate.result) c.self.invariant
     c.invalidate.ensures.formed

@@ -8,7 +8,7 @@ pub returns-in-Some-clause-along : goal.returns-in-Some-clause-along
 returns-in-Some-clause-along g c =
     let live : IsSome (get c.args.self.now (g.P.PtrCore.index c.args.p)
     (g.P.PtrCore.generation c.args.p)) = search rules in
-    walk_along g.P.Inx.PtrInxCore.number c.args.self.now (g.P.PtrCore.index c.args.p)
+    walk_along c.args.self.now (g.P.PtrCore.index c.args.p)
     (g.P.PtrCore.generation c.args.p) _
-    (subst (IsChained g.P.Inx.PtrInxCore.number) c.self.view_is c.self.invariant) live
+    (subst IsChained c.self.view_is c.self.invariant) live
     c.from.ensures

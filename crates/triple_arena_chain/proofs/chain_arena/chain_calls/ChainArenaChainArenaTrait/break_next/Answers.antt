@@ -13,49 +13,50 @@ pub part-requires-clause-after : goal.part-requires-clause-after
 part-requires-clause-after g c =
     let number = g.P.Inx.PtrInxCore.number in
     let is = next_read number
-    (ends_found number c.args.self.now (g.P.PtrCore.index c.args.p)
+    (ends_found c.args.self.now (g.P.PtrCore.index c.args.p)
     (g.P.PtrCore.generation c.args.p)) c.in-Some-default-Some.field-0-0
     c.in-Some-default-Some.field-0-1 c.in-Some-default-Some.next
-    (c.in-Some-default-Some.ensures).numbers c.in-Some-default-Some.field-0-1-is in
+    c.in-Some-default-Some.ensures c.in-Some-default-Some.field-0-1-is in
     let live : IsSome (entry_at c.args.self.now (number c.in-Some-default-Some.next)) =
-    next_live number c.args.self.now (g.P.PtrCore.index c.args.p) (g.P.PtrCore.generation c.args.p)
+    next_live c.args.self.now (g.P.PtrCore.index c.args.p) (g.P.PtrCore.generation c.args.p)
     (number c.in-Some-default-Some.next)
     (option_map number c.in-Some-default-Some.field-0-0) c.recall_chained.ensures is in
     search rules
 
 done : (g : Over) (c : goal.After-part g) (q : ℕ)
-    → next_at (ends_in g.P.Inx.PtrInxCore.number c.args.self.now) (g.P.PtrCore.index c.args.p)
+    → next_at (ends_in c.args.self.now) (g.P.PtrCore.index c.args.p)
     ≡ Some q
-    → Relinked g.P.Inx.PtrInxCore.number
-    (unlinked (ends_in g.P.Inx.PtrInxCore.number c.args.self.now) (g.P.PtrCore.index c.args.p)
+    → Relinked
+    (unlinked (ends_in c.args.self.now) (g.P.PtrCore.index c.args.p)
     q) c.args.self.now c.part.new.arena
 done g c =
     let number = g.P.Inx.PtrInxCore.number in
     let is = next_read number
-    (ends_found number c.args.self.now (g.P.PtrCore.index c.args.p)
+    (ends_found c.args.self.now (g.P.PtrCore.index c.args.p)
     (g.P.PtrCore.generation c.args.p)) c.in-Some-default-Some.field-0-0
     c.in-Some-default-Some.field-0-1 c.in-Some-default-Some.next
-    (c.in-Some-default-Some.ensures).numbers c.in-Some-default-Some.field-0-1-is in
+    c.in-Some-default-Some.ensures c.in-Some-default-Some.field-0-1-is in
     let made : c.part.new.arena
-    ≡ with_prev_of number (with_next_of number c.args.self.now (Some c.inx.result) None)
-    (Some c.in-Some-default-Some.next) None =
+    ≡ with_prev_of (with_next_of c.args.self.now (Some (number c.inx.result)) None)
+    (Some (number c.in-Some-default-Some.next)) None =
     search rules in
-    parted_next number c.args.self.now c.part.new.arena c.inx.result c.in-Some-default-Some.next
+    parted_next c.args.self.now c.part.new.arena (number c.inx.result)
+    (number c.in-Some-default-Some.next)
     (g.P.PtrCore.index c.args.p) (g.P.PtrCore.generation c.args.p)
     (option_map number c.in-Some-default-Some.field-0-0) c.recall_chained.ensures c.inx.ensures is
     made
 
 chained : (g : Over) (c : goal.After-part g)
-    → IsChained g.P.Inx.PtrInxCore.number c.part.new.arena
+    → IsChained c.part.new.arena
 chained g c =
     let number = g.P.Inx.PtrInxCore.number in
     let is = next_read number
-    (ends_found number c.args.self.now (g.P.PtrCore.index c.args.p)
+    (ends_found c.args.self.now (g.P.PtrCore.index c.args.p)
     (g.P.PtrCore.generation c.args.p)) c.in-Some-default-Some.field-0-0
     c.in-Some-default-Some.field-0-1 c.in-Some-default-Some.next
-    (c.in-Some-default-Some.ensures).numbers c.in-Some-default-Some.field-0-1-is in
+    c.in-Some-default-Some.ensures c.in-Some-default-Some.field-0-1-is in
     (done g c (number c.in-Some-default-Some.next)
-    (next_found number c.args.self.now (g.P.PtrCore.index c.args.p)
+    (next_found c.args.self.now (g.P.PtrCore.index c.args.p)
     (g.P.PtrCore.generation c.args.p) (number c.in-Some-default-Some.next)
     (option_map number c.in-Some-default-Some.field-0-0) is)).chained
 
@@ -68,7 +69,7 @@ returns-clause-formed g c = chained g c
 pub returns-clause-lists : goal.returns-clause-lists
 returns-clause-lists g c q next =
     let number = g.P.Inx.PtrInxCore.number in
-    is_split (ends_in number c.args.self.now) (ends_in number c.part.new.arena)
+    is_split (ends_in c.args.self.now) (ends_in c.part.new.arena)
     (g.P.PtrCore.index c.args.p) q c.recall_chained.ensures.agreed
     (chained g c).agreed next (done g c q next).relinked.ends
 

@@ -10,45 +10,46 @@ use Rattle.triple_arena_chain.proofs.chain_arena.chain_calls.ChainArenaChainAren
 pub part-requires-clause-before : goal.part-requires-clause-before
 part-requires-clause-before g c =
     let number = g.P.Inx.PtrInxCore.number in
-    let is = sym (c.in-Some-Some-default.ensures).numbers
+    let is = sym c.in-Some-Some-default.ensures
     ∙ ap (λ o. Some (option_map number o, option_map number c.in-Some-Some-default.field-0-1))
     c.in-Some-Some-default.field-0-0-is in
     let live : IsSome (entry_at c.args.self.now (number c.in-Some-Some-default.prev)) =
-    prev_live number c.args.self.now (g.P.PtrCore.index c.args.p) (g.P.PtrCore.generation c.args.p)
+    prev_live c.args.self.now (g.P.PtrCore.index c.args.p) (g.P.PtrCore.generation c.args.p)
     (number c.in-Some-Some-default.prev)
     (option_map number c.in-Some-Some-default.field-0-1) c.recall_chained.ensures is in
     search rules
 
 done : (g : Over) (c : goal.After-part g) (q : ℕ)
-    → prev_at (ends_in g.P.Inx.PtrInxCore.number c.args.self.now) (g.P.PtrCore.index c.args.p)
+    → prev_at (ends_in c.args.self.now) (g.P.PtrCore.index c.args.p)
     ≡ Some q
-    → Relinked g.P.Inx.PtrInxCore.number
-    (unlinked (ends_in g.P.Inx.PtrInxCore.number c.args.self.now) q
+    → Relinked
+    (unlinked (ends_in c.args.self.now) q
     (g.P.PtrCore.index c.args.p)) c.args.self.now c.part.new.arena
 done g c =
     let number = g.P.Inx.PtrInxCore.number in
-    let is = sym (c.in-Some-Some-default.ensures).numbers
+    let is = sym c.in-Some-Some-default.ensures
     ∙ ap (λ o. Some (option_map number o, option_map number c.in-Some-Some-default.field-0-1))
     c.in-Some-Some-default.field-0-0-is in
     let made : c.part.new.arena
-    ≡ with_prev_of number
-    (with_next_of number c.args.self.now (Some c.in-Some-Some-default.prev) None)
-    (Some c.inx.result) None =
+    ≡ with_prev_of
+    (with_next_of c.args.self.now (Some (number c.in-Some-Some-default.prev)) None)
+    (Some (number c.inx.result)) None =
     search rules in
-    parted_prev number c.args.self.now c.part.new.arena c.in-Some-Some-default.prev c.inx.result
+    parted_prev c.args.self.now c.part.new.arena (number c.in-Some-Some-default.prev)
+    (number c.inx.result)
     (g.P.PtrCore.index c.args.p) (g.P.PtrCore.generation c.args.p)
     (option_map number c.in-Some-Some-default.field-0-1) c.recall_chained.ensures c.inx.ensures is
     made
 
 chained : (g : Over) (c : goal.After-part g)
-    → IsChained g.P.Inx.PtrInxCore.number c.part.new.arena
+    → IsChained c.part.new.arena
 chained g c =
     let number = g.P.Inx.PtrInxCore.number in
-    let is = sym (c.in-Some-Some-default.ensures).numbers
+    let is = sym c.in-Some-Some-default.ensures
     ∙ ap (λ o. Some (option_map number o, option_map number c.in-Some-Some-default.field-0-1))
     c.in-Some-Some-default.field-0-0-is in
     (done g c (number c.in-Some-Some-default.prev)
-    (prev_found number c.args.self.now (g.P.PtrCore.index c.args.p)
+    (prev_found c.args.self.now (g.P.PtrCore.index c.args.p)
     (g.P.PtrCore.generation c.args.p) (number c.in-Some-Some-default.prev)
     (option_map number c.in-Some-Some-default.field-0-1) is)).chained
 
@@ -62,7 +63,7 @@ pub returns-clause-lists : goal.returns-clause-lists
 returns-clause-lists g c q prev =
     let number = g.P.Inx.PtrInxCore.number in
     let agreed = c.recall_chained.ensures.agreed in
-    is_split (ends_in number c.args.self.now) (ends_in number c.part.new.arena) q
+    is_split (ends_in c.args.self.now) (ends_in c.part.new.arena) q
     (g.P.PtrCore.index c.args.p) agreed
     (chained g c).agreed (agreed.backward q (g.P.PtrCore.index c.args.p) prev)
     (done g c q prev).relinked.ends

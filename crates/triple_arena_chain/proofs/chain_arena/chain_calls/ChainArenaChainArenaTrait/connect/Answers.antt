@@ -8,8 +8,8 @@ use Rattle.triple_arena_chain.proofs.chain_arena.chain_calls.ChainArenaChainAren
 use Rattle.triple_arena_chain.proofs.chain_arena.chain_calls.ChainArenaChainArenaTrait.connect.Goals as goal
 
 done : (g : Over) (c : goal.After-follow g)
-    → Relinked g.P.Inx.PtrInxCore.number
-    (linked (ends_in g.P.Inx.PtrInxCore.number c.args.self.now) (g.P.PtrCore.index c.args.p)
+    → Relinked
+    (linked (ends_in c.args.self.now) (g.P.PtrCore.index c.args.p)
     (g.P.PtrCore.index c.args.q)) c.args.self.now
     c.follow.new.arena
 done g c =
@@ -20,13 +20,13 @@ done g c =
     let gp = g.P.PtrCore.generation c.args.p in
     let gq = g.P.PtrCore.generation c.args.q in
     let gap = gap_by number c.in-Some.field-0 in
-    let bridge : at_bridge p q (ends_found number old p gp) (ends_found number old q gq)
+    let bridge : at_bridge p q (ends_found old p gp) (ends_found old q gq)
     ≡ Some gap = search rules in
     let made : c.follow.new.arena
-    ≡ with_prev_of number (with_next_of number old (Some c.inx-i.result) (Some c.inx-j.result))
-    (Some c.inx-j.result) (Some c.inx-i.result) =
+    ≡ with_prev_of (with_next_of old (Some (number c.inx-i.result)) (Some (number c.inx-j.result)))
+    (Some (number c.inx-j.result)) (Some (number c.inx-i.result)) =
     search rules in
-    connected number old c.follow.new.arena c.inx-i.result c.inx-j.result p gp q gq gap
+    connected old c.follow.new.arena (number c.inx-i.result) (number c.inx-j.result) p gp q gq gap
     c.recall_chained.ensures c.inx-i.ensures c.inx-j.ensures bridge made
 
 pub invariant_of-self : goal.invariant_of-self
@@ -39,7 +39,7 @@ pub returns-clause-lists : goal.returns-clause-lists
 returns-clause-lists g c =
     let number = g.P.Inx.PtrInxCore.number in
     let d = done g c in
-    is_appended (ends_in number c.args.self.now) (ends_in number c.follow.new.arena)
+    is_appended (ends_in c.args.self.now) (ends_in c.follow.new.arena)
     (g.P.PtrCore.index c.args.p) (g.P.PtrCore.index c.args.q) d.chained.agreed
     d.relinked.ends
 

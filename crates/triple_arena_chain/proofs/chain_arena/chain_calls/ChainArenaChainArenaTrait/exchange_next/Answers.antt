@@ -13,13 +13,13 @@ pub follow-requires-clause-after : goal.follow-requires-clause-after
 follow-requires-clause-after g c =
     let number = g.P.Inx.PtrInxCore.number in
     let at_q = next_read number
-    (ends_found number c.args.self.now (g.P.PtrCore.index c.args.q)
+    (ends_found c.args.self.now (g.P.PtrCore.index c.args.q)
     (g.P.PtrCore.generation c.args.q)) c.in-Some-default-Some-ends_of.field-0-0
     c.in-Some-default-Some-ends_of.field-0-1 c.in-Some-default-Some-ends_of.t
-    (c.in-Some-default-Some-ends_of.ensures).numbers c.in-Some-default-Some-ends_of.field-0-1-is
+    c.in-Some-default-Some-ends_of.ensures c.in-Some-default-Some-ends_of.field-0-1-is
     in
     let live : IsSome (entry_at c.args.self.now (number c.in-Some-default-Some-ends_of.t)) =
-    next_live number c.args.self.now (g.P.PtrCore.index c.args.q) (g.P.PtrCore.generation c.args.q)
+    next_live c.args.self.now (g.P.PtrCore.index c.args.q) (g.P.PtrCore.generation c.args.q)
     (number c.in-Some-default-Some-ends_of.t)
     (option_map number c.in-Some-default-Some-ends_of.field-0-0) c.recall_chained.ensures at_q in
     search rules
@@ -28,21 +28,23 @@ pub follow-requires-2-clause-before : goal.follow-requires-2-clause-before
 follow-requires-2-clause-before g c =
     let number = g.P.Inx.PtrInxCore.number in
     let at_q = next_read number
-    (ends_found number c.args.self.now (g.P.PtrCore.index c.args.q)
+    (ends_found c.args.self.now (g.P.PtrCore.index c.args.q)
     (g.P.PtrCore.generation c.args.q)) c.in-Some-default-Some-ends_of.field-0-0
     c.in-Some-default-Some-ends_of.field-0-1 c.in-Some-default-Some-ends_of.t
-    (c.in-Some-default-Some-ends_of.ensures).numbers c.in-Some-default-Some-ends_of.field-0-1-is
+    c.in-Some-default-Some-ends_of.ensures c.in-Some-default-Some-ends_of.field-0-1-is
     in
     let first : c.follow.new.arena
-    ≡ with_prev_of number
-    (with_next_of number c.args.self.now (Some c.inx-i.result)
-    (Some c.in-Some-default-Some-ends_of.t))
-    (Some c.in-Some-default-Some-ends_of.t) (Some c.inx-i.result) = search rules in
-    live_written number c.args.self.now c.follow.new.arena (Some c.inx-i.result)
-    (Some c.in-Some-default-Some-ends_of.t) (Some c.in-Some-default-Some-ends_of.t)
-    (Some c.inx-i.result)
+    ≡ with_prev_of
+    (with_next_of c.args.self.now (Some (number c.inx-i.result))
+    (Some (number c.in-Some-default-Some-ends_of.t)))
+    (Some (number c.in-Some-default-Some-ends_of.t)) (Some (number c.inx-i.result)) = search rules
+    in
+    live_written c.args.self.now c.follow.new.arena (Some (number c.inx-i.result))
+    (Some (number c.in-Some-default-Some-ends_of.t))
+    (Some (number c.in-Some-default-Some-ends_of.t))
+    (Some (number c.inx-i.result))
     (number c.inx-j.result) first
-    (found_live number c.args.self.now c.inx-j.result (g.P.PtrCore.index c.args.q)
+    (found_live c.args.self.now (number c.inx-j.result) (g.P.PtrCore.index c.args.q)
     (g.P.PtrCore.generation c.args.q) (
       option_map number c.in-Some-default-Some-ends_of.field-0-0,
       Some (number c.in-Some-default-Some-ends_of.t),
@@ -52,53 +54,57 @@ pub follow-requires-2-clause-after : goal.follow-requires-2-clause-after
 follow-requires-2-clause-after g c =
     let number = g.P.Inx.PtrInxCore.number in
     let at_p = next_read number
-    (ends_found number c.args.self.now (g.P.PtrCore.index c.args.p)
+    (ends_found c.args.self.now (g.P.PtrCore.index c.args.p)
     (g.P.PtrCore.generation c.args.p)) c.in-Some-default-Some.field-0-0
     c.in-Some-default-Some.field-0-1 c.in-Some-default-Some.s
-    (c.in-Some-default-Some.ensures).numbers c.in-Some-default-Some.field-0-1-is in
+    c.in-Some-default-Some.ensures c.in-Some-default-Some.field-0-1-is in
     let first : c.follow.new.arena
-    ≡ with_prev_of number
-    (with_next_of number c.args.self.now (Some c.inx-i.result)
-    (Some c.in-Some-default-Some-ends_of.t))
-    (Some c.in-Some-default-Some-ends_of.t) (Some c.inx-i.result) = search rules in
-    live_written number c.args.self.now c.follow.new.arena (Some c.inx-i.result)
-    (Some c.in-Some-default-Some-ends_of.t) (Some c.in-Some-default-Some-ends_of.t)
-    (Some c.inx-i.result)
+    ≡ with_prev_of
+    (with_next_of c.args.self.now (Some (number c.inx-i.result))
+    (Some (number c.in-Some-default-Some-ends_of.t)))
+    (Some (number c.in-Some-default-Some-ends_of.t)) (Some (number c.inx-i.result)) = search rules
+    in
+    live_written c.args.self.now c.follow.new.arena (Some (number c.inx-i.result))
+    (Some (number c.in-Some-default-Some-ends_of.t))
+    (Some (number c.in-Some-default-Some-ends_of.t))
+    (Some (number c.inx-i.result))
     (number c.in-Some-default-Some.s) first
-    (next_live number c.args.self.now (g.P.PtrCore.index c.args.p) (g.P.PtrCore.generation c.args.p)
+    (next_live c.args.self.now (g.P.PtrCore.index c.args.p) (g.P.PtrCore.generation c.args.p)
     (number c.in-Some-default-Some.s)
     (option_map number c.in-Some-default-Some.field-0-0) c.recall_chained.ensures at_p)
 
 done : (g : Over) (c : goal.After-follow-2 g) (s t : ℕ)
-    → next_at (ends_in g.P.Inx.PtrInxCore.number c.args.self.now) (g.P.PtrCore.index c.args.p)
+    → next_at (ends_in c.args.self.now) (g.P.PtrCore.index c.args.p)
     ≡ Some s
-    → next_at (ends_in g.P.Inx.PtrInxCore.number c.args.self.now) (g.P.PtrCore.index c.args.q)
+    → next_at (ends_in c.args.self.now) (g.P.PtrCore.index c.args.q)
     ≡ Some t
-    → Relinked g.P.Inx.PtrInxCore.number
-    (exchanged (ends_in g.P.Inx.PtrInxCore.number c.args.self.now) (g.P.PtrCore.index c.args.p)
+    → Relinked
+    (exchanged (ends_in c.args.self.now) (g.P.PtrCore.index c.args.p)
     (g.P.PtrCore.index c.args.q) s t) c.args.self.now
     c.follow-2.new.arena
 done g c =
     let number = g.P.Inx.PtrInxCore.number in
     let at_p = next_read number
-    (ends_found number c.args.self.now (g.P.PtrCore.index c.args.p)
+    (ends_found c.args.self.now (g.P.PtrCore.index c.args.p)
     (g.P.PtrCore.generation c.args.p)) c.in-Some-default-Some.field-0-0
     c.in-Some-default-Some.field-0-1 c.in-Some-default-Some.s
-    (c.in-Some-default-Some.ensures).numbers c.in-Some-default-Some.field-0-1-is in
+    c.in-Some-default-Some.ensures c.in-Some-default-Some.field-0-1-is in
     let at_q = next_read number
-    (ends_found number c.args.self.now (g.P.PtrCore.index c.args.q)
+    (ends_found c.args.self.now (g.P.PtrCore.index c.args.q)
     (g.P.PtrCore.generation c.args.q)) c.in-Some-default-Some-ends_of.field-0-0
     c.in-Some-default-Some-ends_of.field-0-1 c.in-Some-default-Some-ends_of.t
-    (c.in-Some-default-Some-ends_of.ensures).numbers c.in-Some-default-Some-ends_of.field-0-1-is
+    c.in-Some-default-Some-ends_of.ensures c.in-Some-default-Some-ends_of.field-0-1-is
     in
     let first : c.follow.new.arena
-    ≡ with_prev_of number
-    (with_next_of number c.args.self.now (Some c.inx-i.result)
-    (Some c.in-Some-default-Some-ends_of.t))
-    (Some c.in-Some-default-Some-ends_of.t) (Some c.inx-i.result) = search rules in
-    exchanged_at number c.args.self.now c.follow.new.arena c.follow-2.new.arena c.inx-i.result
-    c.inx-j.result c.in-Some-default-Some.s
-    c.in-Some-default-Some-ends_of.t (g.P.PtrCore.index c.args.p) (g.P.PtrCore.generation c.args.p)
+    ≡ with_prev_of
+    (with_next_of c.args.self.now (Some (number c.inx-i.result))
+    (Some (number c.in-Some-default-Some-ends_of.t)))
+    (Some (number c.in-Some-default-Some-ends_of.t)) (Some (number c.inx-i.result)) = search rules
+    in
+    exchanged_at c.args.self.now c.follow.new.arena c.follow-2.new.arena (number c.inx-i.result)
+    (number c.inx-j.result) (number c.in-Some-default-Some.s)
+    (number c.in-Some-default-Some-ends_of.t) (g.P.PtrCore.index c.args.p)
+    (g.P.PtrCore.generation c.args.p)
     (g.P.PtrCore.index c.args.q) (g.P.PtrCore.generation c.args.q)
     (option_map number c.in-Some-default-Some.field-0-0)
     (option_map number c.in-Some-default-Some-ends_of.field-0-0) c.recall_chained.ensures
@@ -107,34 +113,34 @@ done g c =
 
 -- the nexts that were there
 both : (g : Over) (c : goal.After-follow-2 g)
-    → (next_at (ends_in g.P.Inx.PtrInxCore.number c.args.self.now) (g.P.PtrCore.index c.args.p)
+    → (next_at (ends_in c.args.self.now) (g.P.PtrCore.index c.args.p)
     ≡ Some (g.P.Inx.PtrInxCore.number c.in-Some-default-Some.s))
-    × (next_at (ends_in g.P.Inx.PtrInxCore.number c.args.self.now) (g.P.PtrCore.index c.args.q)
+    × (next_at (ends_in c.args.self.now) (g.P.PtrCore.index c.args.q)
     ≡ Some (g.P.Inx.PtrInxCore.number c.in-Some-default-Some-ends_of.t))
 both g c =
     let number = g.P.Inx.PtrInxCore.number in
     let at_p = next_read number
-    (ends_found number c.args.self.now (g.P.PtrCore.index c.args.p)
+    (ends_found c.args.self.now (g.P.PtrCore.index c.args.p)
     (g.P.PtrCore.generation c.args.p)) c.in-Some-default-Some.field-0-0
     c.in-Some-default-Some.field-0-1 c.in-Some-default-Some.s
-    (c.in-Some-default-Some.ensures).numbers c.in-Some-default-Some.field-0-1-is in
+    c.in-Some-default-Some.ensures c.in-Some-default-Some.field-0-1-is in
     let at_q = next_read number
-    (ends_found number c.args.self.now (g.P.PtrCore.index c.args.q)
+    (ends_found c.args.self.now (g.P.PtrCore.index c.args.q)
     (g.P.PtrCore.generation c.args.q)) c.in-Some-default-Some-ends_of.field-0-0
     c.in-Some-default-Some-ends_of.field-0-1 c.in-Some-default-Some-ends_of.t
-    (c.in-Some-default-Some-ends_of.ensures).numbers c.in-Some-default-Some-ends_of.field-0-1-is
+    c.in-Some-default-Some-ends_of.ensures c.in-Some-default-Some-ends_of.field-0-1-is
     in (
-      next_found number c.args.self.now (g.P.PtrCore.index c.args.p)
+      next_found c.args.self.now (g.P.PtrCore.index c.args.p)
           (g.P.PtrCore.generation c.args.p) (number c.in-Some-default-Some.s)
           (option_map number c.in-Some-default-Some.field-0-0) at_p,
-      next_found number c.args.self.now (g.P.PtrCore.index c.args.q)
+      next_found c.args.self.now (g.P.PtrCore.index c.args.q)
           (g.P.PtrCore.generation c.args.q) (number c.in-Some-default-Some-ends_of.t)
           (option_map number c.in-Some-default-Some-ends_of.field-0-0) at_q,
     )
 
 all : (g : Over) (c : goal.After-follow-2 g)
-    → Relinked g.P.Inx.PtrInxCore.number
-    (exchanged (ends_in g.P.Inx.PtrInxCore.number c.args.self.now) (g.P.PtrCore.index c.args.p)
+    → Relinked
+    (exchanged (ends_in c.args.self.now) (g.P.PtrCore.index c.args.p)
     (g.P.PtrCore.index c.args.q)
     (g.P.Inx.PtrInxCore.number c.in-Some-default-Some.s)
     (g.P.Inx.PtrInxCore.number c.in-Some-default-Some-ends_of.t))
@@ -156,7 +162,7 @@ returns-clause-lists g c =
     let number = g.P.Inx.PtrInxCore.number in
     let nexts = both g c in
     let one = all g c in
-    is_exchanged (ends_in number c.args.self.now) (ends_in number c.follow-2.new.arena)
+    is_exchanged (ends_in c.args.self.now) (ends_in c.follow-2.new.arena)
     (g.P.PtrCore.index c.args.p) (g.P.PtrCore.index c.args.q)
     (number c.in-Some-default-Some.s) (number c.in-Some-default-Some-ends_of.t)
     c.recall_chained.ensures.agreed one.chained.agreed nexts.0 nexts.1

@@ -13,7 +13,7 @@ returns-clause-inserts g c =
     let is : gap_among g.P.PtrCore.index g.P.PtrCore.generation number old c.args.kind.now
     ≡ Some (gap_by number c.in_ok-gap.gap) = search rules in
     let inserted =
-    inserted-grown number old c.gap_reallocating.new.self c.put.new.self
+    inserted-grown old c.gap_reallocating.new.self c.put.new.self
     (gap_by number c.in_ok-gap.gap) (g.P.PtrCore.index c.put.result)
     (g.P.PtrCore.generation c.put.result) c.args.t grown c.put.ensures.inserted in
     record {

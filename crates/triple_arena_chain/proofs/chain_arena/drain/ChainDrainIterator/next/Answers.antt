@@ -11,9 +11,9 @@ returns-in_err-item-clause-steps g c =
     let number = g.P.Inx.PtrInxCore.number in
     let old = c.args.self.now.chains.now in
     let at = ap (option_map number) c.in_ok-i.was in
-    let walk = subst (λ o. IsWalk (ends_in number old) o c.requires.0) at c.requires.1 in
+    let walk = subst (λ o. IsWalk (ends_in old) o c.requires.0) at c.requires.1 in
     let live : IsSome (entry_at old (number c.in_ok-i.i)) =
-    walk_live number g.P.Gen.PtrGenCore.last old (number c.in_ok-i.i) c.requires.0 walk in
+    walk_live g.P.Gen.PtrGenCore.last old (number c.in_ok-i.i) c.requires.0 walk in
     absurd (let never : false ≡ true = c.in_err-item.ensures.variant.1 live in cc)
 
 pub returns-clause-steps : goal.returns-clause-steps
@@ -24,11 +24,11 @@ returns-clause-steps g c =
     let at = ap (option_map number) c.in_ok-i.was in
     let step = c.in_ok-item.ensures.step in
     let rest = step.goes_on c.requires.0
-    (subst (λ o. IsWalk (ends_in number old) o c.requires.0) at c.requires.1) in (
+    (subst (λ o. IsWalk (ends_in old) o c.requires.0) at c.requires.1) in (
       (number c.in_ok-i.i, at, step),
       (
         refl,
-        λ left leaves. subst (λ o. IsRestDrained number last o old left) (sym at)
+        λ left leaves. subst (λ o. IsRestDrained last o old left) (sym at)
             (step.leaves left leaves),
       ),
       (rest.0, rest.2),
@@ -41,7 +41,7 @@ returns-clause-goes g c =
     let at = ap (option_map number) c.in_ok-i.was in
     let step = c.in_ok-item.ensures.step in
     let rest = step.goes_on c.requires.0
-    (subst (λ o. IsWalk (ends_in number old) o c.requires.0) at c.requires.1) in
+    (subst (λ o. IsWalk (ends_in old) o c.requires.0) at c.requires.1) in
     let fewer : live_count c.take_first.new.self + 1 ≡ live_count old = step.taken.live in
     let less : live_count c.take_first.new.self < live_count old = omega (arith, fewer) in
     record {

@@ -12,13 +12,13 @@ invariant_of-self g c =
     let i = number c.in_ok-i.i in
     let here : Some (g.P.Gen.PtrGenCore.number c.in-Some.generation, c.in-Some.link.now)
     ≡ entry_at chains i = search rules in
-    let shown = ap (option_map (entry_ends number)) (sym here) in
-    let next : option_map number c.turned-start.result.1 ≡ Some i = search rules in
-    (link_given number chains _ (option_map number c.turned-start.result.0)
-    (option_map number c.turned-start.result.1)
-    (option_map number c.onward-start.result.0) (option_map number c.onward-start.result.1) i _ _
+    let shown = ap (option_map entry_ends) (sym here) in
+    let next : c.turned-start.result.1 ≡ Some i = search rules in
+    (link_given chains _ c.turned-start.result.0
+    c.turned-start.result.1
+    c.onward-start.result.0 c.onward-start.result.1 i _ _
     c.self.invariant c.turned-start.ensures.same next here
-    (c.onward-start.ensures (ends_in number chains) i (search (shown, rules)))).1
+    (c.onward-start.ensures (ends_in chains) i (search (shown, rules)))).1
 
 pub returns-clause-steps : goal.returns-clause-steps
 returns-clause-steps g c =
@@ -27,13 +27,13 @@ returns-clause-steps g c =
     let i = number c.in_ok-i.i in
     let here : Some (g.P.Gen.PtrGenCore.number c.in-Some.generation, c.in-Some.link.now)
     ≡ entry_at chains i = search rules in
-    let shown = ap (option_map (entry_ends number)) (sym here) in
-    let next : option_map number c.turned-start.result.1 ≡ Some i = search rules in
-    let given = link_given number chains _ (option_map number c.turned-start.result.0)
-    (option_map number c.turned-start.result.1)
-    (option_map number c.onward-start.result.0) (option_map number c.onward-start.result.1) i _ _
+    let shown = ap (option_map entry_ends) (sym here) in
+    let next : c.turned-start.result.1 ≡ Some i = search rules in
+    let given = link_given chains _ c.turned-start.result.0
+    c.turned-start.result.1
+    c.onward-start.result.0 c.onward-start.result.1 i _ _
     c.self.invariant c.turned-start.ensures.same next here
-    (c.onward-start.ensures (ends_in number chains) i (search (shown, rules))) in
+    (c.onward-start.ensures (ends_in chains) i (search (shown, rules))) in
     sym c.self.view_is ∙ given.0 ∙ search rules
 
 pub returns-clause-goes : goal.returns-clause-goes

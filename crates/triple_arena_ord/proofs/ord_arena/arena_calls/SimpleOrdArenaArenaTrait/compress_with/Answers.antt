@@ -14,22 +14,22 @@ pub rebuild-self-inside-requires : goal.rebuild-self-inside-requires
 rebuild-self-inside-requires g c =
     let number = g.P.Inx.PtrInxCore.number in
     let last = g.P.Gen.PtrGenCore.last in
-    let o : Ordered g.row.P-Inx.Denot g.row.T.Denot =
+    let o : Ordered g.row.T.Denot =
     record { chains = c.self.inside.chains; root = option_map number c.self.inside.root } in
     let mid = c.compact_nodes-answer.new.arena in
     let made = c.compact_nodes-answer.ensures in
-    let w = moved number last c.args.reset o mid c.self.invariant.0 made.compressed made.exact in
-    let linear = moved_linear number last c.args.reset o mid c.self.invariant.0 made.compressed
+    let w = moved last c.args.reset o mid c.self.invariant.0 made.compressed made.exact in
+    let linear = moved_linear last c.args.reset o mid c.self.invariant.0 made.compressed
     made.exact in (
       w,
       linear,
-      moved_long number last c.args.reset o mid c.self.invariant.0 made.compressed made.exact,
+      moved_long last c.args.reset o mid c.self.invariant.0 made.compressed made.exact,
       c.ends_of_list-ends.ensures.first w linear
-          (moved_all number last c.args.reset o mid c.self.invariant.0 made.compressed made.exact),
+          (moved_all last c.args.reset o mid c.self.invariant.0 made.compressed made.exact),
     )
 
 done : (g : _) (c : goal.After-len g)
-    → Compressed g.P.Inx.PtrInxCore.number g.P.Gen.PtrGenCore.last c.args.reset
+    → Compressed g.P.Gen.PtrGenCore.last c.args.reset
     (record {
       chains = c.self.inside.chains;
       root = option_map g.P.Inx.PtrInxCore.number c.self.inside.root;
@@ -42,19 +42,19 @@ done : (g : _) (c : goal.After-len g)
     })
 done g c =
     let made = c.compact_nodes-answer.ensures in
-    let linear = moved_linear _ _ _ _ _ c.self.invariant.0 made.compressed made.exact in
-    compressed_by _ _ _ _ _ c.self.invariant.0 made.compressed made.exact _
+    let linear = moved_linear _ _ _ _ c.self.invariant.0 made.compressed made.exact in
+    compressed_by _ _ _ _ c.self.invariant.0 made.compressed made.exact _
     c.rebuild-self-inside.ensures.keeps
     (c.rebuild-self-inside.ensures.rebuilt _ linear
-    (moved_long _ _ _ _ _ c.self.invariant.0 made.compressed made.exact)
+    (moved_long _ _ _ _ c.self.invariant.0 made.compressed made.exact)
     (c.ends_of_list-ends.ensures.first _ linear
-    (moved_all _ _ _ _ _ c.self.invariant.0 made.compressed made.exact)))
+    (moved_all _ _ _ _ c.self.invariant.0 made.compressed made.exact)))
 
 pub invariant_of-self : goal.invariant_of-self
 invariant_of-self g c =
     let made = c.compact_nodes-answer.ensures in
-    let linear = moved_linear _ _ _ _ _ c.self.invariant.0 made.compressed made.exact in
-    let all = moved_all _ _ _ _ _ c.self.invariant.0 made.compressed made.exact in
+    let linear = moved_linear _ _ _ _ c.self.invariant.0 made.compressed made.exact in
+    let all = moved_all _ _ _ _ c.self.invariant.0 made.compressed made.exact in
     let d = done g c in (
       d.ordered,
       c.ends_of_list-ends.ensures.first _ linear all ∙ ap (λ l. first_or l None) (sym d.order),
@@ -67,7 +67,7 @@ returns-clause-mapped g c =
 
 pub returns-clause-compressed : goal.returns-clause-compressed
 returns-clause-compressed g c =
-    let p : Ordered g.row.P-Inx.Denot g.row.T.Denot =
+    let p : Ordered g.row.T.Denot =
     record {
       chains = c.rebuild-self-inside.new.chains;
       root = option_map g.P.Inx.PtrInxCore.number c.rebuild-self-inside.result;
@@ -78,12 +78,12 @@ returns-clause-compressed g c =
 pub returns-clause-exact : goal.returns-clause-exact
 returns-clause-exact g c =
     let number = g.P.Inx.PtrInxCore.number in
-    let p : Ordered g.row.P-Inx.Denot g.row.T.Denot =
+    let p : Ordered g.row.T.Denot =
     record {
       chains = c.rebuild-self-inside.new.chains;
       root = option_map number c.rebuild-self-inside.result;
     } in
-    subst (λ z. IsCompressedInOrder number g.P.Gen.PtrGenCore.last c.args.reset
+    subst (λ z. IsCompressedInOrder g.P.Gen.PtrGenCore.last c.args.reset
     (map value_of (indexed p)) z p) c.self.view_is (done g c).exact
 
 pub returns-clause-formed : goal.returns-clause-formed

@@ -8,9 +8,9 @@ use Rattle.triple_arena_ord.proofs.ord_arena.arena_calls.SimpleOrdArenaArenaTrai
 pub invariant_of-self-lent : goal.invariant_of-self-lent
 invariant_of-self-lent g c w =
     let number = g.P.Inx.PtrInxCore.number in
-    let o : Ordered g.row.P-Inx.Denot g.row.T.Denot =
+    let o : Ordered g.row.T.Denot =
     record { chains = c.self.inside.chains; root = option_map number c.self.inside.root } in
-    let r = lent_list number o (number c.args.i) c.get_inx_mut_unwrap.result.now w
+    let r = lent_list o (number c.args.i) c.get_inx_mut_unwrap.result.now w
     c.get_inx_mut_unwrap.ensures.value c.self.invariant.0 in (
       r.ordered,
       c.self.invariant.1 ∙ ap (λ l. first_or l None) (sym r.order),

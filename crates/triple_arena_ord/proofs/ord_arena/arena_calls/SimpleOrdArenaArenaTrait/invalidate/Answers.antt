@@ -8,11 +8,11 @@ use Rattle.triple_arena_ord.proofs.ord_arena.arena_calls.SimpleOrdArenaArenaTrai
 pub invariant_of-self : goal.invariant_of-self
 invariant_of-self g c =
     let number = g.P.Inx.PtrInxCore.number in
-    let o : Ordered g.row.P-Inx.Denot g.row.T.Denot =
+    let o : Ordered g.row.T.Denot =
     record { chains = c.self.inside.chains; root = option_map number c.self.inside.root } in
-    let p : Ordered g.row.P-Inx.Denot g.row.T.Denot =
+    let p : Ordered g.row.T.Denot =
     record { chains = c.invalidate.new.self; root = option_map number c.self.inside.root } in
-    let r = invalidates_list number g.P.Gen.PtrGenCore.last o p (g.P.PtrCore.index c.args.p) _ refl
+    let r = invalidates_list g.P.Gen.PtrGenCore.last o p (g.P.PtrCore.index c.args.p) _ refl
     c.invalidate.ensures.exact c.invalidate.ensures.invalid c.self.invariant.0 in (
       r.ordered,
       c.self.invariant.1 ∙ ap (λ l. first_or l None) (sym r.order),

@@ -9,13 +9,13 @@ use Rattle.triple_arena_ord.proofs.ord_arena.arena_calls.SimpleOrdArenaArenaTrai
 pub invariant_of-self : goal.invariant_of-self
 invariant_of-self g c =
     let number = g.P.Inx.PtrInxCore.number in
-    let o : Ordered g.row.P-Inx.Denot g.row.T.Denot =
+    let o : Ordered g.row.T.Denot =
     record { chains = c.self.inside.chains; root = option_map number c.self.inside.root } in
     let d = c.reallocate_min_capacity.new.self in
     let r = room_with c.args.min o.chains.room in
-    let order = same_order number o d r c.reallocate_min_capacity.result
+    let order = same_order o d r c.reallocate_min_capacity.result
     c.reallocate_min_capacity.ensures.exact c.reallocate_min_capacity.ensures.err in (
-      still_ordered number o d r c.reallocate_min_capacity.result
+      still_ordered o d r c.reallocate_min_capacity.result
           c.reallocate_min_capacity.ensures.exact c.reallocate_min_capacity.ensures.err
           c.self.invariant.0,
       c.self.invariant.1 ∙ ap (λ w. first_or w None) order,

@@ -8,6 +8,6 @@ returns-clause-value g c =
     omega (
       arith,
       c.len.ensures.value,
-      removals_left g.P.Inx.PtrInxCore.number
+      removals_left
           (drain_arena c.args.self.now) c.len.ensures.formed.ordered g.P.Gen.PtrGenCore.last,
     )

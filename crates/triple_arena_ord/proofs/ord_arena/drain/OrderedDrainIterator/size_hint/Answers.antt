@@ -8,7 +8,7 @@ returns-clause-lower g c = λ _.
     omega (
       arith,
       c.len-len.ensures.value,
-      removals_left g.P.Inx.PtrInxCore.number
+      removals_left
           (drain_arena c.args.self.now) c.len-len.ensures.formed.ordered g.P.Gen.PtrGenCore.last,
     )
 
@@ -18,7 +18,7 @@ returns-clause-upper g c = (
   omega (
     arith,
     c.len-len.ensures.value,
-    removals_left g.P.Inx.PtrInxCore.number
+    removals_left
         (drain_arena c.args.self.now) c.len-len.ensures.formed.ordered g.P.Gen.PtrGenCore.last,
   ),
 )

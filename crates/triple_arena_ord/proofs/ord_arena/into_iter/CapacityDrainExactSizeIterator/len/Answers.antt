@@ -5,5 +5,5 @@ use Rattle.triple_arena_ord.proofs.ord_arena.into_iter.CapacityDrainExactSizeIte
 pub returns-clause-value : goal.returns-clause-value
 returns-clause-value g c =
     c.len.ensures.value
-    ∙ sym (all_listed g.P.Inx.PtrInxCore.number c.self.inside.arena c.len.ensures.formed.ordered)
+    ∙ sym (all_listed c.self.inside.arena c.len.ensures.formed.ordered)
     ∙ ap length c.self.view_is

@@ -8,7 +8,7 @@ returns-clause-lower g c =
     (λ _. omega (
       arith,
       c.len-len.ensures.value,
-      all_listed g.P.Inx.PtrInxCore.number c.self.inside.arena c.len-len.ensures.formed.ordered,
+      all_listed c.self.inside.arena c.len-len.ensures.formed.ordered,
     ))
 
 pub returns-clause-upper : goal.returns-clause-upper
@@ -18,14 +18,14 @@ returns-clause-upper g c = (
       (omega (
         arith,
         c.len-len.ensures.value,
-        all_listed g.P.Inx.PtrInxCore.number c.self.inside.arena c.len-len.ensures.formed.ordered,
+        all_listed c.self.inside.arena c.len-len.ensures.formed.ordered,
       )),
 )
 
 pub returns-clause-exact : goal.returns-clause-exact
 returns-clause-exact g c =
     let left : c.len-len.result ≡ length c.args.self.now = c.len-len.ensures.value
-    ∙ sym (all_listed g.P.Inx.PtrInxCore.number c.self.inside.arena
+    ∙ sym (all_listed c.self.inside.arena
     c.len-len.ensures.formed.ordered)
     ∙ ap length c.self.view_is in
     ap (λ n. (let hint : ℕ × Option ℕ = (n, Some n) in hint)) left

@@ -8,10 +8,10 @@ use Rattle.triple_arena_ord.proofs.ord_arena.max_capacity.SimpleOrdArenaSetMaxCa
 pub invariant_of-self : goal.invariant_of-self
 invariant_of-self g c =
     let number = g.P.Inx.PtrInxCore.number in
-    let o : Ordered g.row.P-Inx.Denot g.row.T.Denot =
+    let o : Ordered g.row.T.Denot =
     record { chains = c.self.inside.chains; root = option_map number c.self.inside.root } in
     let call = c.set_max_capacity in
-    let r = limited number g.P.Inx.PtrInxCore.greatest o call.new.self c.args.max call.result
+    let r = limited g.P.Inx.PtrInxCore.greatest o call.new.self c.args.max call.result
     call.ensures.ok call.ensures.err c.self.invariant.0 in (
       r.ordered,
       c.self.invariant.1 ∙ ap (λ l. first_or l None) (sym r.order),

@@ -9,9 +9,9 @@ pub invariant_of-self : goal.invariant_of-self
 invariant_of-self g c =
     let number = g.P.Inx.PtrInxCore.number in
     let image = g.R.Recaster.image c.args.recaster.now in
-    let o : Ordered g.row.P-Inx.Denot g.row.T.Denot =
+    let o : Ordered g.row.T.Denot =
     record { chains = c.self.inside.chains; root = option_map number c.self.inside.root } in
-    let r = recast_kept number g.T.Recast.items image (g.T.Recast.recasted image) o
+    let r = recast_kept g.T.Recast.items image (g.T.Recast.recasted image) o
     c.recast.new.self c.recast.ensures.value c.self.invariant.0 in (
       r.ordered,
       c.self.invariant.1 ∙ ap (λ l. first_or l None) (sym r.order),

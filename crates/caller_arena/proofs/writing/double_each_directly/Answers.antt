@@ -1,5 +1,0 @@
-use Rattle.triple_arena.specs.IterMutLaws.{direct_rewritten}
-use Rattle.caller_arena.proofs.writing.double_each_directly.Goals as goal
-
-pub returns : goal.returns
-returns g c = direct_rewritten _ _

@@ -1,6 +1,0 @@
-use Rattle.examples.proofs.sections.number_paragraphs.Goals as goal
-
-pub returns-clause-sections : goal.returns-clause-sections
-returns-clause-sections g c =
-    λ section linear. c.compress_canonical_makes_runs.ensures _ _ _ section
-    c.compress_canonical.ensures.canonical linear
