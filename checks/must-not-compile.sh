@@ -3,7 +3,7 @@
 # pointer of its second line too, and then runs, so that it is refused for nothing else. It takes
 # about two minutes. The programs end in .txt, since the gate lets no .rt file stand outside a
 # crate.
-libraries=(proof_marks triple_arena_ptr triple_arena_stack triple_arena)
+libraries=(proof_marks linked_lists triple_arena_ptr triple_arena_stack triple_arena)
 for library in "${libraries[@]}"; do
     mkdir -p "$work/crates/$library"
     for part in src specs proofs; do

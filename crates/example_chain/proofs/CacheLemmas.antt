@@ -7,12 +7,12 @@ use Rattle.triple_arena.specs.Content.{Content, get, entry_at}
 use Rattle.triple_arena.specs.Entries.{generation_at, value_if, with_entry, without}
 use Rattle.triple_arena_chain.specs.declared.kind.InsertKind.TheVariants.{PrevTo}
 use Rattle.triple_arena_chain.specs.LinkShape.{IndexLink}
-use Rattle.triple_arena_chain.specs.Chains.{Ends, On, Off, IsRing, Apart, first_or, last_or}
-use Rattle.triple_arena_chain.specs.Chains.{prev_in, prev_at, taken_out}
-use Rattle.triple_arena_chain.specs.ChainLaws.{On-cons, Off-not_on, last_is, last_or-append}
+use Rattle.linked_lists.specs.LinkedLists.{Ends, On, Off, IsRing, Apart, first_or, last_or}
+use Rattle.linked_lists.specs.LinkedLists.{prev_in, prev_at, taken_out}
+use Rattle.linked_lists.specs.LinkedListLaws.{On-cons, Off-not_on, last_is, last_or-append}
 use Rattle.triple_arena_chain.specs.KindLaws.{put-prev_to}
-use Rattle.triple_arena_chain.specs.ListLaws.{turned}
-use Rattle.triple_arena_chain.specs.Lists.{IsPutIn}
+use Rattle.linked_lists.specs.ChainLaws.{turned}
+use Rattle.linked_lists.specs.Chains.{IsPutIn}
 use Rattle.triple_arena_chain.specs.Links.{valued, values_in, ends_in, ends_found, gap_among}
 use Rattle.triple_arena_chain.specs.Links.{IsLinkInserted, IsTakenOut}
 use Rattle.triple_arena_chain.specs.Moves.{gap_before, IsMoved}

@@ -13,12 +13,12 @@ use Rattle.triple_arena.specs.Content.{Content}
 use Rattle.triple_arena_chain.specs.declared.kind.InsertKind.TheVariants.{NextTo}
 use Rattle.triple_arena_chain.specs.LinkShape.{IndexLink}
 use Rattle.triple_arena_chain.specs.declared.gap.Gap.{Gap}
-use Rattle.triple_arena_chain.specs.Chains.{Off, IsLinear, IsRing}
-use Rattle.triple_arena_chain.specs.InsertionListLaws.{linear-put_after, ring-put_after}
-use Rattle.triple_arena_chain.specs.InsertionListLaws.{others-put_after}
+use Rattle.linked_lists.specs.LinkedLists.{Off, IsLinear, IsRing}
+use Rattle.linked_lists.specs.InsertionListLaws.{linear-put_after, ring-put_after}
+use Rattle.linked_lists.specs.InsertionListLaws.{others-put_after}
 use Rattle.triple_arena_chain.specs.KindLaws.{put-next_to}
 use Rattle.triple_arena_chain.specs.Links.{ends_in, values_in, gap_among, IsChained, IsLinkInserted}
-use Rattle.triple_arena_chain.specs.Lists.{Chain, members, IsChainOf}
+use Rattle.linked_lists.specs.Chains.{Chain, members, IsChainOf}
 
 module _ {T : Type 0} (c d : Content (IndexLink T)) (i g : ℕ) (t : T) where
   -- what the gap tells where there is one

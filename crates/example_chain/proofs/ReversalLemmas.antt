@@ -7,19 +7,19 @@ use Rattle.triple_arena.specs.Content.{Content, entry_at}
 use Rattle.triple_arena.specs.Entries.{generation_at, value_if}
 use Rattle.triple_arena_chain.specs.declared.kind.InsertKind.TheVariants.{Bridge}
 use Rattle.triple_arena_chain.specs.LinkShape.{IndexLink}
-use Rattle.triple_arena_chain.specs.Chains.{Ends, next_in, prev_in, next_at, prev_at, first_or, Off}
-use Rattle.triple_arena_chain.specs.Chains.{IsLinear, IsRing, renext, reprev, with_next, with_prev}
-use Rattle.triple_arena_chain.specs.Chains.{linked, unlinked, exchanged}
-use Rattle.triple_arena_chain.specs.ChainLaws.{segment-back}
-use Rattle.triple_arena_chain.specs.InsertionListLaws.{linear-reversed, ring-reversed}
-use Rattle.triple_arena_chain.specs.InsertionListLaws.{linear-reversed_end}
+use Rattle.linked_lists.specs.LinkedLists.{Ends, next_in, prev_in, next_at, prev_at, first_or, Off}
+use Rattle.linked_lists.specs.LinkedLists.{IsLinear, IsRing, renext, reprev, with_next, with_prev}
+use Rattle.linked_lists.specs.LinkedLists.{linked, unlinked, exchanged}
+use Rattle.linked_lists.specs.LinkedListLaws.{segment-back}
+use Rattle.linked_lists.specs.InsertionListLaws.{linear-reversed, ring-reversed}
+use Rattle.linked_lists.specs.InsertionListLaws.{linear-reversed_end}
 use Rattle.triple_arena_chain.specs.Kinds.{at_bridge}
-use Rattle.triple_arena_chain.specs.ListLaws.{off_or_not, on_differs, holds_next, holds_prev}
-use Rattle.triple_arena_chain.specs.ListLaws.{live_next_in}
+use Rattle.linked_lists.specs.ChainLaws.{off_or_not, on_differs, holds_next, holds_prev}
+use Rattle.linked_lists.specs.ChainLaws.{live_next_in}
 use Rattle.triple_arena_chain.specs.Links.{valued, values_in, link_ends, entry_ends, ends_in}
 use Rattle.triple_arena_chain.specs.Links.{ends_found, gap_among, IsChained, IsRelinked}
-use Rattle.triple_arena_chain.specs.Lists.{Chain, Cyclic, members, IsChainOf, IsAppended, IsSplit}
-use Rattle.triple_arena_chain.specs.Lists.{IsExchanged}
+use Rattle.linked_lists.specs.Chains.{Chain, Cyclic, members, IsChainOf, IsAppended, IsSplit}
+use Rattle.linked_lists.specs.Chains.{IsExchanged}
 
 module _ (f : ℕ → Option Ends) where
   next-with_prev : (i : ℕ) (v : Option ℕ) (k : ℕ) → next_at (with_prev f i v) k ≡ next_at f k

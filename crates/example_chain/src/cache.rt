@@ -2,6 +2,7 @@
 ghost use Rattle.std.specs.Prelude.{◌≡◌, ◌≤◌, ◌↔◌, ℕ, List, [], ◌∷◌, ◌++◌, Some, None, IsSome};
 ghost use Rattle.std.specs.Prelude.{IsTrue, IfOk, IfSome, IfNone, IfErr, OnSome, OnErr, IsOk};
 ghost use Rattle.std.specs.Prelude.{IsErrOf, option_copied};
+ghost use Rattle.triple_arena_ptr.specs.Errors.{IsBeyondMaxCapacity, IsAllocError};
 ghost use Rattle.triple_arena_ptr.specs.Generation.{next_generation};
 ghost use Rattle.triple_arena_stack.specs.Room.{capacity as capacity_of, IsBeyond};
 ghost use Rattle.triple_arena.specs.ArenaRoom.{room_of};
@@ -33,9 +34,9 @@ impl<P: PtrCore, T: Drop, S: ChainSlots<P, T>> Cache<P, T, S> {
         ensures empty { IfOk result (λ c. AreByUse P.index P.generation c.entries c.latest []) }
         ensures fits { IfOk result (λ c. most ≤ arena_capacity c.entries) }
         ensures succeeds { most ≤ capacity_of (room_of P.Inx.greatest (S.room_at 0)) → IsOk result }
-        ensures beyond { IsErrOf result ReallocationError.BeyondMaxCapacity
+        ensures beyond { IsBeyondMaxCapacity result
             ↔ IsBeyond (room_of P.Inx.greatest (S.room_at most)).limit most }
-        ensures memory { IsErrOf result ReallocationError.AllocError → IsTrue S.takes_memory }
+        ensures memory { IsAllocError result → IsTrue S.takes_memory }
     {
         let entries = ChainArena::with_min_capacity(alloc, most)?;
         Ok(Cache {

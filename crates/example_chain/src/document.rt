@@ -1,6 +1,7 @@
 //! Documents whose nodes name one another by pointers, which are compressed and keep their names.
-ghost use Rattle.std.specs.Prelude.{◌≡◌, ◌≤◌, ◌↔◌, ℕ, false, Option, IsOk, OnOk, OnErr, IsErrOf};
+ghost use Rattle.std.specs.Prelude.{◌≡◌, ◌≤◌, ◌↔◌, ℕ, false, Option, IsOk, OnOk, OnErr};
 ghost use Rattle.std.specs.Prelude.{IsTrue};
+ghost use Rattle.triple_arena_ptr.specs.Errors.{IsBeyondMaxCapacity, IsAllocError};
 ghost use Rattle.triple_arena_stack.specs.Room.{capacity, IsBeyond};
 ghost use Rattle.triple_arena.specs.ArenaRoom.{room_of};
 ghost use Rattle.triple_arena.specs.Compression.{renewed};
@@ -37,10 +38,10 @@ where
     // No memory is asked for if new names have the room already.
     ensures succeeds { last_index nodes.old ≤ capacity (room_of P.Inx.greatest (R.room_at 0))
         → IsOk result }
-    ensures beyond { IsErrOf result ReallocationError.BeyondMaxCapacity
+    ensures beyond { IsBeyondMaxCapacity result
         ↔ IsBeyond (room_of P.Inx.greatest (R.room_at (last_index nodes.old))).limit
         (last_index nodes.old) }
-    ensures memory { IsErrOf result ReallocationError.AllocError → IsTrue R.takes_memory }
+    ensures memory { IsAllocError result → IsTrue R.takes_memory }
     ensures err { OnErr result (nodes.new ≡ nodes.old) }
 {
     let map = compress_recaster::<P, T, S, R>(nodes, false, alloc)?;

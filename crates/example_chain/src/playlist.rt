@@ -5,9 +5,9 @@ ghost use Rattle.std.specs.Prelude.{IfOk, OnSome, OnErr, IsErrOf};
 ghost use Rattle.std.specs.List.{sum};
 ghost use Rattle.triple_arena.specs.Content.{get, live_count, arena_capacity};
 ghost use Rattle.triple_arena.specs.Entries.{with_entry};
-ghost use Rattle.triple_arena_chain.specs.Chains.{Off, next_in, IsLinear, IsRing};
+ghost use Rattle.linked_lists.specs.LinkedLists.{Off, next_in, IsLinear, IsRing};
 ghost use Rattle.triple_arena_chain.specs.Links.{ends_in, ends_found, values_in};
-ghost use Rattle.triple_arena_chain.specs.Lists.{Chain, members, IsChainOf};
+ghost use Rattle.linked_lists.specs.Chains.{Chain, members, IsChainOf};
 ghost use Rattle.triple_arena_chain.specs.Walks.{IsWalkFrom};
 ghost use Rattle.example_chain.specs.Playlists.{length_at};
 

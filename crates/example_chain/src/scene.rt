@@ -1,6 +1,7 @@
 //! Nodes in an arena, named by numbers that a compression does not change.
 ghost use Rattle.std.specs.Prelude.{◌≡◌, ◌≢◌, ℕ, ◌+◌, Some, None, IsSome, IfOk, OnOk, OnErr};
-ghost use Rattle.std.specs.Prelude.{IsErrOf, option_copied};
+ghost use Rattle.std.specs.Prelude.{option_copied};
+ghost use Rattle.triple_arena_ptr.specs.Errors.{IsBeyondMaxCapacity};
 ghost use Rattle.triple_arena.specs.Compression.{IsCompact};
 ghost use Rattle.triple_arena.specs.Content.{live_count};
 ghost use Rattle.triple_arena.specs.LiveEntries.{live_entries};
@@ -75,7 +76,7 @@ impl<P: Ptr> Scene<P> {
             → node_of P.index P.generation (λ m. m.value) self.new k
             ≡ node_of P.index P.generation (λ m. m.value) self.old k) }
         ensures fits { OnOk result (IsFull self.old → ⊥) }
-        ensures beyond { IsErrOf result ReallocationError.BeyondMaxCapacity → IsFull self.old }
+        ensures beyond { IsBeyondMaxCapacity result → IsFull self.old }
         ensures err { OnErr result (self.new ≡ self.old) }
     {
         if self.pointers.reserve(1).is_err() {

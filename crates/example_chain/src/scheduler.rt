@@ -1,7 +1,8 @@
 //! Tasks in an arena, named by pointers.
 ghost use Rattle.std.specs.Prelude.{◌≡◌, ◌≢◌, ◌⊎◌, ◌+◌, ◌-◌, ◌^◌, ◌<◌, ◌≤◌, ◌↔◌, ℕ, Some, None};
-ghost use Rattle.std.specs.Prelude.{false, IsOk, IsTrue, IsSome, IfOk, IfNone, IsErrOf, OnErr};
+ghost use Rattle.std.specs.Prelude.{false, IsOk, IsTrue, IsSome, IfOk, IfNone, OnErr};
 ghost use Rattle.std.specs.Prelude.{option_copied, option_map};
+ghost use Rattle.triple_arena_ptr.specs.Errors.{IsBeyondMaxCapacity};
 ghost use Rattle.triple_arena.specs.Content.{live_count, arena_capacity};
 ghost use Rattle.example_chain.specs.Scheduler.{HasEnded, endings_left, task_at};
 
@@ -66,8 +67,7 @@ impl Scheduler {
         ensures succeeds { 0 < endings_left self.old
             → live_count self.old.tasks < arena_capacity self.old.tasks → IsOk result }
         ensures lasts { endings_left self.new ≡ endings_left self.old }
-        ensures beyond { IsErrOf result ReallocationError.BeyondMaxCapacity
-            ↔ IsTrue self.old.is_spent }
+        ensures beyond { IsBeyondMaxCapacity result ↔ IsTrue self.old.is_spent }
         ensures err { OnErr result (self.new ≡ self.old) }
     {
         if self.is_spent {

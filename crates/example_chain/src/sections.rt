@@ -2,7 +2,7 @@
 ghost use Rattle.std.specs.Prelude.{◌≡◌, ℕ, List};
 ghost use Rattle.triple_arena_ptr.specs.Generation.{next_generation};
 ghost use Rattle.triple_arena.specs.Content.{live_count};
-ghost use Rattle.triple_arena_chain.specs.Chains.{IsLinear};
+ghost use Rattle.linked_lists.specs.LinkedLists.{IsLinear};
 ghost use Rattle.triple_arena_chain.specs.Links.{ends_in};
 ghost use Rattle.triple_arena_chain.specs.Runs.{IsRunFrom};
 

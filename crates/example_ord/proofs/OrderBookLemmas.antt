@@ -1,28 +1,27 @@
 -- What insertions and removals make of an order book, and which orders stand at its ends.
-use Rattle.std.proofs.Common.{◌≡◌, ◌≢◌, ℕ, ◌≤◌, ◌<◌, List, [], ◌∷◌, ◌++◌, Option, Some, None, map}
-use Rattle.std.proofs.Common.{option_map, filter_map, refl, sym, ap, subst, ◌∙◌, inl, inr, IsSome}
+use Rattle.std.proofs.Common.{◌≡◌, ◌≢◌, ℕ, ◌≤◌, ◌<◌, List, [], ◌∷◌, ◌++◌, Option, Some, None}
+use Rattle.std.proofs.Common.{option_map, refl, sym, ap, subst, ◌∙◌, IsSome}
 use Rattle.std.proofs.Common.{OnSome, IfSome, IfNone, arith}
-use Rattle.std.specs.Cmp.{ranked, nat_cmp_is}
+use Rattle.std.specs.Cmp.{ranked}
 use Rattle.std.specs.List.{AllByRecursion, cons_option}
 use Rattle.std.specs.Ordering.{nat_cmp}
 use Rattle.std.specs.declared.cmp.Ordering.{Ordering}
 use Rattle.std.specs.declared.cmp.Ordering.TheVariants.{Less, Equal, Greater}
 use Rattle.triple_arena.specs.Content.{entry_at}
-use Rattle.triple_arena_chain.specs.Chains.{Ends, IsSegment, Off, Apart, first_or, last_or}
-use Rattle.triple_arena_chain.specs.ChainLaws.{Off-not_on}
+use Rattle.linked_lists.specs.LinkedLists.{IsSegment, Off, Apart, first_or, last_or}
+use Rattle.linked_lists.specs.LinkedListLaws.{Off-not_on}
 use Rattle.triple_arena_chain.specs.Links.{ends_in, entry_ends, valued}
 use Rattle.triple_arena_chain.specs.LinkShape.{IndexLink}
-use Rattle.triple_arena_chain.specs.UniquenessLaws.{linear_apart}
+use Rattle.linked_lists.specs.UniquenessLaws.{linear_apart}
 use Rattle.triple_arena_ord.specs.declared.pair.OrdPair.{OrdPair}
 use Rattle.triple_arena_ord.specs.Bounds.{IsBound, first_entry}
-use Rattle.triple_arena_ord.specs.Inserted.{StandsAt, IsAdded}
+use Rattle.triple_arena_ord.specs.Inserted.{StandsAt}
 use Rattle.triple_arena_ord.specs.Node.{itemed}
 use Rattle.triple_arena_ord.specs.NodeShape.{IndexNode}
 use Rattle.triple_arena_ord.specs.Ordered.{Ordered, IsOrdered, order_in, entry_in, entries_at}
-use Rattle.triple_arena_ord.specs.Ordered.{asked_of, asked_at}
+use Rattle.triple_arena_ord.specs.Ordered.{NoneGreater, NoneLess, asked_of, asked_at}
 use Rattle.triple_arena_ord.specs.OrderedWalks.{OrderedWalk, OrderedSteps, left_over}
-use Rattle.triple_arena_ord.specs.Removal.{IsEntryRemoved}
-use Rattle.example_ord.specs.OrderBooks.{orders_in, price_in, AllPrices, IsBehind, IsBestAsk}
+use Rattle.example_ord.specs.OrderBooks.{price_in, AllPrices, IsBehind, IsBestAsk}
 use Rattle.example_ord.specs.OrderBooks.{IsBestBid, IsNext, IsLast}
 
 -- what holds of each of a list holds of one that is on it
@@ -409,13 +408,13 @@ module _ {V P : Type 0} (index generation : P → ℕ)
 
     -- what that says of the keys
     pub not_less_before : (w : List ℕ) → AllPrices (λ other. other ≤ price) o w
-        → AllByRecursion (λ j. asked_at nat_cmp price_of price o j ≢ Less) w
+        → NoneGreater nat_cmp price_of price o w
     not_less_before = prices_asked Less price (λ other. other ≤ price) (λ same. cc)
         (λ other most same. let less : price < other = ranked price other Less (sym same) in
         omega (arith, most, less)) o
 
     pub not_greater_behind : (w : List ℕ) → AllPrices (λ other. price < other) o w
-        → AllByRecursion (λ j. asked_at nat_cmp price_of price o j ≢ Greater) w
+        → NoneLess nat_cmp price_of price o w
     not_greater_behind = prices_asked Greater price (λ other. price < other) (λ same. cc)
         (λ other least same. let less : other < price = ranked price other Greater (sym same) in
         omega (arith, least, less)) o
@@ -425,7 +424,7 @@ module _ {V P : Type 0} (index generation : P → ℕ)
       → option_map index r ≡ first_or (order_in o) None
       → ((back : List ℕ) (i : ℕ) (entry : ℕ × OrdPair ℕ V) → order_in o ≡ i ∷ back
       → entry_in o i ≡ Some entry
-      → AllByRecursion (λ k. asked_at nat_cmp price_of entry.1.k o k ≢ Greater) back)
+      → NoneLess nat_cmp price_of entry.1.k o back)
       → IfSome r (λ p. IsBestAsk o (index p))
   best_ask_of ordered None at after = tt
   best_ask_of ordered (Some p) at after =
@@ -461,7 +460,7 @@ module _ {V P : Type 0} (index generation : P → ℕ)
       (at : last_or None (order_in o) ≡ Some last) (price : price_in o last ≡ Some own)
       (before : (front back : List ℕ) (i : ℕ) (entry : ℕ × OrdPair ℕ V)
       → order_in o ≡ front ++ i ∷ back → entry_in o i ≡ Some entry
-      → AllByRecursion (λ k. asked_at nat_cmp price_of entry.1.k o k ≢ Less) front) where
+      → NoneGreater nat_cmp price_of entry.1.k o front) where
     abbrev Lower : OrdPair ℕ V → Type 0
     Lower t = nat_cmp own t.k ≡ Greater
 

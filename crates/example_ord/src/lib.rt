@@ -4,10 +4,8 @@
 //! - [`open_book`], [`add_order`], [`cancel_order`], [`best_ask`], [`best_bid`], [`next_order`]: an
 //!   order book, in an ordered arena whose entries are in the order in which they are matched.
 //! - [`move_orders`]: the orders of one book moved into another, as one over narrower pointers.
-//! - [`by_value`]: callers that take an ordered arena by value, and what they learn of its items.
 #![tactic(auto)]
 
-pub mod by_value;
 mod order_book;
 mod order_moves;
 

@@ -3,17 +3,19 @@
 //! first with the least price, of the other the first with the greatest.
 ghost use Rattle.std.specs.Prelude.{◌≡◌, ◌≤◌, ◌↔◌, ℕ, List, None, Some, IsTrue, IsOk, IsSome, IfOk};
 ghost use Rattle.std.specs.Prelude.{IfSome, IfNone, IfErr, OnErr, OnSome, IsErrOf};
-ghost use Rattle.std.specs.Option.{option_map};
 ghost use Rattle.triple_arena_stack.specs.Room.{capacity as capacity_of, IsBeyond};
 ghost use Rattle.triple_arena.specs.ArenaRoom.{room_of};
 ghost use Rattle.triple_arena.specs.Content.{live_count, arena_capacity};
-ghost use Rattle.triple_arena.specs.Entries.{with_entry, without, value_if, generation_at};
+ghost use Rattle.triple_arena.specs.Entries.{with_entry, without, value_if};
+ghost use Rattle.triple_arena_ptr.specs.Errors.{IsBeyondMaxCapacity, IsAllocError};
 ghost use Rattle.triple_arena_ptr.specs.Generation.{next_generation};
 ghost use Rattle.triple_arena_ord.specs.Inserted.{Replaces, StandsAt};
-ghost use Rattle.triple_arena_ord.specs.Ordered.{IsOrdered, entry_in, size_in, order_in};
+ghost use Rattle.triple_arena_ord.specs.Ordered.{IsOrdered, size_in, order_in};
 ghost use Rattle.triple_arena_ord.specs.Removal.{Loses};
 ghost use Rattle.example_ord.specs.OrderBooks.{orders_in, IsBehind, IsBook, IsBestAsk};
 ghost use Rattle.example_ord.specs.OrderBooks.{IsBestBid, IsNext, IsLast};
+ghost use Rattle.triple_arena_ord.specs.Found.{place_by, IsLivePlace};
+ghost use Rattle.triple_arena.specs.Steps.{Finds};
 
 use std::cmp::Ordering;
 use triple_arena::{
@@ -40,9 +42,9 @@ pub fn open_book<P: PtrCore, V: Drop, S: NonZeroInxGenericStack<Item = OrderSlot
     ensures vacant { IfOk result (λ book. (i : ℕ) → orders_in book i ≡ None) }
     ensures fits { IfOk result (λ book. orders ≤ arena_capacity book.chains) }
     ensures succeeds { orders ≤ capacity_of (room_of P.Inx.greatest (S.room_at 0)) → IsOk result }
-    ensures beyond { IsErrOf result ReallocationError.BeyondMaxCapacity
+    ensures beyond { IsBeyondMaxCapacity result
         ↔ IsBeyond (room_of P.Inx.greatest (S.room_at orders)).limit orders }
-    ensures memory { IsErrOf result ReallocationError.AllocError → IsTrue S.takes_memory }
+    ensures memory { IsAllocError result → IsTrue S.takes_memory }
     ensures book { IfOk result (λ book. IsBook book) }
 {
     SimpleOrdArena::with_min_capacity(alloc, orders)
@@ -54,12 +56,11 @@ fn place_behind<P: PtrCore, V: Drop, S: NonZeroInxGenericStack<Item = OrderSlot<
     price: u64,
 ) -> Option<(P::Inx, Ordering)>
     requires { IsBook book.now }
-    ensures live { IfSome result (λ a. IsSome (entry_in book.now (P.Inx.number a.0))) }
+    ensures live { IsLivePlace P.Inx.number book.now result }
     ensures empty { result ≡ None → size_in book.now ≡ 0 }
-    ensures new { Replaces (option_map (λ a. (P.Inx.number a.0, a.1)) result) → ⊥ }
+    ensures new { Replaces (place_by P.Inx.number result) → ⊥ }
     ensures behind { (w : List ℕ) (i : ℕ)
-        → StandsAt (option_map (λ a. (P.Inx.number a.0, a.1)) result)
-        (order_in book.now) w i
+        → StandsAt (place_by P.Inx.number result) (order_in book.now) w i
         → IsBehind book.now price i (order_in book.now) w }
     ensures ordered { IsOrdered book.now }
 {
@@ -132,8 +133,7 @@ pub fn best_ask<P: PtrCore, V: Drop, S: NonZeroInxGenericStack<Item = OrderSlot<
     book: &OrderBook<P, V, S>,
 ) -> Option<P>
     requires { IsBook book.now }
-    ensures live { IfSome result
-        (λ p. generation_at (orders_in book.now) (P.index p) ≡ Some (P.generation p)) }
+    ensures live { IfSome result (λ p. Finds orders_in book.now (P.index p, P.generation p)) }
     ensures best { IfSome result (λ p. IsBestAsk book.now (P.index p)) }
     ensures none { IfNone result (live_count book.now.chains ≡ 0) }
 {
@@ -149,8 +149,7 @@ pub fn best_bid<P: PtrCore, V: Drop, S: NonZeroInxGenericStack<Item = OrderSlot<
     book: &OrderBook<P, V, S>,
 ) -> Option<P>
     requires { IsBook book.now }
-    ensures live { IfSome result
-        (λ p. generation_at (orders_in book.now) (P.index p) ≡ Some (P.generation p)) }
+    ensures live { IfSome result (λ p. Finds orders_in book.now (P.index p, P.generation p)) }
     ensures best { IfSome result (λ p. IsBestBid book.now (P.index p)) }
     ensures none { IfNone result (live_count book.now.chains ≡ 0) }
 {
@@ -170,8 +169,7 @@ pub fn next_order<P: PtrCore, V: Drop, S: NonZeroInxGenericStack<Item = OrderSlo
 ) -> Option<P>
     ensures from { IsSome result
         → IsSome (value_if (P.generation p) (orders_in book.now (P.index p))) }
-    ensures live { IfSome result
-        (λ q. generation_at (orders_in book.now) (P.index q) ≡ Some (P.generation q)) }
+    ensures live { IfSome result (λ q. Finds orders_in book.now (P.index q, P.generation q)) }
     ensures next { IfSome result (λ q. IsNext book.now (P.index p) (P.index q)) }
     ensures none { IfNone result
         (IsSome (value_if (P.generation p) (orders_in book.now (P.index p)))

@@ -1,7 +1,8 @@
 //! Order books that are moved, as into one over narrower pointers.
-ghost use Rattle.std.specs.Prelude.{◌≡◌, ◌≤◌, ◌↔◌, OnOk, OnErr, IsOk, IsErrOf, IsTrue};
+ghost use Rattle.std.specs.Prelude.{◌≡◌, ◌≤◌, ◌↔◌, OnOk, OnErr, IsOk, IsTrue};
 ghost use Rattle.std.specs.Prelude.{map as list_map};
 ghost use Rattle.std.specs.List.{range_with_len};
+ghost use Rattle.triple_arena_ptr.specs.Errors.{IsBeyondMaxCapacity, IsAllocError};
 ghost use Rattle.triple_arena_stack.specs.Room.{capacity as capacity_of, IsBeyond};
 ghost use Rattle.triple_arena.specs.ArenaRoom.{room_with};
 ghost use Rattle.triple_arena.specs.Transfer.{IsFilled};
@@ -45,9 +46,9 @@ where
         book.old book.new) }
     ensures source_exact { OnOk result (source.new ≡ drained_in Q.Gen.last source.old) }
     ensures succeeds { size_in source.old ≤ capacity_of (room_in book.old) → IsOk result }
-    ensures beyond { IsErrOf result ReallocationError.BeyondMaxCapacity
+    ensures beyond { IsBeyondMaxCapacity result
         ↔ IsBeyond (room_in book.old).limit (size_in source.old) }
-    ensures memory { IsErrOf result ReallocationError.AllocError → IsTrue S.takes_memory }
+    ensures memory { IsAllocError result → IsTrue S.takes_memory }
     ensures err { OnErr result (book.new ≡ book.old) }
     ensures source_err { OnErr result (source.new ≡ source.old) }
 {

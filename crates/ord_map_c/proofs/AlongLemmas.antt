@@ -10,10 +10,10 @@ use Rattle.std.specs.Int.NonZero.{non_zero_u32_get}
 use Rattle.std.specs.Ordering.{nat_cmp, is_lt}
 use Rattle.std.specs.declared.cmp.Ordering.{Ordering}
 use Rattle.std.specs.declared.cmp.Ordering.TheVariants.{Less, Greater}
-use Rattle.triple_arena_chain.specs.Chains.{On, Off, Apart}
-use Rattle.triple_arena_chain.specs.ListLaws.{Apart-split}
+use Rattle.linked_lists.specs.LinkedLists.{On, Off, Apart}
+use Rattle.linked_lists.specs.ChainLaws.{Apart-split}
 use Rattle.triple_arena_chain.specs.Links.{ends_in}
-use Rattle.triple_arena_chain.specs.UniquenessLaws.{linear_apart}
+use Rattle.linked_lists.specs.UniquenessLaws.{linear_apart}
 use Rattle.triple_arena_ord.specs.Ascending.{entries_along}
 use Rattle.triple_arena_ord.specs.Ordered.{IsOrdered, IsAscending, asked_of, entry_in, order_in}
 use Rattle.ord_map_c.specs.Entries.{Entry, Pair, KeysRise, key_of, pair, pointer_of, with_key}

@@ -14,9 +14,9 @@ use Rattle.std.specs.declared.cmp.Ordering.TheVariants.{Less, Equal, Greater}
 use Rattle.std.proofs.lemmas.Bool.Decides.{eqb_tells}
 use Rattle.std.proofs.lemmas.Bool.{eq-eqb, ne_eqb, lt-ltb, le-ltb}
 use Rattle.triple_arena.specs.Entries.{generation_at}
-use Rattle.triple_arena_chain.specs.Chains.{first_or, last_or}
-use Rattle.triple_arena_chain.specs.ChainLaws.{last_or-append}
-use Rattle.triple_arena_chain.specs.UniquenessLaws.{Ended, none, some_last, ended}
+use Rattle.linked_lists.specs.LinkedLists.{first_or, last_or}
+use Rattle.linked_lists.specs.LinkedListLaws.{last_or-append}
+use Rattle.linked_lists.specs.UniquenessLaws.{Ended, none, some_last, ended}
 use Rattle.triple_arena_ord.specs.Bounds.{IsBound, first_entry}
 use Rattle.triple_arena_ord.specs.Found.{IsFound, IsSimilar, Answers}
 use Rattle.triple_arena_ord.specs.Ordered.{IsAscending, asked_at, entry_in, order_in}

@@ -5,11 +5,12 @@
 #![tactic(auto)]
 
 ghost use Rattle.std.specs.Prelude.{◌≡◌, ℕ, length, ◌<◌, ◌↔◌, None, Some, IsOk, IfOk, IfSome};
-ghost use Rattle.std.specs.Prelude.{IfNone, OnOk, OnSome, OnErr, option_copied, ◌≤◌, IsErrOf};
+ghost use Rattle.std.specs.Prelude.{IfNone, OnOk, OnSome, OnErr, option_copied, ◌≤◌};
 ghost use Rattle.std.specs.Prelude.{IsTrue};
 ghost use Rattle.std.specs.Fn.{iterate};
 ghost use Rattle.std.specs.Int.NonZero.{non_zero_usize_get};
 ghost use Rattle.std.specs.Option.{option_map};
+ghost use Rattle.triple_arena_ptr.specs.Errors.{IsBeyondMaxCapacity, IsAllocError};
 ghost use Rattle.triple_arena_ptr.specs.Generation.{next_generation};
 ghost use Rattle.triple_arena_ptr.specs.InvalidationOption.{value_of, overflowed};
 ghost use Rattle.triple_arena_ptr.specs.InvalidationResult.{answer_of};
@@ -154,9 +155,9 @@ where
     ensures given_up { OnOk result (IsGivenUp B.entry_at B.live_count B.counter B.room Q.Gen.last
         source.old source.new) }
     ensures succeeds { B.live_count source.old ≤ capacity_of (A.room arena.old) → IsOk result }
-    ensures beyond { IsErrOf result ReallocationError.BeyondMaxCapacity
+    ensures beyond { IsBeyondMaxCapacity result
         ↔ IsBeyond (A.room arena.old).limit (B.live_count source.old) }
-    ensures memory { IsErrOf result ReallocationError.AllocError → IsTrue A.takes_memory }
+    ensures memory { IsAllocError result → IsTrue A.takes_memory }
     ensures err { OnErr result (arena.new ≡ arena.old) }
     ensures source_err { OnErr result (source.new ≡ source.old) }
 {

@@ -1,5 +1,6 @@
 //! What a caller learns of copies.
-ghost use Rattle.std.specs.Prelude.{◌≡◌, ◌≤◌, ◌↔◌, ℕ, IsOk, IfOk, OnOk, IsErrOf};
+ghost use Rattle.std.specs.Prelude.{◌≡◌, ◌≤◌, ◌↔◌, ℕ, IsOk, IfOk, OnOk};
+ghost use Rattle.triple_arena_ptr.specs.Errors.{IsBeyondMaxCapacity};
 ghost use Rattle.triple_arena_stack.specs.Room.{capacity as capacity_of, IsBeyond};
 ghost use Rattle.triple_arena.specs.ArenaRoom.{room_of, room_with};
 ghost use Rattle.triple_arena.specs.Copy.{last_listed, directly_copied, IsMappedCopy, NeverRefuses};
@@ -31,9 +32,9 @@ where
         ≡ room_with (last_listed (B.live_entries source.now)) (A.room arena.old)) }
     ensures succeeds { last_listed (B.live_entries source.now) ≤ capacity_of (A.room arena.old)
         → NeverRefuses F.step → IsOk result }
-    ensures beyond { IsErrOf result ReallocationError.BeyondMaxCapacity
+    ensures beyond { IsBeyondMaxCapacity result
         ↔ IsBeyond (A.room arena.old).limit (last_listed (B.live_entries source.now)) }
-    ensures kept { IsErrOf result ReallocationError.BeyondMaxCapacity → arena.new ≡ arena.old }
+    ensures kept { IsBeyondMaxCapacity result → arena.new ≡ arena.old }
 {
     arena.clone_from_with(source, map)
 }

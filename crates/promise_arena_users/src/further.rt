@@ -1,5 +1,6 @@
 //! Facts that follow from those of the calls: of the next index, of generations, and of memory.
-ghost use Rattle.std.specs.Prelude.{◌≡◌, ◌≤◌, Some, None, IsTrue, IfSome, IsErrOf, false};
+ghost use Rattle.std.specs.Prelude.{◌≡◌, ◌≤◌, Some, None, IsTrue, IfSome, false};
+ghost use Rattle.triple_arena_ptr.specs.Errors.{IsAllocError};
 ghost use Rattle.triple_arena_ptr.specs.InvalidationOption.{value_of};
 ghost use Rattle.triple_arena_ptr.specs.InvalidationResult.{answer_of};
 
@@ -49,7 +50,7 @@ pub fn store_in_array<P: PtrCore, T: Drop, const LIMIT: usize>(
     arena: &mut ArrayArena<P, T, LIMIT>,
     t: T,
 ) -> Result<P, ReallocationError>
-    ensures { IsErrOf result ReallocationError.AllocError → IsTrue false }
+    ensures { IsAllocError result → IsTrue false }
 {
     arena.insert(t)
 }
@@ -59,7 +60,7 @@ pub fn widen_array<P: PtrCore, T: Drop, const LIMIT: usize>(
     arena: &mut ArrayArena<P, T, LIMIT>,
     min: usize,
 ) -> Result<(), ReallocationError>
-    ensures { IsErrOf result ReallocationError.AllocError → IsTrue false }
+    ensures { IsAllocError result → IsTrue false }
 {
     arena.reallocate_min_capacity(min)
 }

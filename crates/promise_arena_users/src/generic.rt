@@ -3,6 +3,7 @@ ghost use Rattle.std.specs.Prelude.{◌≡◌, ◌≢◌, ℕ, ◌+◌, ◌<◌,
 ghost use Rattle.std.specs.Prelude.{IfSome, IfNone, IfOk, OnOk, OnErr, IsErrOf, unwrap_or};
 ghost use Rattle.std.specs.Prelude.{map as list_map, slice_get};
 ghost use Rattle.std.specs.Option.{option_map};
+ghost use Rattle.triple_arena_ptr.specs.Errors.{IsBeyondMaxCapacity};
 ghost use Rattle.triple_arena_ptr.specs.Generation.{second_generation, next_generation, next_wraps};
 ghost use Rattle.triple_arena_ptr.specs.InvalidationOption.{value_of, overflowed};
 ghost use Rattle.triple_arena_ptr.specs.InvalidationResult.{answer_of};
@@ -56,7 +57,7 @@ pub fn insert_reallocating<P: PtrCore, T: Drop, A: ArenaInsertTrait<P, T>>(
         → OnOk result (A.room arena.new ≡ grown (A.room arena.old)) }
     ensures succeeds { A.live_count arena.old < capacity_of (A.room arena.old)
         → IsOk result }
-    ensures beyond { IsErrOf result ReallocationError.BeyondMaxCapacity
+    ensures beyond { IsBeyondMaxCapacity result
         ↔ ((A.room arena.old).limit ≡ Some (A.live_count arena.old)) }
     ensures err { OnErr result (arena.new ≡ arena.old) }
 {
@@ -80,7 +81,7 @@ pub fn insert<P: PtrCore, T: Drop, A: ArenaInsertTrait<P, T>>(
         → OnOk result (A.room arena.new ≡ grown (A.room arena.old)) }
     ensures succeeds { A.live_count arena.old < capacity_of (A.room arena.old)
         → IsOk result }
-    ensures beyond { IsErrOf result ReallocationError.BeyondMaxCapacity
+    ensures beyond { IsBeyondMaxCapacity result
         ↔ ((A.room arena.old).limit ≡ Some (A.live_count arena.old)) }
     ensures err { OnErr result (arena.new ≡ arena.old) }
 {
@@ -186,8 +187,7 @@ pub fn with_min_capacity<P: PtrCore, T: Drop, A: ArenaTrait<P, T>>(
 
     // No memory is asked for if a new arena has the room already.
     ensures succeeds { min ≤ capacity_of (A.room_at 0) → IsOk result }
-    ensures beyond { IsErrOf result ReallocationError.BeyondMaxCapacity
-        ↔ IsBeyond (A.room_at min).limit min }
+    ensures beyond { IsBeyondMaxCapacity result ↔ IsBeyond (A.room_at min).limit min }
 {
     A::with_min_capacity(alloc, min)
 }
@@ -204,8 +204,7 @@ pub fn reallocate_min_capacity<P: PtrCore, T: Drop, A: ArenaTrait<P, T>>(
     ensures live { A.live_count arena.new ≡ A.live_count arena.old }
     ensures counter { A.counter arena.new ≡ A.counter arena.old }
     ensures succeeds { min ≤ capacity_of (A.room arena.old) → IsOk result }
-    ensures beyond { IsErrOf result ReallocationError.BeyondMaxCapacity
-        ↔ IsBeyond (A.room arena.old).limit min }
+    ensures beyond { IsBeyondMaxCapacity result ↔ IsBeyond (A.room arena.old).limit min }
     ensures err { OnErr result (arena.new ≡ arena.old) }
 {
     arena.reallocate_min_capacity(min)

@@ -1,9 +1,10 @@
 //! What callers know of an arena whose entries are taken out, by a drain or by a transfer, and of
 //! one with a limit.
-ghost use Rattle.std.specs.Prelude.{◌≡◌, ℕ, ◌≤◌, ◌↔◌, [], None, Some, IsOk, OnOk, OnErr, IsErrOf};
+ghost use Rattle.std.specs.Prelude.{◌≡◌, ℕ, ◌≤◌, ◌↔◌, [], None, Some, IsOk, OnOk, OnErr};
 ghost use Rattle.std.specs.Prelude.{map as list_map, replicate, slice_get};
 ghost use Rattle.std.specs.Fn.{iterate};
 ghost use Rattle.std.specs.Option.{option_map};
+ghost use Rattle.triple_arena_ptr.specs.Errors.{IsBeyondMaxCapacity};
 ghost use Rattle.triple_arena_ptr.specs.Generation.{next_generation};
 ghost use Rattle.triple_arena_stack.specs.Room.{capacity as capacity_of, IsBeyond};
 ghost use Rattle.triple_arena.specs.ArenaRoom.{room_with};
@@ -99,7 +100,7 @@ where
         (B.counter source.old)) }
     ensures source_room { OnOk result (B.room source.new ≡ B.room source.old) }
     ensures succeeds { B.live_count source.old ≤ capacity_of (A.room arena.old) → IsOk result }
-    ensures beyond { IsErrOf result ReallocationError.BeyondMaxCapacity
+    ensures beyond { IsBeyondMaxCapacity result
         ↔ IsBeyond (A.room arena.old).limit (B.live_count source.old) }
     ensures err { OnErr result (arena.new ≡ arena.old) }
     ensures source_err { OnErr result (source.new ≡ source.old) }

@@ -1,8 +1,7 @@
 //! Slots that are used again while pointers to what stood in them are kept.
-ghost use Rattle.std.specs.Prelude.{◌≡◌, ◌↔◌, ℕ, List, Option, Some, IsSome, IfSome, IfNone, false};
+ghost use Rattle.std.specs.Prelude.{◌≡◌, ◌↔◌, ℕ, Option, Some, IsSome, IfSome, IfNone, false};
 ghost use Rattle.triple_arena.specs.Entries.{value_if, with_entry, without, counter_wraps, IsOneOf};
-ghost use Rattle.triple_arena.specs.Steps.{Step, Finds, Happens, all_given, reached};
-ghost use Rattle.promise_arena_users.specs.Histories.{IsReached};
+ghost use Rattle.triple_arena.specs.Steps.{Finds, Happens, History, IsReached, all_given, reached};
 
 use triple_arena::laws::{ended_pointers_find_nothing, pointers_are_given_once};
 use triple_arena::{ArenaInsertTrait, InvalidationResult, PtrCore};
@@ -27,16 +26,14 @@ pub fn replace<P: PtrCore, T: Drop, A: ArenaInsertTrait<P, T>>(
         (P.generation q, t) k) }
     ensures live { A.live_count arena.new ≡ A.live_count arena.old }
     ensures missed { IfNone result (arena.new ≡ arena.old) }
-    ensures never_given { (history : List (Step T × A))
+    ensures never_given { (history : History A T)
         → IsReached A.entry_at A.live_count A.counter A.room A.live_entries P.Gen.last
-        history arena.old
-        → counter_wraps P.Gen.last (A.counter arena.old) ≡ false
+        history arena.old → counter_wraps P.Gen.last (A.counter arena.old) ≡ false
         → IfSome result (λ q. IsOneOf (all_given A.live_entries history) (P.index q, P.generation q)
         → ⊥) }
-    ensures ended { (history later : List (Step T × A))
+    ensures ended { (history later : History A T)
         → IsReached A.entry_at A.live_count A.counter A.room A.live_entries P.Gen.last
-        history arena.old
-        → counter_wraps P.Gen.last (A.counter arena.old) ≡ false
+        history arena.old → counter_wraps P.Gen.last (A.counter arena.old) ≡ false
         → IsOneOf (all_given A.live_entries history) (P.index p, P.generation p)
         → Happens A.entry_at A.live_count A.counter A.room A.live_entries P.Gen.last arena.new later
         → IsSome result → Finds A.entry_at (reached arena.new later) (P.index p, P.generation p)

@@ -3,7 +3,7 @@ ghost use Rattle.std.specs.Prelude.{◌≡◌, ◌↔◌, ◌%◌, ◌^◌, IsOk
 ghost use Rattle.std.specs.List.{sum as sum_of};
 ghost use Rattle.triple_arena.specs.Compression.{value_of};
 ghost use Rattle.triple_arena.specs.Content.{live_count};
-ghost use Rattle.triple_arena_chain.specs.Chains.{IsAgreed};
+ghost use Rattle.linked_lists.specs.LinkedLists.{IsAgreed};
 ghost use Rattle.triple_arena_chain.specs.Links.{ends_in};
 ghost use Rattle.triple_arena_chain.specs.Listed.{listed_values};
 

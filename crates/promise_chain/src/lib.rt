@@ -1,6 +1,6 @@
-//! What the chains' calls promise, said once more of functions whose body is the call alone, so that
-//! wrong bodies can be tried here. An edit of `must-fail` puts one into a function, and must be
-//! refused.
+//! What the chains' calls promise, said once more of functions whose body is the call alone, so
+//! that wrong bodies can be tried here. An edit of `must-fail` puts one into a function, and must
+//! be refused.
 #![tactic(auto)]
 
 mod insertions;

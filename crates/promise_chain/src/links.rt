@@ -5,11 +5,11 @@ ghost use Rattle.std.specs.Option.{option_map};
 ghost use Rattle.triple_arena.specs.Content.{get};
 ghost use Rattle.triple_arena.specs.Entries.{value_if};
 ghost use Rattle.triple_arena_chain.specs.declared.kind.InsertKind.TheVariants.{Bridge};
-ghost use Rattle.triple_arena_chain.specs.Chains.{next_in, next_at, prev_at};
+ghost use Rattle.linked_lists.specs.LinkedLists.{next_in, next_at, prev_at};
 ghost use Rattle.triple_arena_chain.specs.Links.{ends_in, ends_found, values_in, gap_among};
 ghost use Rattle.triple_arena_chain.specs.Links.{IsChained, Connects, BreaksNext, BreaksPrev};
 ghost use Rattle.triple_arena_chain.specs.Links.{ExchangesNexts, HasNext, HasPrev};
-ghost use Rattle.triple_arena_chain.specs.Lists.{IsAppended, IsSplit, IsExchanged};
+ghost use Rattle.linked_lists.specs.Chains.{IsAppended, IsSplit, IsExchanged};
 ghost use Rattle.triple_arena_chain.specs.Values.{IsLivePtr};
 
 use triple_arena::PtrCore;

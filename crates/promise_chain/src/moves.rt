@@ -1,6 +1,7 @@
 //! Calls on all links at once: compressions, copies, and arenas of links that become chains.
-ghost use Rattle.std.specs.Prelude.{◌≡◌, ◌≤◌, ◌↔◌, ℕ, IsSome, IsOk, IfNone, IsErrOf, OnOk, OnSome};
+ghost use Rattle.std.specs.Prelude.{◌≡◌, ◌≤◌, ◌↔◌, ℕ, IsSome, IsOk, IfNone, OnOk, OnSome};
 ghost use Rattle.std.specs.Prelude.{map as list_map};
+ghost use Rattle.triple_arena_ptr.specs.Errors.{IsBeyondMaxCapacity, IsAllocError};
 ghost use Rattle.triple_arena_ptr.specs.InvalidationOption.{overflowed};
 ghost use Rattle.triple_arena_stack.specs.Room.{capacity as capacity_of, IsBeyond};
 ghost use Rattle.triple_arena.specs.Compression.{renewal_wraps, value_of, IsMapped};
@@ -9,10 +10,10 @@ ghost use Rattle.triple_arena.specs.Copy.{last_listed, copied, MayRefuse, NeverR
 ghost use Rattle.triple_arena.specs.Copy.{IsMappedCopy, IsRefusedCopy, IsCopy, IsUnmadeCopy};
 ghost use Rattle.triple_arena.specs.LiveEntries.{live_entries};
 ghost use Rattle.triple_arena_chain.specs.CanonicalLayout.{IsCanonical};
-ghost use Rattle.triple_arena_chain.specs.Chains.{IsAgreed};
+ghost use Rattle.linked_lists.specs.LinkedLists.{IsAgreed};
 ghost use Rattle.triple_arena_chain.specs.Links.{ends_in, values_in, IsChained};
 ghost use Rattle.triple_arena_chain.specs.Listed.{listed_values};
-ghost use Rattle.triple_arena_chain.specs.Lists.{Chain, IsChainOf};
+ghost use Rattle.linked_lists.specs.Chains.{Chain, IsChainOf};
 ghost use Rattle.triple_arena_chain.specs.Renaming.{IsCompacted};
 ghost use Rattle.triple_arena_chain.specs.Values.{room_in};
 
@@ -77,11 +78,10 @@ where
         ≡ copied target.old (A.Links.counter (A.links source.now)) (live_entries target.new)) }
     ensures succeeds { last_listed (A.Links.live_entries (A.links source.now))
         ≤ capacity_of (room_in target.old) → NeverRefuses F.step → IsOk result }
-    ensures beyond { IsErrOf result ReallocationError.BeyondMaxCapacity
-        ↔ IsBeyond (room_in target.old).limit
+    ensures beyond { IsBeyondMaxCapacity result ↔ IsBeyond (room_in target.old).limit
         (last_listed (A.Links.live_entries (A.links source.now))) }
-    ensures kept { IsErrOf result ReallocationError.BeyondMaxCapacity → target.new ≡ target.old }
-    ensures unmade { IsErrOf result ReallocationError.AllocError
+    ensures kept { IsBeyondMaxCapacity result → target.new ≡ target.old }
+    ensures unmade { IsAllocError result
         → IsUnmadeCopy values_in live_count some_counter room_in S.takes_memory
         P.Gen.last (last_listed (A.Links.live_entries (A.links source.now)))
         (λ c. cleared P.Gen.last
@@ -104,10 +104,10 @@ pub fn clone_from<P: PtrCore, T: Clone, S: ChainSlots<P, T>>(
         (live_entries source.now)) }
     ensures succeeds { last_listed (live_entries source.now) ≤ capacity_of (room_in target.old)
         → ((x : T) → T.is_infallible x) → IsOk result }
-    ensures beyond { IsErrOf result ReallocationError.BeyondMaxCapacity
+    ensures beyond { IsBeyondMaxCapacity result
         ↔ IsBeyond (room_in target.old).limit (last_listed (live_entries source.now)) }
-    ensures kept { IsErrOf result ReallocationError.BeyondMaxCapacity → target.new ≡ target.old }
-    ensures unmade { IsErrOf result ReallocationError.AllocError
+    ensures kept { IsBeyondMaxCapacity result → target.new ≡ target.old }
+    ensures unmade { IsAllocError result
         → IsUnmadeCopy values_in live_count some_counter room_in S.takes_memory P.Gen.last
         (last_listed (live_entries source.now))
         (λ c. cleared P.Gen.last (reallocated c (last_listed (live_entries source.now))))

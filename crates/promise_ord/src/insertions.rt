@@ -1,16 +1,15 @@
 //! Insertions: where each puts its item, what it refuses, and that the tree keeps its rules and has
 //! the list as its walk.
-ghost use Rattle.std.specs.Prelude.{◌≡◌, ◌<◌, ℕ, Some, None, IsSome, IfSome, IfOk};
-ghost use Rattle.std.specs.Option.{option_map};
+ghost use Rattle.std.specs.Prelude.{◌≡◌, ◌<◌, ℕ, Some, None, IsSome, IfOk};
 ghost use Rattle.std.specs.Borrow.{sem, RestsIfErr};
 ghost use Rattle.triple_arena.specs.Content.{arena_capacity};
 ghost use Rattle.triple_arena_ord.specs.Inserted.{AddsAt, InsertsAt, InsertsByKey, GetsOrInserts};
 ghost use Rattle.triple_arena_ord.specs.Inserted.{Replaces, under, within_room};
-ghost use Rattle.triple_arena_ord.specs.InsertEntry.{entry_arena, entry_lender, entry_place};
-ghost use Rattle.triple_arena_ord.specs.InsertEntry.{IsReady, IsOrdAnswer};
-ghost use Rattle.triple_arena_ord.specs.Placing.{Meets, IsPlaceFor};
+ghost use Rattle.triple_arena_ord.specs.InsertEntry.{entry_arena, entry_lender, IsAnswerTo};
+ghost use Rattle.triple_arena_ord.specs.InsertEntry.{IsReady};
 ghost use Rattle.triple_arena_ord.specs.Ordered.{entry_in, size_in};
 ghost use Rattle.triple_arena_ord.specs.contracts.ord_arena.SimpleOrdArena.{the_row};
+ghost use Rattle.triple_arena_ord.specs.Found.{place_by, IsLivePlace};
 
 use std::cmp::Ordering;
 use triple_arena::PtrCore;
@@ -68,12 +67,12 @@ pub fn insert_inx_manual_within_capacity<P: PtrCore, T: Drop, S: OrdSlots<P, T>>
     place: Option<(P::Inx, Ordering)>,
     t: T,
 ) -> P
-    requires live { IfSome place (λ a. IsSome (entry_in arena.old (P.Inx.number a.0))) }
+    requires live { IsLivePlace P.Inx.number arena.old place }
     requires empty { place ≡ None → size_in arena.old ≡ 0 }
-    requires new { Replaces (option_map (λ a. (P.Inx.number a.0, a.1)) place) → ⊥ }
+    requires new { Replaces (place_by P.Inx.number place) → ⊥ }
     requires room { size_in arena.old < arena_capacity arena.old.chains }
-    ensures { AddsAt (option_map (λ a. (P.Inx.number a.0, a.1)) place)
-        (P.index result) (P.generation result) t arena.old arena.new }
+    ensures { AddsAt (place_by P.Inx.number place) (P.index result) (P.generation result) t
+        arena.old arena.new }
 {
     let p = arena.insert_inx_manual_within_capacity(place, t);
     p
@@ -84,8 +83,7 @@ pub fn entry_insert_within_capacity<'a, P: PtrCore, T: SimpleOrdItem + Drop, S: 
     arena: &'a mut SimpleOrdArena<P, T, S>,
     kind: OrdInsertKind<P, &T::Key>,
 ) -> Result<SimpleOrdArenaInsertEntry<'a, P, T, S>, OrdInsertionError>
-    ensures answer { IsOrdAnswer (Meets P.Inx.number kind.entry arena.old)
-        (IsPlaceFor P.Inx.number T.Key.cmp T.key_of kind.entry arena.old) (entry_place P.Inx.number)
+    ensures answer { IsAnswerTo P.Inx.number T.Key.cmp T.key_of kind.entry arena.old
         (within_room (size_in arena.old) arena.old.chains.room) result }
     ensures ready { IfOk result (λ e. IsReady P.Inx.number P.index P.generation e) }
     ensures same_reference { IfOk result (λ e. entry_lender e ≡ arena.entry.ghost_name) }

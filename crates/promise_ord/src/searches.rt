@@ -1,15 +1,14 @@
 //! Searches by key: what each finds, and how often it compares.
-ghost use Rattle.std.specs.Prelude.{◌≡◌, ◌+◌, ◌≤◌, Some, None, IsSome, IfSome};
+ghost use Rattle.std.specs.Prelude.{◌≡◌, ◌+◌, ◌≤◌, None, IsSome, IfSome};
 ghost use Rattle.std.specs.declared.cmp.Ordering.{Ordering as Way};
 ghost use Rattle.rank_tree.specs.Comparisons.{most_comparisons};
-ghost use Rattle.triple_arena.specs.Entries.{generation_at, value_if};
-ghost use Rattle.rank_tree.specs.Search.{asked_down};
-ghost use Rattle.triple_arena_chain.specs.Chains.{On};
+ghost use Rattle.linked_lists.specs.LinkedLists.{On};
 ghost use Rattle.triple_arena_ord.specs.Bounds.{IsBound};
-ghost use Rattle.triple_arena_ord.specs.Near.{IsEndNear, IsKeyCounted, path_from};
-ghost use Rattle.triple_arena_ord.specs.Found.{IsFound};
-ghost use Rattle.triple_arena_ord.specs.Ordered.{IsAscending, tree_in, order_in, entry_in, size_in};
-ghost use Rattle.triple_arena_ord.specs.Ordered.{asked_at};
+ghost use Rattle.triple_arena_ord.specs.Ordered.{IsAscending, order_in, entry_in, size_in};
+ghost use Rattle.triple_arena_ord.specs.Ordered.{comparisons};
+ghost use Rattle.triple_arena_ord.specs.Found.{item_found, IsFoundByKey};
+ghost use Rattle.triple_arena_ord.specs.Near.{IsKeyNear, IsKeySearchCounted};
+ghost use Rattle.triple_arena.specs.Steps.{Finds};
 
 use triple_arena::PtrCore;
 use triple_arena_ord::{OrdSlots, Probes, SimpleOrdArena, SimpleOrdItem};
@@ -30,11 +29,8 @@ pub fn find_key_counted<P: PtrCore, T: SimpleOrdItem + Drop, S: OrdSlots<P, T>>(
     k: &T::Key,
     probes: &mut Probes,
 ) -> Option<P>
-    ensures found { IsFound P.index P.generation (asked_at T.Key.cmp T.key_of k.now arena.now)
-        (IsAscending T.Key.cmp T.key_of arena.now) result arena.now }
-    ensures ticks { probes.new ≡ probes.old
-        + asked_down (asked_at T.Key.cmp T.key_of k.now arena.now)
-        (tree_in arena.now) }
+    ensures found { IsFoundByKey P.index P.generation T.Key.cmp T.key_of k.now result arena.now }
+    ensures ticks { probes.new ≡ probes.old + comparisons T.Key.cmp T.key_of k.now arena.now }
     ensures bound { probes.new ≤ probes.old + most_comparisons (size_in arena.now) }
 {
     let found = arena.find_key_counted(k, probes);
@@ -50,22 +46,17 @@ pub fn find_key_linear_counted<P: PtrCore, T: SimpleOrdItem + Drop, S: OrdSlots<
     k: &T::Key,
     probes: &mut Probes,
 ) -> Option<P>
-    ensures found { IsFound P.index P.generation (asked_at T.Key.cmp T.key_of k.now arena.now)
-        (IsAscending T.Key.cmp T.key_of arena.now) result arena.now }
+    ensures found { IsFoundByKey P.index P.generation T.Key.cmp T.key_of k.now result arena.now }
     ensures rises { probes.old ≤ probes.new }
     ensures bound { probes.new ≤ probes.old + (num + most_comparisons (size_in arena.now)) }
-    ensures gone { value_if (P.generation p_init) (entry_in arena.now (P.index p_init)) ≡ None
-        → probes.new ≡ probes.old + asked_down (asked_at T.Key.cmp T.key_of k.now arena.now)
-        (tree_in arena.now) }
-    ensures counted { IsSome (value_if (P.generation p_init) (entry_in arena.now (P.index p_init)))
+    ensures gone { item_found P.index P.generation arena.now p_init ≡ None
+        → probes.new ≡ probes.old + comparisons T.Key.cmp T.key_of k.now arena.now }
+    ensures counted { IsSome (item_found P.index P.generation arena.now p_init)
         → (on : On (order_in arena.now) (P.index p_init))
-        → IsKeyCounted num (asked_down (asked_at T.Key.cmp T.key_of k.now arena.now)
-        (tree_in arena.now)) (asked_at T.Key.cmp T.key_of k.now arena.now)
-        (path_from (asked_at T.Key.cmp T.key_of k.now arena.now) on) probes.old probes.new }
+        → IsKeySearchCounted T.Key.cmp T.key_of num k.now arena.now on probes.old probes.new }
     ensures near { IsAscending T.Key.cmp T.key_of arena.now
-        → IsSome (value_if (P.generation p_init) (entry_in arena.now (P.index p_init)))
-        → IsEndNear num (asked_at T.Key.cmp T.key_of k.now arena.now)
-        (order_in arena.now) (P.index p_init)
+        → IsSome (item_found P.index P.generation arena.now p_init)
+        → IsKeyNear T.Key.cmp T.key_of (P.index p_init) num k.now arena.now
         → probes.new ≤ probes.old + num }
 {
     let found = arena.find_key_linear_counted(p_init, num, k, probes);
@@ -81,8 +72,7 @@ pub fn lower_bound<P: PtrCore, T: SimpleOrdItem + Drop, S: OrdSlots<P, T>>(
     ensures bound { IsAscending T.Key.cmp T.key_of arena.now
         → IsBound P.index P.generation
         (λ t. T.Key.cmp k.now (T.key_of t) ≡ Way.Greater) result arena.now }
-    ensures live { IfSome result (λ p. generation_at (entry_in arena.now) (P.index p)
-        ≡ Some (P.generation p)) }
+    ensures live { IfSome result (λ p. Finds entry_in arena.now (P.index p, P.generation p)) }
 {
     let bound = arena.lower_bound(k);
     bound

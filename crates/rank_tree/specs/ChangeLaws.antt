@@ -5,7 +5,8 @@ use Rattle.rank_tree.specs.NodeView.{NodeView}
 use Rattle.rank_tree.specs.declared.side.Side.TheVariants.{Left}
 use Rattle.rank_tree.specs.Store.{Store, Written, Reparented, Relinked}
 use Rattle.rank_tree.specs.Tree.{node, walk}
-use Rattle.rank_tree.specs.Shape.{node_view, root_of, plug, holder, RepresentsTree, one, count, count_round}
+use Rattle.rank_tree.specs.Shape.{node_view, root_of, plug, holder, RepresentsTree, one, count}
+use Rattle.rank_tree.specs.Shape.{count_round}
 use Rattle.rank_tree.specs.Repair.{Replacement, KeptOff}
 use Rattle.rank_tree.specs.FrameLaws.{Represents-keep, Hangs-keep, plug-count, plug-opens}
 use Rattle.rank_tree.specs.FrameLaws.{plug-closes, Represents-reparent, reparent-elsewhere}

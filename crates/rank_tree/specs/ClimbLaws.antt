@@ -9,7 +9,8 @@ use Rattle.rank_tree.specs.Store.{Store, other_side, child_of, Written, with_ran
 use Rattle.rank_tree.specs.Store.{rank_or_zero}
 use Rattle.rank_tree.specs.Tree.{Tree, leaf, node, walk, size, rank_of, IsRanked, Fits}
 use Rattle.rank_tree.specs.Shape.{make, near_of, node_view, root_of, Context, top, under, plug}
-use Rattle.rank_tree.specs.Shape.{holder, Hangs, RepresentsTree, one, count, count_round, IsDistinct}
+use Rattle.rank_tree.specs.Shape.{holder, Hangs, RepresentsTree, one, count, count_round}
+use Rattle.rank_tree.specs.Shape.{IsDistinct}
 use Rattle.rank_tree.specs.Repair.{Spot, IsRankedRound, Restored, Grown, Leaning, KeptOff}
 use Rattle.rank_tree.specs.BoundLaws.{small_rank}
 use Rattle.rank_tree.specs.FrameLaws.{one-same, Represents-keep, Hangs-keep, make-count, make-root}
@@ -334,6 +335,15 @@ pub record IsLevel (n : Store) (root : Option ℕ) (low : ℕ) (w : List ℕ) (h
   pub at_high : n high ≡ Some above
   pub rank_is : rank ≡ h.rank
   pub no_higher : h.high_rank ≤ h.rank
+
+-- a subtree that has grown to this rank, below a parent that is no higher
+pub record GrownTo (n : Store) (above : NodeView) (rank : ℕ) : Type 0 where
+  pub root : Option ℕ
+  pub low : ℕ
+  pub w : List ℕ
+  pub high : ℕ
+  pub climbing : Climbing n root low w high
+  pub level : IsLevel n root low w high climbing above rank
 
 -- the parent's node
 pub climb_node : (n : Store) (root : Option ℕ) (low high : ℕ) (above : NodeView)

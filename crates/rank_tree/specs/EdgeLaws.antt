@@ -8,7 +8,8 @@ use Rattle.rank_tree.specs.declared.side.Side.{Side}
 use Rattle.rank_tree.specs.declared.side.Side.TheVariants.{Left, Right}
 use Rattle.rank_tree.specs.Store.{Store, with_child, Written, Reparented, Relinked}
 use Rattle.rank_tree.specs.Tree.{Tree, leaf, node, walk, rank_of, IsRanked}
-use Rattle.rank_tree.specs.Shape.{make, node_view, root_of, Context, top, under, plug, holder, Hangs}
+use Rattle.rank_tree.specs.Shape.{make, node_view, root_of, Context, top, under, plug, holder}
+use Rattle.rank_tree.specs.Shape.{Hangs}
 use Rattle.rank_tree.specs.Shape.{one, count, count_round}
 use Rattle.rank_tree.specs.Repair.{IsRankedRound, Grown, Pending, FreeSide, new_below, filled}
 use Rattle.rank_tree.specs.Repair.{Loose, KeptOff}

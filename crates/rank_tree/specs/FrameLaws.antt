@@ -8,7 +8,8 @@ use Rattle.rank_tree.specs.declared.side.Side.TheVariants.{Left, Right}
 use Rattle.rank_tree.specs.Store.{Store, Written, Reparented, Relinked}
 use Rattle.rank_tree.specs.Tree.{Tree, leaf, node, walk, rank_of}
 use Rattle.rank_tree.specs.Shape.{make, node_view, root_of, Context, top, under, plug, holder}
-use Rattle.rank_tree.specs.Shape.{Represents, Hangs, RepresentsTree, one, count, count_in, count_round}
+use Rattle.rank_tree.specs.Shape.{Represents, Hangs, RepresentsTree, one, count, count_in}
+use Rattle.rank_tree.specs.Shape.{count_round}
 use Rattle.rank_tree.specs.Shape.{IsDistinct}
 use Rattle.rank_tree.specs.Repair.{KeptOff}
 

@@ -6,7 +6,8 @@ use Rattle.rank_tree.specs.declared.side.Side.TheVariants.{Left, Right}
 use Rattle.rank_tree.specs.NodeView.{NodeView}
 use Rattle.rank_tree.specs.Store.{Store, Written, Reparented, Relinked}
 use Rattle.rank_tree.specs.Tree.{Tree, walk}
-use Rattle.rank_tree.specs.Shape.{make, node_view, root_of, Context, plug, holder, Hangs, RepresentsTree, one}
+use Rattle.rank_tree.specs.Shape.{make, node_view, root_of, Context, plug, holder, Hangs}
+use Rattle.rank_tree.specs.Shape.{RepresentsTree, one}
 use Rattle.rank_tree.specs.Shape.{count, count_round, IsDistinct}
 use Rattle.rank_tree.specs.Repair.{KeptOff}
 use Rattle.rank_tree.specs.FrameLaws.{one-same, Represents-keep, Hangs-keep, make-count, make-root}

@@ -5,7 +5,8 @@ use Rattle.rank_tree.specs.declared.side.Side.{Side}
 use Rattle.rank_tree.specs.declared.side.Side.TheVariants.{Left, Right}
 use Rattle.rank_tree.specs.Store.{Store, other_side}
 use Rattle.rank_tree.specs.Tree.{Tree, leaf, node, walk, rank_of, IsRanked, Fits}
-use Rattle.rank_tree.specs.Shape.{make, root_of, Context, top, under, plug, RepresentsTree, IsDistinct}
+use Rattle.rank_tree.specs.Shape.{make, root_of, Context, top, under, plug, RepresentsTree}
+use Rattle.rank_tree.specs.Shape.{IsDistinct}
 use Rattle.rank_tree.specs.Repair.{Spot, turned, IsRankedRound, Restored, KeptOff}
 use Rattle.rank_tree.specs.FrameLaws.{make-rank, make-walk, plug-walk, IsDistinct-walk}
 use Rattle.rank_tree.specs.TurnLaws.{turn-walk}

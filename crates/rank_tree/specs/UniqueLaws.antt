@@ -7,7 +7,8 @@ use Rattle.rank_tree.specs.Whole.{read_tree, tree_of}
 use Rattle.rank_tree.specs.BoundLaws.{height-le-rank}
 use Rattle.rank_tree.specs.SpotLaws.{rank_link}
 use Rattle.rank_tree.specs.Tree.{Tree, leaf, node, walk, height, IsRanked}
-use Rattle.rank_tree.specs.Shape.{node_view, make, root_of, Represents, RepresentsTree, Context, top, under}
+use Rattle.rank_tree.specs.Shape.{node_view, make, root_of, Represents, RepresentsTree, Context}
+use Rattle.rank_tree.specs.Shape.{top, under}
 use Rattle.rank_tree.specs.Shape.{plug}
 
 pub unique : (n : Store) (p q : Option ℕ) (t u : Tree) → Represents n p t → Represents n q u

@@ -1,6 +1,5 @@
 //! What the repair after a removal reads round a node and its parent.
 ghost use Rattle.std.specs.Prelude.{ℕ, ◌<◌, Option, ⊤};
-ghost use Rattle.std.specs.Option.{option_map};
 ghost use Rattle.rank_tree.specs.Repair.{Spot, IsAround};
 
 use crate::node_store::rank_at;
@@ -28,10 +27,8 @@ pub(crate) fn look_around<N, P: PtrCore, K: NodeStore<N, P>>(
 ) -> Around<P::Inx>
     requires spot { (root : Option ℕ) × Spot (K.nodes nodes.now) root (P.Inx.number low) }
     requires no_more { ⊤ }
-    ensures { (root : Option ℕ) → (spot : Spot (K.nodes nodes.now) root (P.Inx.number low))
-        → IsAround (K.nodes nodes.now) root (P.Inx.number low) spot (P.Inx.number result.high)
-        (option_map P.Inx.number result.inner)
-        result.low_rank result.high_rank result.outer_rank result.inner_rank result.far_rank }
+    ensures { (root : Option ℕ) (spot : Spot (K.nodes nodes.now) root (P.Inx.number low))
+        → IsAround P.Inx.number spot result }
 {
     let below = nodes.read(low);
     let Some(high) = below.parent else {

@@ -2,10 +2,9 @@
 //! the place of another.
 ghost use Rattle.std.specs.Prelude.{◌≡◌, ℕ, Some, None, IsSome};
 ghost use Rattle.std.specs.Option.{option_map};
-ghost use Rattle.rank_tree.specs.Tree.{node, walk};
-ghost use Rattle.rank_tree.specs.Shape.{plug, RepresentsTree};
+ghost use Rattle.rank_tree.specs.Tree.{walk};
 ghost use Rattle.rank_tree.specs.Repair.{Replacement, FreeSide, filled, new_below, Grown, Loose};
-ghost use Rattle.rank_tree.specs.Repair.{Pending, KeptOff};
+ghost use Rattle.rank_tree.specs.Repair.{Pending, KeptOff, Becomes, walk_without, substituted};
 
 use crate::node_store::{relink, reparent};
 use crate::{NodeLinks, NodeStore, Side};
@@ -46,11 +45,10 @@ pub(crate) fn detach<N, P: PtrCore, K: NodeStore<N, P>>(
     ensures does { (loose : Loose (K.nodes nodes.old) (option_map P.Inx.number root.old)
         (P.Inx.number gone))
         → Pending (K.nodes nodes.new) (option_map P.Inx.number root.new)
-        (option_map P.Inx.number result.0) (option_map P.Inx.number result.1)
-        (walk (plug loose.context loose.sub)) }
+        (option_map P.Inx.number result.0) (option_map P.Inx.number result.1) (walk_without loose) }
     ensures elsewhere { (loose : Loose (K.nodes nodes.old) (option_map P.Inx.number root.old)
         (P.Inx.number gone))
-        → KeptOff (walk (plug loose.context loose.sub)) (K.nodes nodes.old) (K.nodes nodes.new) }
+        → KeptOff (walk_without loose) (K.nodes nodes.old) (K.nodes nodes.new) }
     ensures keeps { K.rest nodes.new ≡ K.rest nodes.old }
 {
     let links = nodes.read(gone);
@@ -72,13 +70,8 @@ pub fn replace<N, P: PtrCore, K: NodeStore<N, P>>(
     requires slot { IsSome (K.nodes nodes.old (P.Inx.number new)) }
     ensures does { (place : Replacement (K.nodes nodes.old) (option_map P.Inx.number root.old)
         (P.Inx.number old) (P.Inx.number new))
-        → RepresentsTree (K.nodes nodes.new) (option_map P.Inx.number root.new)
-        (plug place.context (node place.left (P.Inx.number new) place.rank place.right)) }
-    ensures elsewhere { (place : Replacement (K.nodes nodes.old) (option_map P.Inx.number root.old)
-        (P.Inx.number old) (P.Inx.number new))
-        → KeptOff (walk (plug place.context
-        (node place.left (P.Inx.number new) place.rank place.right))) (K.nodes nodes.old)
-        (K.nodes nodes.new) }
+        → Becomes P.Inx.number (substituted place) (K.nodes nodes.old) (K.nodes nodes.new)
+        root.new }
     ensures keeps { K.rest nodes.new ≡ K.rest nodes.old }
 {
     let links = nodes.read(old);

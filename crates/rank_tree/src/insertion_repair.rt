@@ -3,8 +3,8 @@ ghost use Rattle.std.specs.Prelude.{◌≡◌, ℕ, ◌+◌, ◌<◌, List, Some
 ghost use Rattle.std.specs.Option.{option_map};
 ghost use Rattle.rank_tree.specs.Tree.{walk, rank_of};
 ghost use Rattle.rank_tree.specs.Named.{named};
-ghost use Rattle.rank_tree.specs.Repair.{Leaning, Grown, Restored, FreeSide, filled, new_below, KeptOff};
-ghost use Rattle.rank_tree.specs.ClimbLaws.{Climbing, IsLevel};
+ghost use Rattle.rank_tree.specs.Repair.{Leaning, Grown, FreeSide, filled, new_below, Restores};
+ghost use Rattle.rank_tree.specs.ClimbLaws.{GrownTo};
 
 use crate::edges::attach;
 use crate::node_store::rank_at;
@@ -20,10 +20,7 @@ fn lean<N, P: PtrCore, K: NodeStore<N, P>>(nodes: &mut K, root: &mut Option<P::I
     requires no_more { ⊤ }
     ensures does { (w : List ℕ)
         → Leaning (K.nodes nodes.old) (option_map P.Inx.number root.old) (P.Inx.number low) w
-        → Restored (K.nodes nodes.new) (option_map P.Inx.number root.new) w }
-    ensures elsewhere { (w : List ℕ)
-        → Leaning (K.nodes nodes.old) (option_map P.Inx.number root.old) (P.Inx.number low) w
-        → KeptOff w (K.nodes nodes.old) (K.nodes nodes.new) }
+        → Restores P.Inx.number w (K.nodes nodes.old) (K.nodes nodes.new) root.new }
     ensures keeps { K.rest nodes.new ≡ K.rest nodes.old }
 {
     let below = nodes.read(low);
@@ -50,14 +47,10 @@ fn is_two_lower<N, P: PtrCore, K: NodeStore<N, P>>(
     above: NodeLinks<P::Inx>,
     rank: u8,
 ) -> bool
-    requires level { (root : Option ℕ) × (low : ℕ) × (w : List ℕ) × (high : ℕ)
-        × (h : Climbing (K.nodes nodes.now) root low w high)
-        × IsLevel _ _ _ _ _ h (named P.Inx.number above) rank }
+    requires grown { GrownTo (K.nodes nodes.now) (named P.Inx.number above) rank }
     requires no_more { ⊤ }
-    ensures { (root : Option ℕ) (low : ℕ) (w : List ℕ) (high : ℕ)
-        (h : Climbing (K.nodes nodes.now) root low w high)
-        → IsLevel _ _ _ _ _ h (named P.Inx.number above) rank
-        → (IsTrue result ↔ (rank_of h.far + 1 < rank)) }
+    ensures { (grown : GrownTo (K.nodes nodes.now) (named P.Inx.number above) rank)
+        → (IsTrue result ↔ (rank_of grown.climbing.far + 1 < rank)) }
 {
     if rank == 2 {
         return above.left.is_none() || above.right.is_none();
@@ -79,10 +72,7 @@ pub(crate) fn repair_inserted<N, P: PtrCore, K: NodeStore<N, P>>(
     requires no_more { ⊤ }
     ensures does { (w : List ℕ)
         → Grown (K.nodes nodes.old) (option_map P.Inx.number root.old) (P.Inx.number start) w
-        → Restored (K.nodes nodes.new) (option_map P.Inx.number root.new) w }
-    ensures elsewhere { (w : List ℕ)
-        → Grown (K.nodes nodes.old) (option_map P.Inx.number root.old) (P.Inx.number start) w
-        → KeptOff w (K.nodes nodes.old) (K.nodes nodes.new) }
+        → Restores P.Inx.number w (K.nodes nodes.old) (K.nodes nodes.new) root.new }
     ensures keeps { K.rest nodes.new ≡ K.rest nodes.old }
 {
     let mut low = start;
@@ -117,10 +107,8 @@ pub fn bring_in<N, P: PtrCore, K: NodeStore<N, P>>(
     requires slot { K.nodes nodes.old (P.Inx.number new) ≡ Some (new_below (P.Inx.number holder)) }
     ensures does { (free : FreeSide (K.nodes nodes.old) (option_map P.Inx.number root.old)
         (P.Inx.number holder) side (P.Inx.number new))
-        → Restored (K.nodes nodes.new) (option_map P.Inx.number root.new) (walk (filled free)) }
-    ensures elsewhere { (free : FreeSide (K.nodes nodes.old) (option_map P.Inx.number root.old)
-        (P.Inx.number holder) side (P.Inx.number new))
-        → KeptOff (walk (filled free)) (K.nodes nodes.old) (K.nodes nodes.new) }
+        → Restores P.Inx.number (walk (filled free)) (K.nodes nodes.old) (K.nodes nodes.new)
+        root.new }
     ensures keeps { K.rest nodes.new ≡ K.rest nodes.old }
 {
     attach(nodes, *root, holder, side, new);

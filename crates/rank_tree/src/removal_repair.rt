@@ -2,11 +2,9 @@
 ghost use Rattle.std.specs.Prelude.{◌≡◌, ℕ, ◌<◌, ◌≤◌, List, Some, IfSome, IsTrue, ◌↔◌, ⊤};
 ghost use Rattle.std.specs.Option.{option_map};
 ghost use Rattle.rank_tree.specs.Store.{rank_in};
-ghost use Rattle.rank_tree.specs.Tree.{walk};
-ghost use Rattle.rank_tree.specs.Shape.{plug};
 ghost use Rattle.rank_tree.specs.Named.{named};
-ghost use Rattle.rank_tree.specs.Repair.{Short, Broken, Pending, Restored, Loose, KeptOff};
-ghost use Rattle.rank_tree.specs.Repair.{IsFitAbove};
+ghost use Rattle.rank_tree.specs.Repair.{Short, Broken, Pending, Loose, KeptOff, Restores};
+ghost use Rattle.rank_tree.specs.Repair.{IsFitAbove, walk_without};
 
 use crate::around::look_around;
 use crate::edges::detach;
@@ -23,10 +21,7 @@ fn shorten<N, P: PtrCore, K: NodeStore<N, P>>(nodes: &mut K, root: &mut Option<P
     requires no_more { ⊤ }
     ensures does { (w : List ℕ)
         → Short (K.nodes nodes.old) (option_map P.Inx.number root.old) (P.Inx.number low) w
-        → Restored (K.nodes nodes.new) (option_map P.Inx.number root.new) w }
-    ensures elsewhere { (w : List ℕ)
-        → Short (K.nodes nodes.old) (option_map P.Inx.number root.old) (P.Inx.number low) w
-        → KeptOff w (K.nodes nodes.old) (K.nodes nodes.new) }
+        → Restores P.Inx.number w (K.nodes nodes.old) (K.nodes nodes.new) root.new }
     ensures keeps { K.rest nodes.new ≡ K.rest nodes.old }
 {
     let near = look_around(nodes, low);
@@ -128,11 +123,7 @@ pub(crate) fn repair_removed<N, P: PtrCore, K: NodeStore<N, P>>(
     ensures does { (w : List ℕ)
         → Pending (K.nodes nodes.old) (option_map P.Inx.number root.old)
         (option_map P.Inx.number start) (option_map P.Inx.number child) w
-        → Restored (K.nodes nodes.new) (option_map P.Inx.number root.new) w }
-    ensures elsewhere { (w : List ℕ)
-        → Pending (K.nodes nodes.old) (option_map P.Inx.number root.old)
-        (option_map P.Inx.number start) (option_map P.Inx.number child) w
-        → KeptOff w (K.nodes nodes.old) (K.nodes nodes.new) }
+        → Restores P.Inx.number w (K.nodes nodes.old) (K.nodes nodes.new) root.new }
     ensures keeps { K.rest nodes.new ≡ K.rest nodes.old }
 {
     let mut at = start;
@@ -155,11 +146,8 @@ pub fn bring_out<N, P: PtrCore, K: NodeStore<N, P>>(
     requires no_more { ⊤ }
     ensures does { (loose : Loose (K.nodes nodes.old) (option_map P.Inx.number root.old)
         (P.Inx.number gone))
-        → Restored (K.nodes nodes.new) (option_map P.Inx.number root.new)
-        (walk (plug loose.context loose.sub)) }
-    ensures elsewhere { (loose : Loose (K.nodes nodes.old) (option_map P.Inx.number root.old)
-        (P.Inx.number gone))
-        → KeptOff (walk (plug loose.context loose.sub)) (K.nodes nodes.old) (K.nodes nodes.new) }
+        → Restores P.Inx.number (walk_without loose) (K.nodes nodes.old) (K.nodes nodes.new)
+        root.new }
     ensures keeps { K.rest nodes.new ≡ K.rest nodes.old }
 {
     let (pending, child) = detach(nodes, root, gone);

@@ -1,9 +1,7 @@
 //! A node turns up over its parent.
 ghost use Rattle.std.specs.Prelude.{◌≡◌, ℕ, Option, ⊤};
 ghost use Rattle.std.specs.Option.{option_map};
-ghost use Rattle.rank_tree.specs.Tree.{walk};
-ghost use Rattle.rank_tree.specs.Shape.{RepresentsTree};
-ghost use Rattle.rank_tree.specs.Repair.{Spot, turned, KeptOff};
+ghost use Rattle.rank_tree.specs.Repair.{Spot, turned, Becomes};
 
 use crate::node_store::{relink, reparent};
 use crate::{NodeLinks, NodeStore, Side, side_of};
@@ -22,11 +20,8 @@ pub(crate) fn turn<N, P: PtrCore, K: NodeStore<N, P>>(
     requires no_more { ⊤ }
     ensures does { (spot : Spot (K.nodes nodes.old) (option_map P.Inx.number root.old)
         (P.Inx.number low))
-        → RepresentsTree (K.nodes nodes.new) (option_map P.Inx.number root.new)
-        (turned spot low_rank high_rank) }
-    ensures elsewhere { (spot : Spot (K.nodes nodes.old) (option_map P.Inx.number root.old)
-        (P.Inx.number low))
-        → KeptOff (walk (turned spot low_rank high_rank)) (K.nodes nodes.old) (K.nodes nodes.new) }
+        → Becomes P.Inx.number (turned spot low_rank high_rank) (K.nodes nodes.old)
+        (K.nodes nodes.new) root.new }
     ensures keeps { K.rest nodes.new ≡ K.rest nodes.old }
 {
     match side_below(nodes, low) {
@@ -65,11 +60,9 @@ fn turn_on<N, P: PtrCore, K: NodeStore<N, P>>(
     requires side { (spot : Spot (K.nodes nodes.old) (option_map P.Inx.number root.old)
         (P.Inx.number low)) → side ≡ spot.side }
     ensures does { (spot : Spot (K.nodes nodes.old) (option_map P.Inx.number root.old)
-        (P.Inx.number low)) → RepresentsTree (K.nodes nodes.new) (option_map P.Inx.number root.new)
-        (turned spot low_rank high_rank) }
-    ensures elsewhere { (spot : Spot (K.nodes nodes.old) (option_map P.Inx.number root.old)
-        (P.Inx.number low)) → KeptOff (walk (turned spot low_rank high_rank)) (K.nodes nodes.old)
-        (K.nodes nodes.new) }
+        (P.Inx.number low))
+        → Becomes P.Inx.number (turned spot low_rank high_rank) (K.nodes nodes.old)
+        (K.nodes nodes.new) root.new }
     ensures keeps { K.rest nodes.new ≡ K.rest nodes.old }
 {
     let below = nodes.read(low);

@@ -1,7 +1,8 @@
 -- What a pack leaves of what ties a store's parts, over what the calls on the three arenas tell.
-use Rattle.std.proofs.Common.{◌≡◌, ◌∙◌, sym, ap, subst, refl, true, ℕ, suc, ◌<◌, ◌≤◌, List, [], ◌∷◌}
+use Rattle.std.proofs.Common.{◌≡◌, ◌∙◌, sym, ap, subst, refl, true, ℕ, ◌<◌, ◌≤◌, List, [], ◌∷◌}
 use Rattle.std.proofs.Common.{◌++◌, length, map, Option, Some, None, IsSome, is_some, arith}
 use Rattle.std.specs.Option.{option_map}
+use Rattle.std.proofs.lemmas.List.{length-map}
 use Rattle.triple_arena_ptr.specs.Generation.{second_generation}
 use Rattle.triple_arena_stack.specs.Room.{capacity}
 use Rattle.triple_arena.specs.Content.{Content, entry_at, live_count, some_counter}
@@ -9,10 +10,10 @@ use Rattle.triple_arena.specs.Compression.{value_of}
 use Rattle.triple_arena.specs.Changes.{IsCompressed}
 use Rattle.triple_arena.specs.LiveEntries.{live_entries, entry-listed, live_entries-increase}
 use Rattle.triple_arena_chain.specs.LinkShape.{IndexLink}
-use Rattle.triple_arena_chain.specs.Chains.{Ends, On, next_at, next_in}
+use Rattle.linked_lists.specs.LinkedLists.{Ends, On, next_at, next_in}
 use Rattle.triple_arena_chain.specs.Renaming.{ends_renamed}
-use Rattle.triple_arena_chain.specs.ListLaws.{On-first, live_prev_in}
-use Rattle.triple_arena_chain.specs.ChainLaws.{On-cons}
+use Rattle.linked_lists.specs.ChainLaws.{On-first, live_prev_in}
+use Rattle.linked_lists.specs.LinkedListLaws.{On-cons}
 use Rattle.triple_arena_chain.specs.Links.{ends_in, values_in, IsChained}
 use Rattle.triple_arena_chain.specs.CanonicalLayout.{IsCanonical}
 use Rattle.triple_arena_ord.specs.Ascending.{entries_along}
@@ -23,13 +24,13 @@ use Rattle.ticket_book.specs.declared.entry.Kind.TheVariants.{Place as OfPlace, 
 use Rattle.ticket_book.specs.declared.entry.Kind.TheVariants.{Mark as OfMark}
 use Rattle.route_book.specs.Item.{StopView, MarkView}
 use Rattle.ticket_book.specs.Tickets.{Entry}
-use Rattle.route_book.specs.Holds.{Found, IsLive, IsHeld}
+use Rattle.route_book.specs.Holds.{Found, IsHeld}
 use Rattle.route_book.specs.Book.{found_in, in_order, IsBook}
 use Rattle.route_book.specs.Packing.{IsMoved, IsMirror, IsMirrored, IsBooked, recast_stop}
 use Rattle.route_book.specs.Packing.{recast_mark}
 use Rattle.ticket_book.specs.Mirrors.{Mirror, renewed_entry}
 use Rattle.route_book.proofs.MirrorLemmas.{booked, mirror_is}
-use Rattle.route_book.proofs.PackLemmas.{packed_found, packed, stop_live, mark_live, mark_stop_live}
+use Rattle.route_book.proofs.PackLemmas.{AreLive, packed}
 use Rattle.route_book.proofs.PassedLemmas.{listed_to, listed_moved}
 use Rattle.route_book.proofs.OptionLemmas.{mapped_some}
 use Rattle.route_book.proofs.LinkLemmas.{live_ends, live_values}
@@ -78,9 +79,29 @@ module _ {T : Type 0} (to : ℕ → ℕ) (g : ℕ) (old new : ℕ → Option (�
           ∙ ap (option_map (λ (e : ℕ × T). (let z : ℕ × T = (g, e.1) in z))) is in
           rw (some, is) (ap (λ l. (to i, (g, e.1)) ∷ l) rest)
 
-length_map : {X Y : Type 0} (f : X → Y) (xs : List X) → length (map f xs) ≡ length xs
-length_map f [] = refl
-length_map f (x ∷ xs) = ap suc (length_map f xs)
+-- what the pointers of these arenas find, under counters of these values
+abbrev pub found_under : Ordered Place → Content (IndexLink StopView) → Content MarkView → ℕ → ℕ
+    → Found
+found_under places stops marks place_counter stop_counter = record {
+  places = entry_in places;
+  stops = values_in stops;
+  marks = entry_at marks;
+  place_counter = place_counter;
+  stop_counter = stop_counter;
+}
+
+-- what is held under counters and in an order that are the arenas' own
+pub held_in_order : (s : State) (places : Ordered Place) (stops : Content (IndexLink StopView))
+    (marks : Content MarkView) (order : List Place) (book : List Entry) (g : ℕ)
+    → places.chains.counter ≡ g → stops.counter ≡ g → in_order places ≡ order
+    → IsHeld s (found_under places stops marks g g) order (ends_in stops) book
+    → IsHeld s (found_in places stops marks) (in_order places) (ends_in stops) book
+held_in_order s places stops marks order book g counter_p counter_s same held =
+    subst (λ w. IsHeld s (found_in places stops marks) w (ends_in stops) book) (sym same)
+    (subst (λ c. IsHeld s (found_under places stops marks c stops.counter) order (ends_in stops)
+    book) (sym counter_p)
+    (subst (λ c. IsHeld s (found_under places stops marks g c) order (ends_in stops) book)
+    (sym counter_s) held))
 
 -- the places in order
 module _ (last : Option ℕ) (places places' : Ordered Place)
@@ -265,61 +286,21 @@ module _ (last : Option ℕ) (rooms : Rooms) (given : ℕ) (s : State)
           live_values stops k
           (live_prev_in (ends_in stops k) i (chained.agreed.forward i k is))
 
-      abbrev f : Found
-      f = found_in places stops marks
-
-      abbrev now : Found
-      now = packed_found s f (in_order places) (ends_in stops) (ends_in stops')
-          book b.held laid.to canon.to to_m g g g (entry_in places') (values_in stops1)
-          (entry_at marks1)
-          m n o moved_p moved_s moved_m mirror_p mirror_s mirror_m (values_in stops')
-          (entry_at marks') recast_s recast_m
-
-      held_now : IsHeld s now (in_order places) (ends_in stops')
-          (map (renewed_entry m n o) book)
-      held_now = packed s f (in_order places) (ends_in stops) (ends_in stops')
+      held_now : IsHeld s (found_under places' stops' marks' g g) (in_order places)
+          (ends_in stops') (map (renewed_entry m n o) book)
+          × AreLive (entry_in places') (values_in stops') (entry_at marks')
+      held_now = packed s (found_in places stops marks) (in_order places) (ends_in stops)
+          (ends_in stops')
           book b.held laid.to canon.to to_m g g g (entry_in places') (values_in stops1)
           (entry_at marks1)
           m n o moved_p moved_s moved_m mirror_p mirror_s mirror_m (values_in stops')
           (entry_at marks') recast_s recast_m next_kept live_kept
 
-      pub counter_p : places'.chains.counter ≡ g
-      counter_p = laid.counter
-
-      pub counter_s : stops'.counter ≡ g
-      counter_s = stops_counter ∙ canon.counter
-
-      held : IsHeld s (found_in places' stops' marks') (in_order places')
-          (ends_in stops') (map (renewed_entry m n o) book)
-      held =
-          subst (λ w. IsHeld s (found_in places' stops' marks') w (ends_in stops')
-          (map (renewed_entry m n o) book))
-          (sym (order_same last places places' laid stand stand'))
-          (subst (λ c. IsHeld s
-          (record {
-            places = entry_in places';
-            stops = values_in stops';
-            marks = entry_at marks';
-            place_counter = c;
-            stop_counter = stops'.counter;
-          })
-          (in_order places) (ends_in stops') (map (renewed_entry m n o) book))
-          (sym counter_p)
-          (subst (λ c. IsHeld s
-          (record {
-            places = entry_in places';
-            stops = values_in stops';
-            marks = entry_at marks';
-            place_counter = g;
-            stop_counter = c;
-          })
-          (in_order places) (ends_in stops') (map (renewed_entry m n o) book))
-          (sym counter_s) held_now))
-
-      pub pack_kept : IsBook rooms given s places' stops' marks'
-          (map (renewed_entry m n o) book)
-      pack_kept = record {
-        held = held;
+      kept : IsBook rooms given s places' stops' marks' (map (renewed_entry m n o) book)
+      kept = record {
+        held = held_in_order s places' stops' marks' (in_order places)
+            (map (renewed_entry m n o) book) g laid.counter (stops_counter ∙ canon.counter)
+            (order_same last places places' laid stand stand') held_now.0;
         places_rise = b.places_rise;
         within = record {
           rooms_are = b.within.rooms_are;
@@ -339,34 +320,17 @@ module _ (last : Option ℕ) (rooms : Rooms) (given : ℕ) (s : State)
         };
         last_is = b.last_is;
         marks_differ = b.marks_differ;
-        entries = (let n = b.entries in let l = length_map (renewed_entry m n' o) book in let p =
-            laid.size in let q = stops_live ∙ canon.live in let r = marks_live ∙ compressed.live in
-            omega (arith, n, l, p, q, r));
+        entries = omega (
+          arith,
+          b.entries,
+          length-map book (renewed_entry m n o),
+          laid.size,
+          stops_live ∙ canon.live,
+          marks_live ∙ compressed.live,
+        );
       }
-        where
-          n' : Mirror
-          n' = n
 
-      -- no stored reference is dead
-      pub no_dead_stop : (k h : ℕ) (v : StopView) → values_in stops' k ≡ Some (h, v)
-          → IsLive (entry_in places') v.place
-      no_dead_stop = stop_live s f (in_order places) (ends_in stops)
-          (ends_in stops') book b.held laid.to canon.to to_m g g g (entry_in places')
-          (values_in stops1) (entry_at marks1)
-          m n o moved_p moved_s moved_m mirror_p mirror_s mirror_m (values_in stops')
-          (entry_at marks') recast_s recast_m next_kept live_kept
-
-      pub no_dead_mark : (k h : ℕ) (v : MarkView) → entry_at marks' k ≡ Some (h, v)
-          → IsLive (entry_in places') v.place × IsLive (values_in stops') v.stop
-      no_dead_mark k h v is = (
-        mark_live s f (in_order places) (ends_in stops) (ends_in stops') book
-            b.held laid.to canon.to to_m g g g (entry_in places') (values_in stops1)
-            (entry_at marks1)
-            m n o moved_p moved_s moved_m mirror_p mirror_s mirror_m (values_in stops')
-            (entry_at marks') recast_s recast_m next_kept live_kept k h v is,
-        mark_stop_live s f (in_order places) (ends_in stops) (ends_in stops')
-            book b.held laid.to canon.to to_m g g g (entry_in places') (values_in stops1)
-            (entry_at marks1)
-            m n o moved_p moved_s moved_m mirror_p mirror_s mirror_m (values_in stops')
-            (entry_at marks') recast_s recast_m next_kept live_kept k h v is,
-      )
+      -- and no stored reference is dead
+      pub pack_kept : IsBook rooms given s places' stops' marks' (map (renewed_entry m n o) book)
+          × AreLive (entry_in places') (values_in stops') (entry_at marks')
+      pack_kept = (kept, held_now.1)

@@ -5,10 +5,11 @@ use Rattle.std.proofs.Common.{cond, if◌then◌else◌, arith}
 use Rattle.std.specs.List.{AllByRecursion}
 use Rattle.std.specs.Option.{option_map, option_to_list}
 use Rattle.std.proofs.lemmas.Bool.{eq-eqb}
-use Rattle.triple_arena_chain.specs.Chains.{Ends, IsAgreed, next_in, prev_in, next_at, prev_at}
-use Rattle.triple_arena_chain.specs.Chains.{first_or, last_or, IsSegment, Off, Apart, IsLinear, IsRing}
-use Rattle.triple_arena_chain.specs.ListLaws.{live_next_in, live_prev_in}
-use Rattle.triple_arena_chain.specs.Lists.{Linear, Cyclic, IsChainOf}
+use Rattle.linked_lists.specs.LinkedLists.{Ends, IsAgreed, next_in, prev_in, next_at, prev_at}
+use Rattle.linked_lists.specs.LinkedLists.{first_or, last_or, IsSegment, Off, Apart, IsLinear}
+use Rattle.linked_lists.specs.LinkedLists.{IsRing}
+use Rattle.linked_lists.specs.ChainLaws.{live_next_in, live_prev_in}
+use Rattle.linked_lists.specs.Chains.{Linear, Cyclic, IsChainOf}
 use Rattle.route_lines.specs.Cuts.{first_item}
 use Rattle.route_lines.specs.Leads.{head_or, Leads, closes_at}
 use Rattle.route_lines.specs.Routes.{has_ticket}

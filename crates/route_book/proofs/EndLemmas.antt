@@ -7,13 +7,13 @@ use Rattle.std.specs.Option.{option_map}
 use Rattle.std.proofs.lemmas.Bool.{ne_eqb, eq-eqb}
 use Rattle.std.proofs.lemmas.Bool.Decides.{eqb_tells}
 use Rattle.triple_arena.specs.Entries.{value_if, without}
-use Rattle.triple_arena_chain.specs.Chains.{Ends}
+use Rattle.linked_lists.specs.LinkedLists.{Ends}
 use Rattle.ticket_book.specs.declared.entry.Kind.{Kind}
 use Rattle.ticket_book.specs.Tickets.{Entry, lookup, without_ticket}
 use Rattle.route_lines.specs.Calls.{unless_is}
 use Rattle.route_lines.specs.State.{State, Place, Stop, Mark, place_of, stop_of, mark_of}
 use Rattle.route_book.specs.Holds.{Found, found_by, place_under, stop_under, mark_under, place_at}
-use Rattle.route_book.specs.Holds.{stop_at, mark_at, IsFilled, Rise, IsHeld}
+use Rattle.route_book.specs.Holds.{stop_at, mark_at, IsFilled, Rise, IsHeld, entry}
 use Rattle.route_book.proofs.OptionLemmas.{some_same}
 
 -- ---- the book without a ticket
@@ -82,6 +82,19 @@ length_without t (x ∷ book) low last e rise is = elim (eqb_tells x.ticket t) [
       let rest = length_without t book x.ticket last e rise.1 (sym skip ∙ is) in
       rw other.0 (omega (arith, rest))
 ]
+
+-- the entries under other tickets stay, and so do those of another kind than the one that ends
+module _ (book : List Entry) (t : ℕ) where
+  pub other_ticket : (u : ℕ) (e : Entry) → lookup book u ≡ Some e → u ≢ t
+      → lookup (without_ticket t book) u ≡ Some e
+  other_ticket u e is other = lookup_without t u book ∙ rw (ne_eqb u t other) is
+
+  pub other_kind : (e : Entry) → lookup book t ≡ Some e → (kind : Kind) → (kind ≡ e.kind → ⊥)
+      → (u j n : ℕ) → lookup book u ≡ Some (entry u kind j n)
+      → lookup (without_ticket t book) u ≡ Some (entry u kind j n)
+  other_kind e booked kind apart u j n is = other_ticket u (entry u kind j n) is
+      (λ same. apart (ap (λ (x : Entry). x.kind)
+      (some_same (sym is ∙ ap (lookup book) same ∙ booked))))
 
 -- ---- what a reference names
 
@@ -187,14 +200,6 @@ module _ (s s' : State) (f now : Found) (order : List Place) (ends : ℕ → Opt
     | inl same ↦ ended same.1 (lookup_without t u book ∙ rw same.0 refl)
     | inr other ↦ stays other.1 (lookup_without t u book ∙ rw other.0 refl)
   ]
-
-  -- an entry under another ticket stays
-  pub still_booked : (u : ℕ) (e : Entry) → lookup book u ≡ Some e → u ≢ t → lookup left u ≡ Some e
-  still_booked u e is other = by (look u)
-    where
-      by : Look u → lookup left u ≡ Some e
-      by (ended same none) = absurd (other same)
-      by (stays apart same) = same ∙ is
 
   module _ (kept : (u : ℕ) (e : Entry) → lookup book u ≡ Some e → u ≢ t
       → IsKept e.kind e.index e.generation) where

@@ -8,7 +8,7 @@ use Rattle.triple_arena.specs.Changes.{IsRemoved}
 use Rattle.triple_arena.specs.Content.{Content, entry_at, live_count, some_counter}
 use Rattle.triple_arena.specs.Entries.{value_if, without}
 use Rattle.triple_arena_chain.specs.LinkShape.{IndexLink}
-use Rattle.triple_arena_chain.specs.Chains.{Ends}
+use Rattle.linked_lists.specs.LinkedLists.{Ends}
 use Rattle.triple_arena_chain.specs.Links.{ends_in}
 use Rattle.triple_arena_ord.specs.Ordered.{Ordered}
 use Rattle.ticket_book.specs.declared.entry.Kind.{Kind}
@@ -24,7 +24,8 @@ use Rattle.route_book.specs.Book.{found_in, in_order, IsBook}
 use Rattle.route_book.specs.Item.{StopView, MarkView}
 use Rattle.route_book.specs.Holds.{Found, state_stop, state_mark, mark_under, place_at, stop_at}
 use Rattle.route_book.specs.Holds.{mark_at, IsFilled, entry, Rise, IsHeld}
-use Rattle.route_book.proofs.EndLemmas.{others_stay, was_other, still_found, IsKept, still_booked}
+use Rattle.route_book.proofs.EndLemmas.{others_stay, was_other, still_found, IsKept, other_kind}
+use Rattle.route_book.proofs.EndLemmas.{other_ticket}
 use Rattle.route_book.proofs.EndLemmas.{still_filled, places_still, stops_still, marks_still}
 use Rattle.route_book.proofs.EndLemmas.{none_there, unchanged, rise_without, length_without}
 use Rattle.route_book.proofs.HoldLemmas.{booked_once}
@@ -98,15 +99,15 @@ module _ (s s' : State) (f : Found) (order : List Place) (ends : ℕ → Option 
     rise = subst (Rise 0 (without_ticket t book)) (sym last_same)
         (rise_without t book 0 s.last h.rise);
     filled = still_filled s s' f now order ends book h t same_stop same_mark kept;
-    places_in = λ j k q is. still q.ticket _ (h.places_in j k q is)
-        (λ same. not_place (ap (λ (e : Entry). e.kind)
-        (twice q.ticket _ (h.places_in j k q is) same)));
-    stops_in = λ j k w is. still w.ticket _ (h.stops_in j k w is)
-        (λ same. not_stop (ap (λ (e : Entry). e.kind)
-        (twice w.ticket _ (h.stops_in j k w is) same)));
+    places_in = λ j k q is. other_kind book t _ booked OfPlace
+        (λ same. absurd (let no : OfPlace ≡ OfMark = same in cc)) q.ticket j k
+        (h.places_in j k q is);
+    stops_in = λ j k w is. other_kind book t _ booked OfStop
+        (λ same. absurd (let no : OfStop ≡ OfMark = same in cc)) w.ticket j k
+        (h.stops_in j k w is);
     marks_in = λ j k w is. (let was =
         was_other τ f.marks at i g v stood entries own_mark j k w is in
-        still w.ticket _ (h.marks_in j k w was.0) was.1);
+        other_ticket book t w.ticket _ (h.marks_in j k w was.0) was.1);
     stop_place = h.stop_place;
     mark_place = λ j k w is. h.mark_place j k w
         (was_other τ f.marks at i g v stood entries own_mark j k w is).0;
@@ -126,19 +127,6 @@ module _ (s s' : State) (f : Found) (order : List Place) (ends : ℕ → Option 
     in_order = places ∙ h.in_order;
     routes = λ j k w is. ap (λ rs. next_stop rs w.ticket) routes ∙ h.routes j k w is;
   }
-    where
-      still : (u : ℕ) (e : Entry) → lookup book u ≡ Some e → u ≢ t
-          → lookup (without_ticket t book) u ≡ Some e
-      still = still_booked s s' f now order ends book h t same_stop same_mark
-
-      twice : (u : ℕ) (e : Entry) → lookup book u ≡ Some e → u ≡ t → e ≡ entry t OfMark i g
-      twice u e is same = some_same (sym is ∙ ap (lookup book) same ∙ booked)
-
-      not_place : OfPlace ≡ OfMark → ⊥
-      not_place same = absurd (cc)
-
-      not_stop : OfStop ≡ OfMark → ⊥
-      not_stop same = absurd (cc)
 
 -- ---- what ties a store's parts
 

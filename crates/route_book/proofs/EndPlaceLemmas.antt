@@ -1,6 +1,6 @@
 -- What the removal of a place leaves of what is held, and of what ties a store's parts.
 use Rattle.std.proofs.Common.{◌≡◌, ◌≢◌, ◌∙◌, sym, ap, subst, refl, false, not, ◌==◌, if◌then◌else◌}
-use Rattle.std.proofs.Common.{ℕ, ◌+◌, ◌≤◌, List, [], ◌∷◌, ◌++◌, length, map, filter, Option, Some}
+use Rattle.std.proofs.Common.{ℕ, ◌+◌, ◌≤◌, List, [], ◌∷◌, ◌++◌, length, filter, Option, Some}
 use Rattle.std.proofs.Common.{None, IsSome, is_some, arith}
 use Rattle.std.specs.Option.{option_map}
 use Rattle.std.proofs.lemmas.Bool.{ne_eqb, eq-eqb}
@@ -9,13 +9,13 @@ use Rattle.triple_arena_stack.specs.Room.{capacity}
 use Rattle.triple_arena.specs.Content.{Content}
 use Rattle.triple_arena.specs.Entries.{value_if, without}
 use Rattle.triple_arena_chain.specs.LinkShape.{IndexLink}
-use Rattle.triple_arena_chain.specs.Chains.{Apart, Ends, Off}
-use Rattle.triple_arena_chain.specs.ListLaws.{Apart-split}
-use Rattle.triple_arena_chain.specs.UniquenessLaws.{linear_apart}
+use Rattle.linked_lists.specs.LinkedLists.{Apart, Ends, Off}
+use Rattle.linked_lists.specs.ChainLaws.{Apart-split}
+use Rattle.linked_lists.specs.UniquenessLaws.{linear_apart}
 use Rattle.triple_arena_chain.specs.Links.{ends_in}
-use Rattle.triple_arena_ord.specs.Ascending.{entries_along}
 use Rattle.triple_arena_ord.specs.Ordered.{Ordered, IsOrdered, entry_in, order_in}
 use Rattle.triple_arena_ord.specs.Removal.{IsEntryRemoved}
+use Rattle.ticket_book.specs.AlongLaws.{along}
 use Rattle.ticket_book.specs.declared.entry.Kind.{Kind}
 use Rattle.ticket_book.specs.declared.entry.Kind.TheVariants.{Place as OfPlace, Stop as OfStop}
 use Rattle.ticket_book.specs.declared.entry.Kind.TheVariants.{Mark as OfMark}
@@ -30,7 +30,8 @@ use Rattle.route_book.specs.Holds.{Found, found_by, state_stop, state_mark, plac
 use Rattle.route_book.specs.Holds.{IsFilled, entry, Rise, IsSettled, stop_at, mark_at, IsHeld}
 use Rattle.route_book.proofs.SettledLemmas.{settled_left, up_to_left}
 use Rattle.route_book.proofs.EndLemmas.{unnamed, others_stay, was_other, still_found, IsKept}
-use Rattle.route_book.proofs.EndLemmas.{still_booked, still_filled, places_still, stops_still}
+use Rattle.route_book.proofs.EndLemmas.{other_kind, other_ticket, still_filled, places_still}
+use Rattle.route_book.proofs.EndLemmas.{stops_still}
 use Rattle.route_book.proofs.EndLemmas.{marks_still, none_there, each_mapped, rise_without}
 use Rattle.route_book.proofs.EndLemmas.{length_without}
 use Rattle.route_book.proofs.OrderLemmas.{differ_of_rise, one_up}
@@ -38,9 +39,6 @@ use Rattle.route_book.proofs.HoldLemmas.{booked_once}
 use Rattle.route_book.proofs.OptionLemmas.{found_has, some_same, stands_under}
 
 -- ---- the list of the places without one
-
-abbrev along : (ℕ → Option (ℕ × Place)) → List ℕ → List Place
-along at w = map (λ x. x.1.1) (entries_along at w)
 
 module _ (at at' : ℕ → Option (ℕ × Place)) (i g : ℕ) (p : Place) (stood : at i ≡ Some (g, p))
     (entries : (k : ℕ) → at' k ≡ without at i k)
@@ -174,13 +172,13 @@ module _ (s s' : State) (f : Found) (order order' : List Place) (ends : ℕ → 
     filled = still_filled s s' f now order ends book h t (clear_stop t) (clear_mark t) kept;
     places_in = λ j k q is. (let was =
         was_other τ f.places at i g p stood entries own_place j k q is in
-        still q.ticket _ (h.places_in j k q was.0) was.1);
-    stops_in = λ j k v is. still v.ticket _ (h.stops_in j k v is)
-        (λ same. not_stop (ap (λ (e : Entry). e.kind)
-        (twice v.ticket _ (h.stops_in j k v is) same)));
-    marks_in = λ j k v is. still v.ticket _ (h.marks_in j k v is)
-        (λ same. not_mark (ap (λ (e : Entry). e.kind)
-        (twice v.ticket _ (h.marks_in j k v is) same)));
+        other_ticket book t q.ticket _ (h.places_in j k q was.0) was.1);
+    stops_in = λ j k v is. other_kind book t _ booked OfStop
+        (λ same. absurd (let no : OfStop ≡ OfPlace = same in cc)) v.ticket j k
+        (h.stops_in j k v is);
+    marks_in = λ j k v is. other_kind book t _ booked OfMark
+        (λ same. absurd (let no : OfMark ≡ OfPlace = same in cc)) v.ticket j k
+        (h.marks_in j k v is);
     stop_place = λ j k v is. settled v.place (h.stop_place j k v is);
     mark_place = λ j k v is. settled v.place (h.mark_place j k v is);
     mark_stop = h.mark_stop;
@@ -197,19 +195,6 @@ module _ (s s' : State) (f : Found) (order order' : List Place) (ends : ℕ → 
     in_order = sym in_order;
     routes = λ j k v is. next v.ticket ∙ h.routes j k v is;
   }
-    where
-      still : (u : ℕ) (e : Entry) → lookup book u ≡ Some e → u ≢ t
-          → lookup (without_ticket t book) u ≡ Some e
-      still = still_booked s s' f now order ends book h t (clear_stop t) (clear_mark t)
-
-      twice : (u : ℕ) (e : Entry) → lookup book u ≡ Some e → u ≡ t → e ≡ entry t OfPlace i g
-      twice u e is same = some_same (sym is ∙ ap (lookup book) same ∙ booked)
-
-      not_stop : OfStop ≡ OfPlace → ⊥
-      not_stop same = absurd (cc)
-
-      not_mark : OfMark ≡ OfPlace → ⊥
-      not_mark same = absurd (cc)
 
 -- ---- what ties a store's parts
 

@@ -10,9 +10,9 @@ use Rattle.triple_arena_stack.specs.Room.{capacity}
 use Rattle.triple_arena.specs.Content.{Content}
 use Rattle.triple_arena.specs.Entries.{value_if, without}
 use Rattle.triple_arena_chain.specs.LinkShape.{IndexLink}
-use Rattle.triple_arena_chain.specs.Chains.{Ends, IsAgreed, next_at, prev_at, next_in, prev_in}
-use Rattle.triple_arena_chain.specs.Chains.{renext, with_next, with_next_if, bridged, taken_from}
-use Rattle.triple_arena_chain.specs.Chains.{taken_out}
+use Rattle.linked_lists.specs.LinkedLists.{Ends, IsAgreed, next_at, prev_at, next_in, prev_in}
+use Rattle.linked_lists.specs.LinkedLists.{renext, with_next, with_next_if, bridged, taken_from}
+use Rattle.linked_lists.specs.LinkedLists.{taken_out}
 use Rattle.triple_arena_chain.specs.Links.{ends_in, values_in, IsChained, IsTakenOut}
 use Rattle.triple_arena_ord.specs.Ordered.{Ordered}
 use Rattle.ticket_book.specs.declared.entry.Kind.{Kind}
@@ -33,7 +33,8 @@ use Rattle.route_book.proofs.FollowLemmas.{next_with_prev}
 use Rattle.route_book.proofs.LinkLemmas.{live_ends}
 use Rattle.route_book.proofs.SettledLemmas.{settled_left, up_to_left}
 use Rattle.route_book.proofs.EndLemmas.{unnamed, there, others_stay, was_other, still_found, IsKept}
-use Rattle.route_book.proofs.EndLemmas.{still_booked, still_filled, places_still, stops_still}
+use Rattle.route_book.proofs.EndLemmas.{other_kind, other_ticket, still_filled, places_still}
+use Rattle.route_book.proofs.EndLemmas.{stops_still}
 use Rattle.route_book.proofs.EndLemmas.{marks_still, none_there, each_mapped, unchanged}
 use Rattle.route_book.proofs.EndLemmas.{rise_without, length_without}
 use Rattle.route_book.proofs.OrderLemmas.{differ_of_rise, one_up}
@@ -259,15 +260,15 @@ module _ (s s' : State) (f : Found) (order : List Place) (ends ends' : ℕ → O
       rise = subst (Rise 0 (without_ticket t book)) (sym last_same)
           (rise_without t book 0 s.last h.rise);
       filled = still_filled s s' f now order ends book h t same_stop (clear_mark_stop t) kept;
-      places_in = λ j k q is. still q.ticket _ (h.places_in j k q is)
-          (λ same. not_place (ap (λ (e : Entry). e.kind)
-          (twice q.ticket _ (h.places_in j k q is) same)));
+      places_in = λ j k q is. other_kind book t _ booked OfPlace
+          (λ same. absurd (let no : OfPlace ≡ OfStop = same in cc)) q.ticket j k
+          (h.places_in j k q is);
       stops_in = λ j k w is. (let was =
           was_other τ f.stops at i g v stood entries own_stop j k w is in
-          still w.ticket _ (h.stops_in j k w was.0) was.1);
-      marks_in = λ j k w is. still w.ticket _ (h.marks_in j k w is)
-          (λ same. not_mark (ap (λ (e : Entry). e.kind)
-          (twice w.ticket _ (h.marks_in j k w is) same)));
+          other_ticket book t w.ticket _ (h.stops_in j k w was.0) was.1);
+      marks_in = λ j k w is. other_kind book t _ booked OfMark
+          (λ same. absurd (let no : OfMark ≡ OfStop = same in cc)) w.ticket j k
+          (h.marks_in j k w is);
       stop_place = λ j k w is. h.stop_place j k w
           (was_other τ f.stops at i g v stood entries own_stop j k w is).0;
       mark_place = h.mark_place;
@@ -286,19 +287,6 @@ module _ (s s' : State) (f : Found) (order : List Place) (ends ends' : ℕ → O
       in_order = places ∙ h.in_order;
       routes = lead_left;
     }
-      where
-        still : (u : ℕ) (e : Entry) → lookup book u ≡ Some e → u ≢ t
-            → lookup (without_ticket t book) u ≡ Some e
-        still = still_booked s s' f now order ends book h t same_stop (clear_mark_stop t)
-
-        twice : (u : ℕ) (e : Entry) → lookup book u ≡ Some e → u ≡ t → e ≡ entry t OfStop i g
-        twice u e is same = some_same (sym is ∙ ap (lookup book) same ∙ booked)
-
-        not_place : OfPlace ≡ OfStop → ⊥
-        not_place same = absurd (cc)
-
-        not_mark : OfMark ≡ OfStop → ⊥
-        not_mark same = absurd (cc)
 
 -- ---- what ties a store's parts
 

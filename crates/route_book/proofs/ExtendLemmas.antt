@@ -1,12 +1,12 @@
 -- What `extend` makes of what ties a store's parts.
-use Rattle.std.proofs.Common.{◌≡◌, ◌≢◌, ◌∙◌, sym, ap, subst, refl, true, false, ℕ, ◌+◌, ◌<◌, ◌≤◌}
+use Rattle.std.proofs.Common.{◌≡◌, ◌≢◌, ◌∙◌, sym, ap, subst, refl, true, false, ℕ, ◌+◌, ◌≤◌}
 use Rattle.std.proofs.Common.{List, [], ◌∷◌, ◌++◌, length, Option, Some, None, IsSome, IfSome, Ok}
-use Rattle.std.proofs.Common.{Err, arith, length-append}
+use Rattle.std.proofs.Common.{arith, length-append}
 use Rattle.std.specs.Option.{option_map}
 use Rattle.triple_arena.specs.Entries.{value_if}
-use Rattle.triple_arena.specs.Content.{Content, entry_at, live_count, arena_capacity}
+use Rattle.triple_arena.specs.Content.{Content, entry_at}
 use Rattle.triple_arena_stack.specs.Room.{capacity}
-use Rattle.triple_arena_chain.specs.Chains.{Ends, IsAgreed, next_at}
+use Rattle.linked_lists.specs.LinkedLists.{Ends, IsAgreed, next_at}
 use Rattle.triple_arena_chain.specs.Kinds.{after_link}
 use Rattle.triple_arena_chain.specs.LinkShape.{IndexLink}
 use Rattle.triple_arena_chain.specs.declared.gap.Gap.{Gap}
@@ -20,8 +20,6 @@ use Rattle.route_lines.specs.Calls.{place_holder, stop_holder, extended, after_e
 use Rattle.route_lines.specs.Routes.{next_stop, put_behind}
 use Rattle.route_lines.specs.State.{State, Rooms, Place, Stop, Route, stop_list, stop_of}
 use Rattle.route_lines.specs.State.{is_full_of_stops}
-use Rattle.route_lines.specs.declared.refusal.Refusal.{Refusal}
-use Rattle.route_lines.specs.declared.refusal.Refusal.TheVariants.{Full}
 use Rattle.route_book.specs.Follows.{LeadAs}
 use Rattle.route_book.specs.Item.{StopView, MarkView}
 use Rattle.route_book.specs.Holds.{entry, state_stop, IsHeld}

@@ -3,10 +3,10 @@ use Rattle.std.proofs.Common.{◌≡◌, ◌≢◌, ◌∙◌, sym, ap, subst, r
 use Rattle.std.proofs.Common.{Option, Some, None, IsSome, cond, is_some}
 use Rattle.std.specs.Option.{option_map}
 use Rattle.std.proofs.lemmas.Bool.{false≢true, eq-eqb, eqb-true, ne_eqb}
-use Rattle.triple_arena_chain.specs.Chains.{Ends, IsAgreed, next_in, next_at, renext, reprev}
-use Rattle.triple_arena_chain.specs.Chains.{with_next, with_prev, with_prev_if, linked, unlinked}
-use Rattle.triple_arena_chain.specs.Chains.{exchanged, added, put_between}
-use Rattle.triple_arena_chain.specs.ListLaws.{live_prev_in}
+use Rattle.linked_lists.specs.LinkedLists.{Ends, IsAgreed, next_in, next_at, renext, reprev}
+use Rattle.linked_lists.specs.LinkedLists.{with_next, with_prev, with_prev_if, linked, unlinked}
+use Rattle.linked_lists.specs.LinkedLists.{exchanged, added, put_between}
+use Rattle.linked_lists.specs.ChainLaws.{live_prev_in}
 use Rattle.route_book.specs.Follows.{ticket_at, LeadAs, AreDistinct}
 
 -- ---- the next of each index after a change

@@ -1,18 +1,13 @@
 -- What calls answer of the living item that has a ticket.
-use Rattle.std.proofs.Common.{◌≡◌, ◌≢◌, ◌∙◌, sym, ap, refl, ℕ, Option, Some, None, Ok, Err}
+use Rattle.std.proofs.Common.{◌≡◌, ◌∙◌, sym, ap, refl, ℕ, Option, Some, None, Ok}
 use Rattle.std.specs.Option.{option_map}
 use Rattle.triple_arena.specs.Entries.{value_if}
 use Rattle.ticket_book.specs.declared.entry.Kind.{Kind as ItemKind}
 use Rattle.ticket_book.specs.declared.entry.Kind.TheVariants.{Place as OfPlace, Stop as OfStop}
-use Rattle.ticket_book.specs.declared.entry.Kind.TheVariants.{Mark as OfMark}
-use Rattle.route_lines.specs.Calls.{shown, place_holder, stop_holder}
-use Rattle.route_lines.specs.State.{State, Place, Item, place, stop, mark, holder}
-use Rattle.route_lines.specs.declared.refusal.Refusal.{Refusal}
-use Rattle.route_lines.specs.declared.refusal.Refusal.TheVariants.{Kind}
-use Rattle.route_lines.specs.declared.shown.Shown.TheVariants.{Place as ShownPlace}
-use Rattle.route_lines.specs.declared.shown.Shown.TheVariants.{Stop as ShownStop, Mark as ShownMark}
-use Rattle.route_book.specs.Item.{StopView, MarkView}
-use Rattle.route_book.specs.Holds.{Found, IsItem, item_under, state_stop, state_mark}
+use Rattle.route_lines.specs.Calls.{place_holder, stop_holder}
+use Rattle.route_lines.specs.State.{State, Place, Item, place, stop, holder}
+use Rattle.route_book.specs.Item.{StopView}
+use Rattle.route_book.specs.Holds.{Found, IsItem, item_under, state_stop}
 use Rattle.route_book.proofs.OptionLemmas.{some_same}
 
 module _ (s : State) (f : Found) (t : ℕ) (kind : ItemKind) (i g : ℕ) (item : IsItem s f t kind i g)

@@ -1,3 +1,4 @@
+pub mod AddedLemmas
 pub mod AfterPackLemmas
 pub mod BookPackLemmas
 pub mod ChainLemmas
@@ -21,6 +22,7 @@ pub mod NearLemmas
 pub mod NeighborLemmas
 pub mod NewItemLemmas
 pub mod NewLemmas
+pub mod NewPlaceLemmas
 pub mod NoteLemmas
 pub mod OptionLemmas
 pub mod OrderLemmas

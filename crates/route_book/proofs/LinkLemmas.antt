@@ -9,7 +9,7 @@ use Rattle.triple_arena.specs.Entries.{value_if}
 use Rattle.triple_arena.specs.Content.{Content, entry_at, get}
 use Rattle.triple_arena_stack.specs.Room.{capacity}
 use Rattle.triple_arena_chain.specs.LinkShape.{IndexLink}
-use Rattle.triple_arena_chain.specs.Chains.{Ends}
+use Rattle.linked_lists.specs.LinkedLists.{Ends}
 use Rattle.triple_arena_chain.specs.Links.{ends_in, ends_found, link_ends, values_in, valued}
 use Rattle.triple_arena_chain.specs.Links.{entry_ends, IsKept}
 use Rattle.triple_arena_ord.specs.Ordered.{Ordered, entry_in}

@@ -10,27 +10,26 @@ use Rattle.std.proofs.lemmas.List.Folds.{find-append}
 use Rattle.triple_arena.specs.Entries.{value_if, with_entry}
 use Rattle.triple_arena.specs.Content.{Content, entry_at, live_count}
 use Rattle.triple_arena_stack.specs.Room.{capacity}
-use Rattle.triple_arena_chain.specs.Chains.{Ends}
+use Rattle.linked_lists.specs.LinkedLists.{Ends}
 use Rattle.triple_arena_chain.specs.LinkShape.{IndexLink}
 use Rattle.triple_arena_chain.specs.Links.{ends_in, values_in}
 use Rattle.triple_arena_ord.specs.Ordered.{Ordered, entry_in}
 use Rattle.ticket_book.specs.declared.entry.Kind.{Kind}
 use Rattle.ticket_book.specs.declared.entry.Kind.TheVariants.{Place as OfPlace, Stop as OfStop}
 use Rattle.ticket_book.specs.declared.entry.Kind.TheVariants.{Mark as OfMark}
-use Rattle.ticket_book.specs.Tickets.{Entry, lookup}
+use Rattle.ticket_book.specs.Tickets.{Entry}
 use Rattle.route_lines.specs.Calls.{place_holder, stop_holder, marked, after_mark}
 use Rattle.route_lines.specs.State.{State, Rooms, Place, Stop, Mark, place_of, stop_list, stop_of}
 use Rattle.route_lines.specs.State.{mark_of, is_full_of_marks}
 use Rattle.route_lines.specs.declared.refusal.Refusal.{Refusal}
-use Rattle.route_lines.specs.declared.refusal.Refusal.TheVariants.{Full, Unknown, Gone}
+use Rattle.route_lines.specs.declared.refusal.Refusal.TheVariants.{Unknown, Gone}
 use Rattle.route_lines.specs.declared.refusal.Refusal.TheVariants.{Kind as Refused}
 use Rattle.route_book.specs.Item.{StopView, MarkView}
 use Rattle.route_book.specs.Holds.{Found, entry, state_mark, place_at, stop_at, mark_at}
-use Rattle.route_book.specs.Holds.{place_under, stop_under, mark_under, IsFilled, IsLive, IsSettled}
+use Rattle.route_book.specs.Holds.{IsFilled, IsLive, IsSettled}
 use Rattle.route_book.specs.Holds.{IsHeld}
 use Rattle.route_book.specs.Book.{MarksDiffer, found_in, in_order, IsBook, KeepsItems}
-use Rattle.route_book.proofs.HoldLemmas.{Rise-add, lookup_none, lookup_added, lookup_other}
-use Rattle.route_book.proofs.HoldLemmas.{lookup_kept}
+use Rattle.route_book.proofs.AddedLemmas.{Grows, Kept, grows}
 use Rattle.route_book.proofs.SettledLemmas.{live_settled}
 use Rattle.route_book.proofs.OptionLemmas.{some_same, none_new, one_new}
 
@@ -53,14 +52,8 @@ module _ (s : State) (f : Found) (order : List Place) (ends : ℕ → Option End
   abbrev pub after_marked : State
   after_marked = record s { last = s.last + 1; marks = s.marks ++ m ∷ [] }
 
-  here : at i ≡ Some (g, v)
-  here = entries i ∙ rw (eq-eqb i i refl) refl
-
   there : (k : ℕ) → k ≢ i → at k ≡ f.marks k
   there k other = entries k ∙ rw (ne_eqb k i other) refl
-
-  found_here : value_if g (at i) ≡ Some v
-  found_here = ap (value_if g) here ∙ rw (eq-eqb g g refl) refl
 
   -- a pointer that found a mark finds it still
   value_kept : (j n : ℕ) → IsSome (value_if n (f.marks j))
@@ -71,50 +64,19 @@ module _ (s : State) (f : Found) (order : List Place) (ends : ℕ → Option End
     | inr other ↦ ap (value_if n) (there j other.1)
   ]
 
-  filled_kept : (k : Kind) (j n : ℕ) → IsFilled f k j n → IsFilled now k j n
-  filled_kept OfPlace j n filled = filled
-  filled_kept OfStop j n filled = filled
-  filled_kept OfMark j n filled = subst IsSome (sym (value_kept j n filled)) filled
+  kept : (k : Kind) (j n : ℕ) → IsFilled f k j n → Kept f now k j n
+  kept OfPlace j n filled = record { place = refl; stop = refl; mark = refl; filled = filled }
+  kept OfStop j n filled = record { place = refl; stop = refl; mark = refl; filled = filled }
+  kept OfMark j n filled = record {
+    place = refl;
+    stop = refl;
+    mark = ap (option_map (state_mark f)) (value_kept j n filled);
+    filled = subst IsSome (sym (value_kept j n filled)) filled;
+  }
 
-  mark_kept : (k : Kind) (j n : ℕ) → IsFilled f k j n → mark_under now k j n ≡ mark_under f k j n
-  mark_kept OfPlace j n filled = refl
-  mark_kept OfStop j n filled = refl
-  mark_kept OfMark j n filled = ap (option_map (state_mark f)) (value_kept j n filled)
-
-  place_same : (o : Option Entry) → place_at now o ≡ place_at f o
-  place_same None = refl
-  place_same (Some x) = by x.kind
-    where
-      by : (k : Kind) → place_under now k x.index x.generation
-          ≡ place_under f k x.index x.generation
-      by OfPlace = refl
-      by OfStop = refl
-      by OfMark = refl
-
-  stop_same : (o : Option Entry) → stop_at now o ≡ stop_at f o
-  stop_same None = refl
-  stop_same (Some x) = by x.kind
-    where
-      by : (k : Kind) → stop_under now k x.index x.generation ≡ stop_under f k x.index x.generation
-      by OfPlace = refl
-      by OfStop = refl
-      by OfMark = refl
-
-  mark_same : (t : ℕ) (o : Option Entry) → lookup book t ≡ o → mark_at now o ≡ mark_at f o
-  mark_same t None is = refl
-  mark_same t (Some x) is = mark_kept x.kind x.index x.generation (h.filled t x is)
-
-  data Look (t : ℕ) : Type 0 where
-    new : t ≡ s.last + 1 → lookup (book ++ e ∷ []) t ≡ Some e → lookup book t ≡ None → Look t
-    old : t ≢ s.last + 1 → lookup (book ++ e ∷ []) t ≡ lookup book t → Look t
-
-  look : (t : ℕ) → Look t
-  look t = elim (eqb_tells t (s.last + 1)) [
-    | inl same ↦ new same.1
-        (ap (lookup (book ++ e ∷ [])) same.1 ∙ lookup_added book s.last e h.rise next)
-        (ap (lookup book) same.1 ∙ lookup_none book s.last e h.rise next)
-    | inr other ↦ old other.1 (lookup_other book s.last e h.rise next t other.1)
-  ]
+  grown : Grows (λ (q : MarkView). q.ticket) OfMark s now book more f.marks at i g v
+  grown = grows MarkView (λ q. q.ticket) OfMark s f now order ends book h f.marks at i g v entries
+      next kept
 
   in_list : (t : ℕ) → mark_of (s.marks ++ m ∷ []) t
       ≡ option_or (mark_of s.marks t) (mark_of (m ∷ []) t)
@@ -124,8 +86,7 @@ module _ (s : State) (f : Found) (order : List Place) (ends : ℕ → Option End
   ticket = ap (λ (x : Mark). x.ticket) (sym own) ∙ next
 
   pub no_mark_yet : mark_of s.marks m.ticket ≡ None
-  no_mark_yet = ap (mark_of s.marks) ticket ∙ h.marks (s.last + 1)
-      ∙ ap (mark_at f) (lookup_none book s.last e h.rise next)
+  no_mark_yet = h.marks m.ticket ∙ ap (mark_at f) (grown.none m.ticket ticket)
 
   none_behind : (o : Option Mark) → option_or o None ≡ o
   none_behind None = refl
@@ -133,85 +94,41 @@ module _ (s : State) (f : Found) (order : List Place) (ends : ℕ → Option End
 
   pub mark_added : IsHeld after_marked now order ends more
   mark_added = record {
-    rise = Rise-add book 0 s.last e h.rise next;
-    filled = λ t x is. filled t x is (look t);
-    places_in = λ j k q is. lookup_kept book s.last e h.rise next q.ticket _ (h.places_in j k q is);
-    stops_in = λ j k q is. lookup_kept book s.last e h.rise next q.ticket _ (h.stops_in j k q is);
-    marks_in = λ j k q is. mark_in j k q is;
+    rise = grown.rise;
+    filled = grown.filled (subst IsSome (sym grown.found) refl);
+    places_in = λ j k q is. grown.still q.ticket _ (h.places_in j k q is);
+    stops_in = λ j k q is. grown.still q.ticket _ (h.stops_in j k q is);
+    marks_in = grown.items h.marks_in;
     stop_place = h.stop_place;
-    mark_place = λ j k q is. settled j k q is
-        (λ (x : MarkView). IsSettled f.places f.place_counter x.place)
-        (live_settled f.places f.place_counter v.place live_place) (λ is. h.mark_place j k q is);
-    mark_stop = λ j k q is. settled j k q is
-        (λ (x : MarkView). IsSettled f.stops f.stop_counter x.stop)
-        (live_settled f.stops f.stop_counter v.stop live_stop) (λ is. h.mark_stop j k q is);
+    mark_place = grown.each (λ j k q. IsSettled f.places f.place_counter q.place)
+        (live_settled f.places f.place_counter v.place live_place) h.mark_place;
+    mark_stop = grown.each (λ j k q. IsSettled f.stops f.stop_counter q.stop)
+        (live_settled f.stops f.stop_counter v.stop live_stop) h.mark_stop;
     places_up_to = h.places_up_to;
     stops_up_to = h.stops_up_to;
-    places = λ t. places_now t (look t);
-    stops = λ t. stops_now t (look t);
-    marks = λ t. marks_now t (look t);
+    places = grown.places (place_of s.places) (λ t other. refl)
+        (λ t is. h.places t ∙ ap (place_at f) (grown.none t is));
+    stops = grown.stops (stop_of s.routes) (λ t other. refl)
+        (λ t is. h.stops t ∙ ap (stop_at f) (grown.none t is));
+    marks = grown.marks (mark_of (s.marks ++ m ∷ [])) others mine;
     in_order = h.in_order;
     routes = h.routes;
   }
     where
-      filled : (t : ℕ) (x : Entry) → lookup more t ≡ Some x → Look t
-          → IsFilled now x.kind x.index x.generation
-      filled t x is (new at' found none) =
-          let same : e ≡ x = some_same (sym found ∙ is) in
-          subst (λ (y : Entry). IsFilled now y.kind y.index y.generation) same
-          (subst IsSome (sym found_here) refl)
-      filled t x is (old other found) =
-          filled_kept x.kind x.index x.generation (h.filled t x (sym found ∙ is))
+      others : (t : ℕ) → t ≢ s.last + 1 → mark_of (s.marks ++ m ∷ []) t ≡ mark_of s.marks t
+      others t other =
+          let none : mark_of (m ∷ []) t ≡ None =
+          rw (ne_eqb m.ticket t (λ is. other (sym is ∙ ticket))) refl in
+          in_list t ∙ ap (option_or (mark_of s.marks t)) none ∙ none_behind (mark_of s.marks t)
 
-      mark_in : (j k : ℕ) (q : MarkView) → at j ≡ Some (k, q)
-          → lookup more q.ticket ≡ Some (entry q.ticket OfMark j k)
-      mark_in j k q is = elim (eqb_tells j i) [
-        | inl same ↦
-            let both : Some (g, v) ≡ Some (k, q) = sym here ∙ sym (ap at same.1) ∙ is in
-            let pair : (g, v) ≡ (k, q) = some_same both in
-            let known : lookup more v.ticket ≡ Some (entry v.ticket OfMark j g) =
-            ap (lookup more) next ∙ lookup_added book s.last e h.rise next
-            ∙ ap (λ n. Some (entry v.ticket OfMark n g)) (sym same.1)
-            in subst (λ (x : ℕ × MarkView). lookup more x.1.ticket
-            ≡ Some (entry x.1.ticket OfMark j x.0)) pair known
-        | inr other ↦ lookup_kept book s.last e h.rise next q.ticket _
-            (h.marks_in j k q (sym (there j other.1) ∙ is))
-      ]
-
-      settled : (j k : ℕ) (q : MarkView) → at j ≡ Some (k, q) → (P : MarkView → Type 0) → P v
-          → (f.marks j ≡ Some (k, q) → P q) → P q
-      settled j k q is P mine others = elim (eqb_tells j i) [
-        | inl same ↦
-            let both : Some (g, v) ≡ Some (k, q) = sym here ∙ sym (ap at same.1) ∙ is in
-            let pair : (g, v) ≡ (k, q) = some_same both in
-            subst (λ (x : ℕ × MarkView). P x.1) pair mine
-        | inr other ↦ others (sym (there j other.1) ∙ is)
-      ]
-
-      places_now : (t : ℕ) → Look t → place_of s.places t ≡ place_at now (lookup more t)
-      places_now t (new is found none) = h.places t ∙ ap (place_at f) none
-          ∙ ap (place_at now) (sym found)
-      places_now t (old other found) = h.places t ∙ sym (place_same (lookup book t))
-          ∙ ap (place_at now) (sym found)
-
-      stops_now : (t : ℕ) → Look t → stop_of s.routes t ≡ stop_at now (lookup more t)
-      stops_now t (new is found none) = h.stops t ∙ ap (stop_at f) none
-          ∙ ap (stop_at now) (sym found)
-      stops_now t (old other found) = h.stops t ∙ sym (stop_same (lookup book t))
-          ∙ ap (stop_at now) (sym found)
-
-      marks_now : (t : ℕ) → Look t → mark_of (s.marks ++ m ∷ []) t ≡ mark_at now (lookup more t)
-      marks_now t (new is found none) =
-          let mine : mark_of (m ∷ []) t ≡ Some m = rw (eq-eqb m.ticket t (ticket ∙ sym is)) refl in
+      mine : (t : ℕ) → t ≡ s.last + 1
+          → mark_of (s.marks ++ m ∷ []) t ≡ option_map (state_mark f) (value_if g (at i))
+      mine t is =
+          let new : mark_of (m ∷ []) t ≡ Some m = rw (eq-eqb m.ticket t (ticket ∙ sym is)) refl in
           let before : mark_of s.marks t ≡ None = ap (mark_of s.marks) (is ∙ sym ticket)
           ∙ no_mark_yet in
-          in_list t ∙ ap (λ o. option_or o (mark_of (m ∷ []) t)) before ∙ mine ∙ ap Some (sym own)
-          ∙ sym (ap (option_map (state_mark f)) found_here) ∙ ap (mark_at now) (sym found)
-      marks_now t (old other found) =
-          let mine : mark_of (m ∷ []) t ≡ None =
-          rw (ne_eqb m.ticket t (λ is. other (sym is ∙ ticket))) refl in
-          in_list t ∙ ap (option_or (mark_of s.marks t)) mine ∙ none_behind (mark_of s.marks t)
-          ∙ h.marks t ∙ sym (mark_same t (lookup book t) refl) ∙ ap (mark_at now) (sym found)
+          in_list t ∙ ap (λ o. option_or o (mark_of (m ∷ []) t)) before ∙ new ∙ ap Some (sym own)
+          ∙ sym (ap (option_map (state_mark f)) grown.found)
 
 -- ---- the list of marks
 

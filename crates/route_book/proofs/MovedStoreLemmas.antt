@@ -1,18 +1,19 @@
 -- A store in other arenas: what ties its parts, if each item has the index that it had. What a
 -- pack proves by its mirrors is proved here by mirrors that no code has: each leads from a pointer
 -- to the same index under another generation.
-use Rattle.std.proofs.Common.{◌≡◌, ◌≢◌, ◌↔◌, ◌∙◌, sym, ap, subst, refl, ℕ, suc, ◌≤◌, List, [], ◌∷◌}
+use Rattle.std.proofs.Common.{◌≡◌, ◌≢◌, ◌∙◌, sym, ap, subst, refl, ℕ, ◌≤◌, List, [], ◌∷◌}
 use Rattle.std.proofs.Common.{length, map, Option, Some, None, IsSome, is_some, min, unwrap_or}
 use Rattle.std.proofs.Common.{arith}
 use Rattle.std.specs.List.{range_with_len}
 use Rattle.std.specs.Option.{option_map}
 use Rattle.std.proofs.Math.Nat.{min-eq_right}
 use Rattle.std.proofs.lemmas.Bool.{eq-eqb, ne_eqb}
+use Rattle.std.proofs.lemmas.List.{length-map}
 use Rattle.triple_arena.specs.Entries.{value_if}
 use Rattle.triple_arena.specs.Content.{Content, entry_at, live_count, arena_capacity}
 use Rattle.triple_arena_chain.specs.LinkShape.{IndexLink}
 use Rattle.triple_arena_chain.specs.CanonicalLayout.{IsLaidOut}
-use Rattle.triple_arena_chain.specs.Chains.{Ends, next_at}
+use Rattle.linked_lists.specs.LinkedLists.{Ends, next_at}
 use Rattle.triple_arena_chain.specs.Links.{ends_in, values_in}
 use Rattle.triple_arena_ord.specs.Ordered.{Ordered, entry_in, order_in, size_in}
 use Rattle.ticket_book.specs.declared.entry.Kind.{Kind}
@@ -26,15 +27,12 @@ use Rattle.route_book.specs.Book.{Book, found_in, in_order, IsBook}
 use Rattle.route_book.specs.Holds.{Found, found_by, IsFilled, IsHeld, IsLive, Rise}
 use Rattle.route_book.specs.Item.{StopView, MarkView}
 use Rattle.route_book.specs.Moving.{mark_over, over, stop_over}
-use Rattle.route_book.specs.Removals.{IsPacked}
+use Rattle.route_book.specs.Removals.{AreFirst, IsPacked}
 use Rattle.route_book.specs.Packing.{IsMirror, IsMoved, recast_mark, recast_stop}
+use Rattle.route_book.proofs.BookPackLemmas.{found_under, held_in_order}
 use Rattle.route_book.proofs.HoldLemmas.{lookup_given}
 use Rattle.route_book.proofs.OptionLemmas.{mapped_some, stands_under}
-use Rattle.route_book.proofs.PackLemmas.{mark_live, mark_stop_live, packed, packed_found, stop_live}
-
-length_map : {X Y : Type 0} (f : X → Y) (xs : List X) → length (map f xs) ≡ length xs
-length_map f [] = refl
-length_map f (x ∷ xs) = ap suc (length_map f xs)
+use Rattle.route_book.proofs.PackLemmas.{AreLive, packed}
 
 -- ---- items that keep their indexes
 
@@ -232,19 +230,12 @@ module _ (greatest g : ℕ)
       by None = refl
       by (Some k) = refl
 
-  abbrev now : Found
-  now = packed_found s f (in_order places) (ends_in stops)
-      (ends_in stops') book b.held (λ i. i) (λ i. i) (λ i. i) g g g
-      (entry_in places') mid_s mid_m m n o
-      (moved_over g (entry_in places) (entry_in places') at_p)
-      (moved_over g (values_in stops) mid_s (λ k. refl))
-      (moved_over g (entry_at marks) mid_m (λ k. refl))
-      (mirrored_over g (entry_in places)) (mirrored_over g (values_in stops))
-      (mirrored_over g (entry_at marks)) (values_in stops') (entry_at marks') recast_s recast_m
+  abbrev renewed : List Entry
+  renewed = map (renewed_entry m n o) book
 
-  held_now : IsHeld s now (in_order places) (ends_in stops')
-      (map (renewed_entry m n o) book)
-  held_now = packed s f (in_order places) (ends_in stops)
+  held : IsHeld s (found_under places' stops' marks' g g) (in_order places) (ends_in stops') renewed
+      × AreLive (entry_in places') (values_in stops') (entry_at marks')
+  held = packed s f (in_order places) (ends_in stops)
       (ends_in stops') book b.held (λ i. i) (λ i. i) (λ i. i) g g g
       (entry_in places') mid_s mid_m m n o
       (moved_over g (entry_in places) (entry_in places') at_p)
@@ -254,27 +245,9 @@ module _ (greatest g : ℕ)
       (mirrored_over g (entry_at marks)) (values_in stops') (entry_at marks') recast_s recast_m
       next_kept (λ i k some is. on i k is)
 
-  abbrev found_under : ℕ → ℕ → Found
-  found_under place_counter stop_counter = record {
-    places = entry_in places';
-    stops = values_in stops';
-    marks = entry_at marks';
-    place_counter = place_counter;
-    stop_counter = stop_counter;
-  }
-
-  abbrev renewed : List Entry
-  renewed = map (renewed_entry m n o) book
-
-  held : IsHeld s (found_in places' stops' marks') (in_order places')
-      (ends_in stops') renewed
-  held =
-      subst (λ w. IsHeld s (found_in places' stops' marks') w (ends_in stops') renewed)
-      (sym order)
-      (subst (λ c. IsHeld s (found_under c stops'.counter) (in_order places)
-      (ends_in stops') renewed) (sym counter_p)
-      (subst (λ c. IsHeld s (found_under g c) (in_order places)
-      (ends_in stops') renewed) (sym counter_s) held_now))
+  -- no reference is dead
+  pub store_live : AreLive (entry_in places') (values_in stops') (entry_at marks')
+  store_live = held.1
 
   module _ (size : size_in places' ≡ size_in places) (live : live_count stops' ≡ live_count stops)
       (many : live_count marks' ≡ live_count marks)
@@ -291,7 +264,9 @@ module _ (greatest g : ℕ)
           (subst (IsHeld s (found_in places' stops' marks') (in_order places')
           (ends_in stops'))
           (sym (book_same greatest g f within_p within_s within_m book 0 s.last b.held.rise
-          b.held.filled)) held);
+          b.held.filled))
+          (held_in_order s places' stops' marks' (in_order places) renewed g counter_p counter_s
+          order held.0));
       places_rise = b.places_rise;
       within = record {
         rooms_are = refl;
@@ -307,48 +282,33 @@ module _ (greatest g : ℕ)
       };
       last_is = b.last_is;
       marks_differ = b.marks_differ;
-      entries = (let c = b.entries in
-          let l = length_map (entry_over greatest g) book in
-          omega (arith, c, l, size, live, many));
+      entries = omega (arith, b.entries, length-map book (entry_over greatest g), size, live, many);
     }
 
-  -- no reference is dead
-  pub store_stop : (k h : ℕ) (v : StopView) → values_in stops' k ≡ Some (h, v)
-      → IsLive (entry_in places') v.place
-  store_stop = stop_live s f (in_order places) (ends_in stops)
-      (ends_in stops') book b.held (λ i. i) (λ i. i) (λ i. i) g g g
-      (entry_in places') mid_s mid_m m n o
-      (moved_over g (entry_in places) (entry_in places') at_p)
-      (moved_over g (values_in stops) mid_s (λ k. refl))
-      (moved_over g (entry_at marks) mid_m (λ k. refl))
-      (mirrored_over g (entry_in places)) (mirrored_over g (values_in stops))
-      (mirrored_over g (entry_at marks)) (values_in stops') (entry_at marks') recast_s recast_m
-      next_kept (λ i k some is. on i k is)
-
-  pub store_mark : (k h : ℕ) (v : MarkView) → entry_at marks' k ≡ Some (h, v)
-      → IsLive (entry_in places') v.place × IsLive (values_in stops') v.stop
-  store_mark k h v is = (
-    mark_live s f (in_order places) (ends_in stops)
-        (ends_in stops') book b.held (λ i. i) (λ i. i) (λ i. i) g g g
-        (entry_in places') mid_s mid_m m n o
-        (moved_over g (entry_in places) (entry_in places') at_p)
-        (moved_over g (values_in stops) mid_s (λ k. refl))
-        (moved_over g (entry_at marks) mid_m (λ k. refl))
-        (mirrored_over g (entry_in places)) (mirrored_over g (values_in stops))
-        (mirrored_over g (entry_at marks)) (values_in stops') (entry_at marks') recast_s recast_m
-        next_kept (λ i k some is. on i k is) k h v is,
-    mark_stop_live s f (in_order places) (ends_in stops)
-        (ends_in stops') book b.held (λ i. i) (λ i. i) (λ i. i) g g g
-        (entry_in places') mid_s mid_m m n o
-        (moved_over g (entry_in places) (entry_in places') at_p)
-        (moved_over g (values_in stops) mid_s (λ k. refl))
-        (moved_over g (entry_at marks) mid_m (λ k. refl))
-        (mirrored_over g (entry_in places)) (mirrored_over g (values_in stops))
-        (mirrored_over g (entry_at marks)) (values_in stops') (entry_at marks') recast_s recast_m
-        next_kept (λ i k some is. on i k is) k h v is,
-  )
-
 -- ---- the same of a store that was packed first, over what the moves of its arenas tell
+
+-- each item has its index under one generation, if a pack has laid out where it was
+pub record AreTransferred (greatest g : ℕ) (places places' : Ordered Place)
+    (stops stops' : Content (IndexLink StopView)) (marks marks' : Content MarkView)
+    : Type 0 where
+  pub to_p : order_in places ≡ range_with_len 1 (size_in places) → (k : ℕ)
+      → entry_in places' k ≡ option_map (λ e. (g, e.1)) (entry_in places k)
+  pub in_p : order_in places ≡ range_with_len 1 (size_in places) → (k : ℕ)
+      → IsSome (entry_in places k) → k ≤ greatest
+  pub order : in_order places' ≡ in_order places
+  pub to_s : IsLaidOut (ends_in stops) (live_count stops) → (k : ℕ)
+      → values_in stops' k ≡ option_map (λ e. (g, stop_over greatest g e.1)) (values_in stops k)
+  pub in_s : IsLaidOut (ends_in stops) (live_count stops) → (k : ℕ)
+      → IsSome (values_in stops k) → k ≤ greatest
+  pub on : (i k : ℕ) → next_at (ends_in stops) i ≡ Some k → IsSome (values_in stops k)
+  pub next : IsLaidOut (ends_in stops) (live_count stops) → (k : ℕ) → IsSome (values_in stops k)
+      → next_at (ends_in stops') k ≡ next_at (ends_in stops) k
+  pub to_m : AreFirst (entry_at marks) (live_count marks) → (k : ℕ)
+      → entry_at marks' k ≡ option_map (λ e. (g, mark_over greatest g e.1)) (entry_at marks k)
+  pub in_m : AreFirst (entry_at marks) (live_count marks) → (k : ℕ)
+      → IsSome (entry_at marks k) → k ≤ greatest
+  pub counter_p : places'.chains.counter ≡ g
+  pub counter_s : stops'.counter ≡ g
 
 module _ (last : Option ℕ) (greatest g : ℕ)
     (rooms rooms' : Rooms) (given : ℕ) (s : State)
@@ -358,40 +318,16 @@ module _ (last : Option ℕ) (greatest g : ℕ)
     (marks' : Content MarkView) (was : Book) (looks : ℕ)
     (packing : IsPacked last 0 looks was
     (record { state = s; places = places; stops = stops; marks = marks }))
-    (to_p : order_in places ≡ range_with_len 1 (size_in places) → (k : ℕ)
-    → entry_in places' k ≡ option_map (λ e. (g, e.1)) (entry_in places k))
-    (in_p : order_in places ≡ range_with_len 1 (size_in places) → (k : ℕ)
-    → IsSome (entry_in places k) → k ≤ greatest)
-    (order : in_order places' ≡ in_order places)
-    (to_s : IsLaidOut (ends_in stops) (live_count stops) → (k : ℕ)
-    → values_in stops' k ≡ option_map (λ e. (g, stop_over greatest g e.1)) (values_in stops k))
-    (in_s : IsLaidOut (ends_in stops) (live_count stops) → (k : ℕ)
-    → IsSome (values_in stops k) → k ≤ greatest)
-    (on : (i k : ℕ) → next_at (ends_in stops) i ≡ Some k → IsSome (values_in stops k))
-    (next : IsLaidOut (ends_in stops) (live_count stops) → (k : ℕ)
-    → IsSome (values_in stops k)
-    → next_at (ends_in stops') k ≡ next_at (ends_in stops) k)
-    (to_m : ((i : ℕ) → IsSome (entry_at marks i) ↔ ((1 ≤ i) × (i ≤ live_count marks))) → (k : ℕ)
-    → entry_at marks' k ≡ option_map (λ e. (g, mark_over greatest g e.1)) (entry_at marks k))
-    (in_m : ((i : ℕ) → IsSome (entry_at marks i) ↔ ((1 ≤ i) × (i ≤ live_count marks))) → (k : ℕ)
-    → IsSome (entry_at marks k) → k ≤ greatest)
-    (counter_p : places'.chains.counter ≡ g) (counter_s : stops'.counter ≡ g) where
+    (are : AreTransferred greatest g places places' stops stops' marks marks') where
   run : order_in places ≡ range_with_len 1 (size_in places)
   run = packing.order ∙ ap (range_with_len 1) b.within.place_count
 
-  pub moved_stop : (k h : ℕ) (v : StopView) → values_in stops' k ≡ Some (h, v)
-      → IsLive (entry_in places') v.place
-  moved_stop = store_stop greatest g rooms rooms' given s places stops marks book b
-      places' stops' marks' (to_p run) (to_s packing.stop_runs) (to_m packing.mark_run) order
-      (next packing.stop_runs) on packing.stops packing.marks (in_p run) (in_s packing.stop_runs)
-      (in_m packing.mark_run) counter_p counter_s
-
-  pub moved_mark : (k h : ℕ) (v : MarkView) → entry_at marks' k ≡ Some (h, v)
-      → IsLive (entry_in places') v.place × IsLive (values_in stops') v.stop
-  moved_mark = store_mark greatest g rooms rooms' given s places stops marks book b
-      places' stops' marks' (to_p run) (to_s packing.stop_runs) (to_m packing.mark_run) order
-      (next packing.stop_runs) on packing.stops packing.marks (in_p run) (in_s packing.stop_runs)
-      (in_m packing.mark_run) counter_p counter_s
+  pub moved_live : AreLive (entry_in places') (values_in stops') (entry_at marks')
+  moved_live = store_live greatest g rooms rooms' given s places stops marks book b
+      places' stops' marks' (are.to_p run) (are.to_s packing.stop_runs)
+      (are.to_m packing.mark_run) are.order
+      (are.next packing.stop_runs) are.on packing.stops packing.marks (are.in_p run)
+      (are.in_s packing.stop_runs) (are.in_m packing.mark_run) are.counter_p are.counter_s
 
   pub moved_kept : size_in places' ≡ size_in places → live_count stops' ≡ live_count stops
       → live_count marks' ≡ live_count marks
@@ -402,6 +338,7 @@ module _ (last : Option ℕ) (greatest g : ℕ)
       → IsBook rooms' given (in_rooms rooms' s) places' stops' marks'
       (map (entry_over greatest g) book)
   moved_kept = store_kept greatest g rooms rooms' given s places stops marks book b
-      places' stops' marks' (to_p run) (to_s packing.stop_runs) (to_m packing.mark_run) order
-      (next packing.stop_runs) on packing.stops packing.marks (in_p run) (in_s packing.stop_runs)
-      (in_m packing.mark_run) counter_p counter_s
+      places' stops' marks' (are.to_p run) (are.to_s packing.stop_runs)
+      (are.to_m packing.mark_run) are.order
+      (are.next packing.stop_runs) are.on packing.stops packing.marks (are.in_p run)
+      (are.in_s packing.stop_runs) (are.in_m packing.mark_run) are.counter_p are.counter_s

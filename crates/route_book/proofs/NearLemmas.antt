@@ -10,13 +10,14 @@ use Rattle.std.proofs.lemmas.Bool.{and_parts, ltb-true, lt-ltb, le-ltb, ne_eqb}
 use Rattle.std.proofs.lemmas.Bool.Decides.{eqb_tells, leb_tells}
 use Rattle.triple_arena.specs.Content.{Content}
 use Rattle.triple_arena.specs.Entries.{value_if}
-use Rattle.triple_arena_chain.specs.Chains.{first_or, last_or}
+use Rattle.linked_lists.specs.LinkedLists.{first_or, last_or}
 use Rattle.triple_arena_chain.specs.LinkShape.{IndexLink}
 use Rattle.triple_arena_ord.specs.Near.{IsNear, IsAtHand}
 use Rattle.triple_arena_ord.specs.Ordered.{Ordered, IsOrdered, IsAscending, asked_at, entry_in}
 use Rattle.triple_arena_ord.specs.Ordered.{order_in, size_in}
 use Rattle.ticket_book.specs.declared.entry.Kind.TheVariants.{Place as OfPlace}
 use Rattle.ticket_book.specs.Tickets.{Entry}
+use Rattle.ticket_book.specs.AlongLaws.{along, along_some}
 use Rattle.rank_tree.specs.Comparisons.{most_comparisons}
 use Rattle.route_lines.specs.Calls.{place_holder}
 use Rattle.route_lines.specs.Searches.{places_before, is_near, is_at_hand, most_from, most_near}
@@ -27,7 +28,7 @@ use Rattle.route_book.specs.Item.{StopView, MarkView}
 use Rattle.route_book.specs.Keys.{key_cmp, key_of}
 use Rattle.route_book.specs.declared.items.PlaceKey.{PlaceKey}
 use Rattle.route_book.proofs.HoldLemmas.{booked_once}
-use Rattle.route_book.proofs.KeyLemmas.{GoesPast, above_behind, along, along_some, ascending}
+use Rattle.route_book.proofs.KeyLemmas.{GoesPast, above_behind, ascending}
 use Rattle.route_book.proofs.KeyLemmas.{live_along, newest_past, past_above, past_from}
 use Rattle.route_book.proofs.NeighborLemmas.{held_place}
 use Rattle.route_book.proofs.OptionLemmas.{found_has, some_same, stands_under}

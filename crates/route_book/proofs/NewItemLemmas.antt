@@ -1,10 +1,10 @@
 -- What `start` and `mark` make of the store that their callers see.
-use Rattle.std.proofs.Common.{◌≡◌, ◌≢◌, ◌∙◌, sym, ap, subst, refl, false, ℕ, ◌+◌, ◌<◌, List, []}
-use Rattle.std.proofs.Common.{◌∷◌, ◌++◌, Some, None, IsSome, IfSome, Ok, arith}
+use Rattle.std.proofs.Common.{◌≡◌, ◌≢◌, ◌∙◌, sym, ap, subst, refl, false, ℕ, ◌+◌, List, []}
+use Rattle.std.proofs.Common.{◌∷◌, ◌++◌, Some, None, IsSome, IfSome, Ok}
 use Rattle.std.specs.Option.{option_map}
 use Rattle.triple_arena.specs.Entries.{value_if, with_entry}
-use Rattle.triple_arena.specs.Content.{Content, entry_at, live_count, arena_capacity}
-use Rattle.triple_arena_chain.specs.Chains.{IsAgreed}
+use Rattle.triple_arena.specs.Content.{Content, entry_at, live_count}
+use Rattle.linked_lists.specs.LinkedLists.{IsAgreed}
 use Rattle.triple_arena_chain.specs.LinkShape.{IndexLink}
 use Rattle.triple_arena_chain.specs.declared.gap.Gap.TheVariants.{Between}
 use Rattle.triple_arena_chain.specs.Links.{ends_in, values_in, valued, IsChained, IsLinkInserted}
@@ -18,9 +18,9 @@ use Rattle.route_book.specs.Item.{StopView, MarkView}
 use Rattle.route_book.specs.Holds.{entry, state_mark, state_stop}
 use Rattle.route_book.specs.Book.{Book, found_in, found_of, IsBook, KeepsItems}
 use Rattle.route_book.proofs.LinkLemmas.{held_ticket}
-use Rattle.route_book.proofs.MarkLemmas.{kept_mark, mark_made, marks_not_full}
+use Rattle.route_book.proofs.MarkLemmas.{kept_mark, mark_made}
 use Rattle.route_book.proofs.NeighborLemmas.{held_place}
-use Rattle.route_book.proofs.StartLemmas.{kept_stop, start_kept, started_new, stops_not_full}
+use Rattle.route_book.proofs.StartLemmas.{kept_stop, start_kept, started_new}
 use Rattle.route_book.proofs.OptionLemmas.{found_has}
 
 module _ (rooms : Rooms) (last : ℕ) (s : State)

@@ -9,11 +9,11 @@ use Rattle.triple_arena_chain.specs.Links.{values_in, valued}
 use Rattle.triple_arena_ord.specs.Ordered.{Ordered, IsOrdered, entry_in, order_in}
 use Rattle.triple_arena_ord.specs.Node.{itemed}
 use Rattle.ticket_book.specs.Tickets.{Entry}
+use Rattle.ticket_book.specs.AlongLaws.{along}
 use Rattle.route_book.specs.Item.{StopView, MarkView}
 use Rattle.route_lines.specs.State.{Rooms, Place}
 use Rattle.route_lines.specs.State as state
 use Rattle.route_book.specs.Book.{IsBook}
-use Rattle.route_book.proofs.KeyLemmas.{along}
 
 nothing_at : (T : Type 0) (counter : ℕ) (room : Room) (i : ℕ)
     → entry_at {T = T} (empty counter room) i ≡ None

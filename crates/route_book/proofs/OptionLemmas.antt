@@ -1,5 +1,5 @@
 -- What is known of an option, of what a pointer finds, and of what a search finds.
-use Rattle.std.proofs.Common.{◌≡◌, ◌==◌, if◌then◌else◌, Bool, false, ℕ, List, [], ◌∷◌, Option, Some}
+use Rattle.std.proofs.Common.{◌≡◌, ◌==◌, if◌then◌else◌, false, ℕ, List, [], ◌∷◌, Option, Some}
 use Rattle.std.proofs.Common.{None, IsSome, find, option_map, true≢false, refl, sym, ap, subst, ◌∙◌}
 use Rattle.std.proofs.Common.{inl, inr}
 use Rattle.std.proofs.lemmas.Bool.Decides.{eqb_tells}

@@ -5,7 +5,7 @@ use Rattle.std.proofs.Common.{is_some, true≢false, arith}
 use Rattle.std.specs.Option.{option_map}
 use Rattle.std.proofs.lemmas.Bool.{eq-eqb}
 use Rattle.triple_arena.specs.Entries.{value_if}
-use Rattle.triple_arena_chain.specs.Chains.{Ends, next_at}
+use Rattle.linked_lists.specs.LinkedLists.{Ends, next_at}
 use Rattle.route_lines.specs.State.{Place, State}
 use Rattle.ticket_book.specs.declared.entry.Kind.{Kind}
 use Rattle.ticket_book.specs.declared.entry.Kind.TheVariants.{Place as OfPlace, Stop as OfStop}
@@ -42,6 +42,13 @@ module _ (m n o : Mirror) where
   rise_renewed [] low last rise = rise
   rise_renewed (e ∷ book) low last rise = (rise.0, rise_renewed book e.ticket last rise.1)
 
+-- no stored reference is dead
+pub record AreLive (at_p : ℕ → Option (ℕ × Place)) (at_s : ℕ → Option (ℕ × StopView))
+    (at_m : ℕ → Option (ℕ × MarkView)) : Type 0 where
+  pub stops : (k g : ℕ) (v : StopView) → at_s k ≡ Some (g, v) → IsLive at_p v.place
+  pub marks : (k g : ℕ) (v : MarkView) → at_m k ≡ Some (g, v)
+      → IsLive at_p v.place × IsLive at_s v.stop
+
 module _ (s : State) (f : Found) (order : List Place) (ends ends' : ℕ → Option Ends)
     (book : List Entry) (h : IsHeld s f order ends book)
     (to_p to_s to_m : ℕ → ℕ) (gp gs gm : ℕ) (at_p : ℕ → Option (ℕ × Place))
@@ -54,12 +61,9 @@ module _ (s : State) (f : Found) (order : List Place) (ends ends' : ℕ → Opti
     (new_s : ℕ → Option (ℕ × StopView)) (new_m : ℕ → Option (ℕ × MarkView))
     (recast_s : (k : ℕ) → new_s k ≡ option_map (λ e. (e.0, recast_stop m e.1)) (at_s k))
     (recast_m : (k : ℕ) → new_m k ≡ option_map (λ e. (e.0, recast_mark m n e.1)) (at_m k)) where
-  abbrev pub packed_found : Found
-  packed_found = record
-      { places = at_p; stops = new_s; marks = new_m; place_counter = gp; stop_counter = gs }
-
   abbrev now : Found
-  now = packed_found
+  now = record
+      { places = at_p; stops = new_s; marks = new_m; place_counter = gp; stop_counter = gs }
 
   abbrev τ : StopView → ℕ
   τ v = v.ticket
@@ -224,13 +228,13 @@ module _ (s : State) (f : Found) (order : List Place) (ends ends' : ℕ → Opti
           by i here (Some j) is = rw is (sym (ticket_moved j (live i j here is)))
 
       -- no reference is dead
-      pub stop_live : (k g : ℕ) (v : StopView) → new_s k ≡ Some (g, v) → IsLive at_p v.place
+      stop_live : (k g : ℕ) (v : StopView) → new_s k ≡ Some (g, v) → IsLive at_p v.place
       stop_live k g v is =
           let c = mapped_some stop_cast (at_s k) (g, v) (sym (recast_s k) ∙ is) in
           subst (λ (x : ℕ × StopView). IsLive at_p x.1.place) c.1.1
           (live_recast to_p gp f.places at_p m places mirror_p c.0.1.place)
 
-      pub mark_live : (k g : ℕ) (v : MarkView) → new_m k ≡ Some (g, v) → IsLive at_p v.place
+      mark_live : (k g : ℕ) (v : MarkView) → new_m k ≡ Some (g, v) → IsLive at_p v.place
       mark_live k g v is =
           let c = mapped_some mark_cast (at_m k) (g, v) (sym (recast_m k) ∙ is) in
           subst (λ (x : ℕ × MarkView). IsLive at_p x.1.place) c.1.1
@@ -251,40 +255,21 @@ module _ (s : State) (f : Found) (order : List Place) (ends ends' : ℕ → Opti
               at_test true some = refl
               at_test false some = some
 
-      pub mark_stop_live : (k g : ℕ) (v : MarkView) → new_m k ≡ Some (g, v) → IsLive new_s v.stop
+      mark_stop_live : (k g : ℕ) (v : MarkView) → new_m k ≡ Some (g, v) → IsLive new_s v.stop
       mark_stop_live k g v is =
           let c = mapped_some mark_cast (at_m k) (g, v) (sym (recast_m k) ∙ is) in
           subst (λ (x : ℕ × MarkView). IsLive new_s x.1.stop) c.1.1
           (still_live (found_by n c.0.1.stop)
           (live_recast to_s gs f.stops at_s n stops mirror_s c.0.1.stop))
 
-      pub packed : IsHeld s now order ends' (map renew book)
-      packed = record {
-        rise = rise_renewed m n o book 0 s.last h.rise;
-        filled = filled;
-        places_in = place_in;
-        stops_in = stop_in;
-        marks_in = mark_in;
-        stop_place = λ k g v is. live_settled at_p gp v.place (stop_live k g v is);
-        mark_place = λ k g v is. live_settled at_p gp v.place (mark_live k g v is);
-        mark_stop = λ k g v is. live_settled new_s gs v.stop (mark_stop_live k g v is);
-        places_up_to = λ k g p is. (let w = (places.onto k g p is).1.1.1.1 in omega (arith, w));
-        stops_up_to = λ k g v
-            is. (let w = mapped_some stop_cast (at_s k) (g, v) (sym (recast_s k) ∙ is) in let same =
-            ap (λ (x : ℕ × StopView). x.0) w.1.1 in
-            let u = (stops.onto k w.0.0 w.0.1 w.1.0).1.1.1.1 in omega (arith, same, u));
-        places = λ t. h.places t
-            ∙ sym (ap (place_at now) (lookup_renewed m n o book t)
-            ∙ (at_kept t (lookup book t) refl).place);
-        stops = λ t. h.stops t
-            ∙ sym (ap (stop_at now) (lookup_renewed m n o book t)
-            ∙ (at_kept t (lookup book t) refl).stop);
-        marks = λ t. h.marks t
-            ∙ sym (ap (mark_at now) (lookup_renewed m n o book t)
-            ∙ (at_kept t (lookup book t) refl).mark);
-        in_order = h.in_order;
-        routes = lead_packed;
-      }
+      pub packed : IsHeld s now order ends' (map renew book) × AreLive at_p new_s new_m
+      packed = (
+        held,
+        record {
+          stops = stop_live;
+          marks = λ k g v is. (mark_live k g v is, mark_stop_live k g v is);
+        },
+      )
         where
           filled : (t : ℕ) (e : Entry) → lookup (map renew book) t ≡ Some e
               → IsFilled now e.kind e.index e.generation
@@ -332,3 +317,31 @@ module _ (s : State) (f : Found) (order : List Place) (ends ends' : ℕ → Opti
               ∙ ap (λ z. Some (entry c.0.1.ticket OfMark k z)) (sym w.1.1.1.1) in
               subst (λ (x : ℕ × MarkView). lookup (map renew book) x.1.ticket
               ≡ Some (entry x.1.ticket OfMark k x.0)) c.1.1 known
+
+          held : IsHeld s now order ends' (map renew book)
+          held = record {
+            rise = rise_renewed m n o book 0 s.last h.rise;
+            filled = filled;
+            places_in = place_in;
+            stops_in = stop_in;
+            marks_in = mark_in;
+            stop_place = λ k g v is. live_settled at_p gp v.place (stop_live k g v is);
+            mark_place = λ k g v is. live_settled at_p gp v.place (mark_live k g v is);
+            mark_stop = λ k g v is. live_settled new_s gs v.stop (mark_stop_live k g v is);
+            places_up_to = λ k g p is. (let w = (places.onto k g p is).1.1.1.1 in omega (arith, w));
+            stops_up_to = λ k g v is. (let w =
+                mapped_some stop_cast (at_s k) (g, v) (sym (recast_s k) ∙ is) in
+                let same = ap (λ (x : ℕ × StopView). x.0) w.1.1 in
+                let u = (stops.onto k w.0.0 w.0.1 w.1.0).1.1.1.1 in omega (arith, same, u));
+            places = λ t. h.places t
+                ∙ sym (ap (place_at now) (lookup_renewed m n o book t)
+                ∙ (at_kept t (lookup book t) refl).place);
+            stops = λ t. h.stops t
+                ∙ sym (ap (stop_at now) (lookup_renewed m n o book t)
+                ∙ (at_kept t (lookup book t) refl).stop);
+            marks = λ t. h.marks t
+                ∙ sym (ap (mark_at now) (lookup_renewed m n o book t)
+                ∙ (at_kept t (lookup book t) refl).mark);
+            in_order = h.in_order;
+            routes = lead_packed;
+          }

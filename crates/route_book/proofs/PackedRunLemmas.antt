@@ -11,17 +11,17 @@ use Rattle.triple_arena.specs.Entries.{look_up}
 use Rattle.triple_arena.specs.LiveEntries.{live_entries, entry-listed, live_entries-increase}
 use Rattle.triple_arena.specs.LiveEntries.{live_entries-length}
 use Rattle.triple_arena_chain.specs.LinkShape.{IndexLink}
-use Rattle.triple_arena_chain.specs.AllChainsLaws.{all_live}
+use Rattle.linked_lists.specs.AllChainsLaws.{all_live}
 use Rattle.triple_arena_chain.specs.CanonicalLayout.{IsLaidOut}
 use Rattle.triple_arena_chain.specs.CanonicalLayoutLaws.{laid_same}
 use Rattle.triple_arena_chain.specs.CanonicalTransfer.{AreRising, IsMovedAlong}
 use Rattle.triple_arena_chain.specs.CanonicalTransferLaws.{in_order_once}
-use Rattle.triple_arena_chain.specs.Chains.{Ends, On, IsAgreed, first_or, next_at, next_in}
-use Rattle.triple_arena_chain.specs.Chains.{prev_at, prev_in}
+use Rattle.linked_lists.specs.LinkedLists.{Ends, On, IsAgreed, first_or, next_at, next_in}
+use Rattle.linked_lists.specs.LinkedLists.{prev_at, prev_in}
 use Rattle.triple_arena_chain.specs.Links.{ends_in, values_in, entry_ends}
-use Rattle.triple_arena_chain.specs.Lists.{Chain, Linear, Cyclic, members, all_members, IsWritten}
-use Rattle.triple_arena_chain.specs.Lists.{AreAllChainsOf}
-use Rattle.triple_arena_chain.specs.ListLaws.{On-first, live_next_in, live_on, live_prev_in}
+use Rattle.linked_lists.specs.Chains.{Chain, Linear, Cyclic, members, all_members, IsWritten}
+use Rattle.linked_lists.specs.Chains.{AreAllChainsOf}
+use Rattle.linked_lists.specs.ChainLaws.{On-first, live_next_in, live_on, live_prev_in}
 use Rattle.triple_arena_chain.specs.Renaming.{ends_renamed}
 use Rattle.triple_arena_ord.specs.Ascending.{entries_along}
 use Rattle.triple_arena_ord.specs.Node.{itemed}

@@ -8,11 +8,13 @@ use Rattle.std.specs.List.Sorted.{IsStrictlyIncreasing}
 use Rattle.std.proofs.lemmas.Bool.{ne_eqb, eq-eqb}
 use Rattle.std.proofs.lemmas.Bool.Decides.{eqb_tells}
 use Rattle.std.proofs.lemmas.Option.{slice_get-map}
-use Rattle.triple_arena.specs.Entries.{look_up}
+use Rattle.triple_arena.specs.Entries.{look_up, value_if, with_value_at}
+use Rattle.triple_arena.specs.Walk.{Steps, Walk}
 use Rattle.triple_arena.specs.Compression.{index_of, value_of, generation_of}
 use Rattle.triple_arena.specs.RiseLaws.{RiseFrom, low_none, rise_from}
 use Rattle.route_book.specs.Packing.{IsMoved}
 use Rattle.triple_arena_chain.specs.Renaming.{live_below}
+use Rattle.ticket_book.specs.WalkLaws.{IsCasting, cast_on, stands_at, value_written}
 
 module _ {A : Type 0} (at : ℕ → Option A) where
   -- none in a gap
@@ -145,6 +147,25 @@ module _ {T : Type 0} (at : ℕ → Option (ℕ × T)) (listed : List (ℕ × (�
       ∙ below_listed 0 listed (rise_from 0 listed increase (λ some. omega arith)) high
       (λ j some. all j (subst IsSome (sym (entry_listed j)) some))
       ∙ counted
+
+-- one entry more is written anew and counted
+pub record Passes {V : Type 0} (cast : V → V) (at0 at' : ℕ → Option (ℕ × V)) (w w' : Walk)
+    : Type 0 where
+  pub casting : IsCasting cast at0 at' w'
+  pub count : live_below at0 w'.low ≡ live_below at0 w.low + 1
+
+pub passes_on : {V : Type 0} (cast : V → V) (at0 at : ℕ → Option (ℕ × V)) (w w' : Walk)
+    → IsCasting cast at0 at w → (at' : ℕ → Option (ℕ × V)) (i g : ℕ) (v v' : V)
+    → Steps at w (Some (i, g)) w' → Some v ≡ value_if g (at i) → v' ≡ cast v
+    → ((j : ℕ) → at' j ≡ with_value_at at i v' j) → Passes cast at0 at' w w'
+passes_on cast at0 at w w' c at' i g v v' step value is writes =
+    let stands = stands_at at i g v value in
+    let on = cast_on cast at0 at w w' c at' i g v v' step stands is
+    (value_written at at' i g v v' stands writes) in
+    record {
+      casting = on.casting;
+      count = ap (live_below at0) on.low ∙ below_passed at0 w.low i on.up on.gap on.some;
+    }
 
 -- entries that are moved in the order of a list
 module _ {T : Type 0} where

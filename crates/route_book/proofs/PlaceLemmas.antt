@@ -1,30 +1,32 @@
 -- What `place` makes of what ties a store's parts.
 use Rattle.std.proofs.Common.{◌≡◌, ◌∙◌, sym, ap, subst, refl, Bool, true, false, ◌||◌}
 use Rattle.std.proofs.Common.{if◌then◌else◌, nat_lt, ℕ, ◌+◌, ◌<◌, ◌≤◌, List, [], ◌∷◌, ◌++◌, length}
-use Rattle.std.proofs.Common.{Option, Some, None, IsSome, Ok, Err, arith, length-append, inl, inr}
+use Rattle.std.proofs.Common.{Option, Some, None, IsSome, Ok, arith, length-append, inl, inr}
 use Rattle.std.specs.Option.{option_map}
+use Rattle.std.specs.declared.cmp.Ordering.{Ordering}
 use Rattle.std.proofs.lemmas.Bool.{false≢true, leb-false}
 use Rattle.std.proofs.lemmas.Bool.Decides.{eqb_tells}
-use Rattle.triple_arena.specs.Content.{Content, entry_at, live_count, arena_capacity}
+use Rattle.triple_arena.specs.Content.{Content, entry_at, live_count}
 use Rattle.triple_arena_stack.specs.Room.{capacity}
 use Rattle.triple_arena_chain.specs.LinkShape.{IndexLink}
-use Rattle.triple_arena_chain.specs.Chains.{Ends}
+use Rattle.linked_lists.specs.LinkedLists.{Ends}
 use Rattle.triple_arena_chain.specs.Links.{ends_in, values_in}
 use Rattle.triple_arena_ord.specs.Inserted.{IsAdded, IsReplaced}
-use Rattle.triple_arena_ord.specs.Ordered.{Ordered, entry_in, order_in, size_in}
+use Rattle.triple_arena_ord.specs.Ordered.{Ordered, entry_in, order_in}
 use Rattle.ticket_book.specs.declared.entry.Kind.TheVariants.{Place as OfPlace}
 use Rattle.ticket_book.specs.Tickets.{Entry}
+use Rattle.ticket_book.specs.AlongLaws.{along}
 use Rattle.route_lines.specs.Calls.{put, reworded, place_holder, placed, after_place, worded}
 use Rattle.route_lines.specs.Calls.{after_word}
 use Rattle.route_lines.specs.Sound.{IsSound}
 use Rattle.route_lines.specs.State.{State, Rooms, Place, is_full_of_places}
-use Rattle.route_lines.specs.declared.refusal.Refusal.TheVariants.{Full}
 use Rattle.route_book.specs.Item.{StopView, MarkView}
 use Rattle.route_book.specs.Holds.{Found, entry, IsHeld}
-use Rattle.route_book.specs.Book.{Book, found_in, in_order, IsBook, KeepsItems}
-use Rattle.route_book.proofs.HoldLemmas.{lookup_given, place_added}
-use Rattle.route_book.proofs.KeyLemmas.{along}
+use Rattle.route_book.specs.Book.{Book, as_book, found_in, in_order, IsBook, KeepsItems}
+use Rattle.route_book.specs.Keys.{IsFoundFor}
+use Rattle.route_book.proofs.HoldLemmas.{lookup_given}
 use Rattle.route_book.proofs.NeighborLemmas.{held_place}
+use Rattle.route_book.proofs.NewPlaceLemmas.{place_added}
 use Rattle.route_book.proofs.RewordLemmas.{reword_entry, length-reworded, along_reworded}
 use Rattle.route_book.proofs.RewordLemmas.{as_reworded, place_reworded}
 use Rattle.route_book.proofs.OptionLemmas.{found_has, some_same, none_new, one_new, replaced_new}
@@ -56,6 +58,24 @@ pub ticket_given : (s : State) (f : Found) (order : List Place) (ends : ℕ → 
 ticket_given s f order ends book h i g q is = let given =
     lookup_given book 0 s.last q.ticket _ h.rise (h.places_in i g q is) in omega (arith, given.2)
 
+-- ---- what was found for the next ticket, in the store that the calls see
+
+module _ (P : Type 0) (index generation : P → ℕ) (found : Option (P × Ordering)) (key : ℕ)
+    (b now : Book) (view : b ≡ now) (last : ℕ) (last_is : b.state.last ≡ last) where
+  abbrev IsFoundNext : ℕ → Book → Type 0
+  IsFoundNext n k =
+      IsFoundFor index generation (record { key = key; ticket = n + 1 }) k.places found
+
+  pub found_now : IsFoundNext last b → IsFoundNext now.state.last now
+  found_now h =
+      subst (λ (k : Book). IsFoundNext k.state.last k) view
+      (subst (λ n. IsFoundNext n b) (sym last_is) h)
+
+  pub found_inside : IsFoundNext now.state.last now → IsFoundNext last b
+  found_inside h =
+      subst (λ n. IsFoundNext n b) last_is
+      (subst (λ (k : Book). IsFoundNext k.state.last k) (sym view) h)
+
 -- ---- what `place` answers
 
 module _ (s : State) (key : ℕ) (word : List ℕ) where
@@ -81,26 +101,33 @@ module _ (rooms : Rooms) (last : ℕ) (s : State)
     (marks : Content MarkView)
     (book : List Entry) (b : IsBook rooms last s places stops marks book) where
   -- a new place
-  module _ (p : Place) (ticket : p.ticket ≡ last + 1) (sound : IsSound (after_place s p.key p.word))
-      (free : is_full_of_places s ≡ false)
+  module _ (p : Place) (key : ℕ) (word : List ℕ)
+      (made : p ≡ record { ticket = last + 1; key = key; word = word })
+      (sound : IsSound (after_place s key word)) (free : is_full_of_places s ≡ false)
       (i g : ℕ) (added : IsAdded i g p places places')
       (order : in_order places' ≡ put p (in_order places))
       (same_room : places'.chains.room ≡ places.chains.room)
-      (same_counter : places'.chains.counter ≡ places.chains.counter) where
+      (same_counter : places'.chains.counter ≡ places.chains.counter)
+      (s' : State) (is : s' ≡ after_place s key word)
+      (book' : List Entry) (more : book' ≡ book ++ entry (last + 1) OfPlace i g ∷ []) where
     abbrev now : State
     now = record s { last = s.last + 1; places = put p s.places }
 
-    own : p ≡ record { ticket = s.last + 1; key = p.key; word = p.word }
-    own = ap (λ n. record { ticket = n; key = p.key; word = p.word })
-        (ticket ∙ ap (λ n. n + 1) (sym b.last_is))
+    ticket : p.ticket ≡ s.last + 1
+    ticket = ap (λ (q : Place). q.ticket) made ∙ ap (λ n. n + 1) (sym b.last_is)
 
-    after_is : now ≡ after_place s p.key p.word
-    after_is = ap (λ q. record s { last = s.last + 1; places = put q s.places }) own
-        ∙ sym (placed_new s p.key p.word free).1
+    after_is : now ≡ s'
+    after_is =
+        ap (λ q. record s { last = s.last + 1; places = put q s.places })
+        (made ∙ ap (λ n. record { ticket = n + 1; key = key; word = word }) (sym b.last_is))
+        ∙ sym (placed_new s key word free).1 ∙ sym is
 
-    pub place_kept : IsBook rooms (last + 1) (after_place s p.key p.word) places' stops marks
-        (book ++ entry p.ticket OfPlace i g ∷ [])
-    place_kept = subst (λ z. IsBook rooms (last + 1) z places' stops marks
+    more_is : book ++ entry p.ticket OfPlace i g ∷ [] ≡ book'
+    more_is = ap (λ (q : Place). book ++ entry q.ticket OfPlace i g ∷ []) made ∙ sym more
+
+    pub place_kept : IsBook rooms (last + 1) s' places' stops marks book'
+    place_kept = subst (IsBook rooms (last + 1) s' places' stops marks) more_is
+        (subst (λ z. IsBook rooms (last + 1) z places' stops marks
         (book ++ entry p.ticket OfPlace i g ∷ [])) after_is (record {
           held = subst (λ c. IsHeld now
               (record {
@@ -114,9 +141,9 @@ module _ (rooms : Rooms) (last : ℕ) (s : State)
               (book ++ entry p.ticket OfPlace i g ∷ [])) (sym same_counter)
               (place_added s (found_in places stops marks) (in_order places)
               (in_order places') (ends_in stops) book b.held p i g (entry_in places')
-              added.vacant added.entries (ticket ∙ ap (λ n. n + 1) (sym b.last_is)) added.generation
+              added.vacant added.entries ticket added.generation
               order);
-          places_rise = (subst IsSound (sym after_is) sound).order;
+          places_rise = (subst IsSound (sym (after_is ∙ is)) sound).order;
           within = record {
             rooms_are = b.within.rooms_are;
             place_count = (let n = b.within.place_count in let l = added.size in let m =
@@ -136,13 +163,14 @@ module _ (rooms : Rooms) (last : ℕ) (s : State)
           entries = (let a = length-append book (entry p.ticket OfPlace i g ∷ []) in let n =
               b.entries in let l = added.size in omega (arith, a, n, l));
           marks_differ = b.marks_differ;
-        })
+        }))
 
   -- another word for a place
   module _ (p : Place) (t : ℕ) (word : List ℕ) (held : place_holder s t ≡ Ok p)
       (sound : IsSound (after_word s t word)) (i g : ℕ)
-      (replaced : IsReplaced i g (record p { word = word }) p places places') where
-    pub reword_kept : IsBook rooms last (after_word s t word) places' stops marks book
+      (replaced : IsReplaced i g (record p { word = word }) p places places')
+      (s' : State) (is : s' ≡ after_word s t word) where
+    pub reword_kept : IsBook rooms last s' places' stops marks book
     reword_kept =
         let same = found_has (λ (q : Place). q.ticket) t s.places p (held_place s t p held) in
         let at : (k : ℕ) → entry_in places' k
@@ -155,9 +183,9 @@ module _ (rooms : Rooms) (last : ℕ) (s : State)
         ap (along (entry_in places')) replaced.order
         ∙ along_reworded p.ticket word (entry_in places) (entry_in places') at
         (order_in places) in
-        let after : record s { places = reworded p.ticket word s.places } ≡ after_word s t word =
+        let after : record s { places = reworded p.ticket word s.places } ≡ s' =
         ap (λ k. record s { places = reworded k word s.places }) same
-        ∙ sym (worded_is s t word p held).1 in
+        ∙ sym (worded_is s t word p held).1 ∙ sym is in
         subst (λ z. IsBook rooms last z places' stops marks book) after (record {
           held = subst (λ c. IsHeld (record s { places = reworded p.ticket word s.places })
               (record {
@@ -172,7 +200,7 @@ module _ (rooms : Rooms) (last : ℕ) (s : State)
               (in_order places') (ends_in stops) book b.held p i g word
               (entry_in places')
               replaced.was replaced.entries order);
-          places_rise = (subst IsSound (sym after) sound).order;
+          places_rise = (subst IsSound (sym (after ∙ is)) sound).order;
           within = record {
             rooms_are = b.within.rooms_are;
             place_count = length-reworded p.ticket word s.places ∙ b.within.place_count
@@ -200,17 +228,15 @@ some_of (Some x) is = (x, refl)
 -- ---- what stays
 
 module _ (s s' : State) (places places' : Ordered Place)
-    (stops : Content (IndexLink StopView)) (marks : Content MarkView) where
-  abbrev old : Book
-  old = record { state = s; places = places; stops = stops; marks = marks }
-
+    (stops : Content (IndexLink StopView)) (marks : Content MarkView) (old : Book)
+    (view : as_book s places stops marks ≡ old) where
   abbrev new : Book
-  new = record { state = s'; places = places'; stops = stops; marks = marks }
+  new = as_book s' places' stops marks
 
   pub kept_added : (p : Place) (i g : ℕ) → IsAdded i g p places places'
       → places'.chains.counter ≡ places.chains.counter → places'.chains.room ≡ places.chains.room
       → KeepsItems old new
-  kept_added p i g added counter room = record {
+  kept_added p i g added counter room = subst (λ (b : Book). KeepsItems b new) view (record {
     places = λ j n q is. (q, (stays j n q is, (refl, refl)));
     stops = λ j n v is. is;
     marks = λ j n v is. is;
@@ -222,7 +248,7 @@ module _ (s s' : State) (places places' : Ordered Place)
     stop_counter = refl;
     mark_counter = refl;
     rooms = record { places = room; stops = refl; marks = refl };
-  }
+  })
     where
       stays : (j n : ℕ) (q : Place) → entry_in places j ≡ Some (n, q)
           → entry_in places' j ≡ Some (n, q)
@@ -234,7 +260,7 @@ module _ (s s' : State) (places places' : Ordered Place)
 
   pub kept_reworded : (p : Place) (word : List ℕ) (i g : ℕ)
       → IsReplaced i g (record p { word = word }) p places places' → KeepsItems old new
-  kept_reworded p word i g replaced = record {
+  kept_reworded p word i g replaced = subst (λ (b : Book). KeepsItems b new) view (record {
     places = stays;
     stops = λ j n v is. is;
     marks = λ j n v is. is;
@@ -246,7 +272,7 @@ module _ (s s' : State) (places places' : Ordered Place)
     stop_counter = refl;
     mark_counter = refl;
     rooms = record { places = replaced.kept.room; stops = refl; marks = refl };
-  }
+  })
     where
       stays : (j n : ℕ) (q : Place) → entry_in places j ≡ Some (n, q)
           → (r : Place) × ((entry_in places' j ≡ Some (n, r))

@@ -9,10 +9,10 @@ use Rattle.triple_arena.specs.Entries.{value_if}
 use Rattle.triple_arena.specs.Content.{Content, arena_capacity}
 use Rattle.triple_arena_stack.specs.Room.{capacity}
 use Rattle.triple_arena_chain.specs.LinkShape.{IndexLink}
-use Rattle.triple_arena_chain.specs.Chains.{Ends, IsAgreed, next_in, prev_in, next_at, prev_at}
-use Rattle.triple_arena_chain.specs.Chains.{linked, unlinked, exchanged}
+use Rattle.linked_lists.specs.LinkedLists.{Ends, IsAgreed, next_in, prev_in, next_at, prev_at}
+use Rattle.linked_lists.specs.LinkedLists.{linked, unlinked, exchanged}
 use Rattle.triple_arena_chain.specs.Kinds.{at_bridge}
-use Rattle.triple_arena_chain.specs.ListLaws.{live_next_in, live_prev_in}
+use Rattle.linked_lists.specs.ChainLaws.{live_next_in, live_prev_in}
 use Rattle.triple_arena_chain.specs.Links.{ends_in, ends_found, values_in, IsKept, IsRelinked}
 use Rattle.triple_arena_ord.specs.Ordered.{Ordered}
 use Rattle.ticket_book.specs.Tickets.{Entry}
@@ -242,6 +242,18 @@ module _ (rooms : Rooms) (last : ℕ) (s : State)
 
   module _ (agreed : IsAgreed (ends_in stops)) (t i g : ℕ) (v : StopView)
       (named : IsNamed t i g v) (u j h : ℕ) (w : StopView) (other : IsNamed u j h w) where
+    here : IsAt stops i g v
+    here = at agreed t i g v named
+
+    there : IsAt stops j h w
+    there = at agreed u j h w other
+
+    own_ticket : v.ticket ≡ t
+    own_ticket = ticket agreed t i g v named
+
+    other_ticket : w.ticket ≡ u
+    other_ticket = ticket agreed u j h w other
+
     pub swapped_ok : IsSome (next_in (ends_found stops i g))
         → IsSome (next_in (ends_found stops j h)) → swapped s t u ≡ Ok tt
     swapped_ok some more =
@@ -306,18 +318,6 @@ module _ (rooms : Rooms) (last : ℕ) (s : State)
       where
         later : List Route
         later = (after_swap s t u).routes
-
-        here : IsAt stops i g v
-        here = at agreed t i g v named
-
-        there : IsAt stops j h w
-        there = at agreed u j h w other
-
-        own_ticket : v.ticket ≡ t
-        own_ticket = ticket agreed t i g v named
-
-        other_ticket : w.ticket ≡ u
-        other_ticket = ticket agreed u j h w other
 
         m : (q : ℕ) × (next_in (ends_found stops i g) ≡ Some q)
         m = some_of (next_in (ends_found stops i g)) some
@@ -439,18 +439,6 @@ module _ (rooms : Rooms) (last : ℕ) (s : State)
       where
         later : List Route
         later = (after_join s t u).routes
-
-        here : IsAt stops i g v
-        here = at agreed t i g v named
-
-        there : IsAt stops j h w
-        there = at agreed u j h w other
-
-        own_ticket : v.ticket ≡ t
-        own_ticket = ticket agreed t i g v named
-
-        other_ticket : w.ticket ≡ u
-        other_ticket = ticket agreed u j h w other
 
   -- ---- the same of the store that the calls see
 

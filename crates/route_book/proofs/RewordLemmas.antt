@@ -6,18 +6,18 @@ use Rattle.std.specs.Option.{option_map}
 use Rattle.std.proofs.lemmas.Bool.{ne_eqb, eq-eqb}
 use Rattle.std.proofs.lemmas.Bool.Decides.{eqb_tells}
 use Rattle.triple_arena.specs.Entries.{value_if, with_entry}
-use Rattle.triple_arena_chain.specs.Chains.{Ends}
+use Rattle.linked_lists.specs.LinkedLists.{Ends}
 use Rattle.ticket_book.specs.declared.entry.Kind.{Kind}
 use Rattle.ticket_book.specs.declared.entry.Kind.TheVariants.{Place as OfPlace, Stop as OfStop}
 use Rattle.ticket_book.specs.declared.entry.Kind.TheVariants.{Mark as OfMark}
 use Rattle.ticket_book.specs.Tickets.{Entry, lookup}
+use Rattle.ticket_book.specs.AlongLaws.{along}
 use Rattle.route_lines.specs.Calls.{reworded}
 use Rattle.route_lines.specs.State.{State, Place, place_of}
 use Rattle.route_book.specs.Item.{StopView, MarkView}
 use Rattle.route_book.specs.Holds.{Found, found_by, state_stop, state_mark, place_under, stop_under}
 use Rattle.route_book.specs.Holds.{mark_under, place_at, stop_at, mark_at, IsFilled, entry}
 use Rattle.route_book.specs.Holds.{IsSettled, IsHeld}
-use Rattle.route_book.proofs.KeyLemmas.{along}
 use Rattle.route_book.proofs.OptionLemmas.{some_same}
 
 -- a place with this word, where it has this ticket

@@ -1,7 +1,7 @@
 -- What `start` makes of what ties a store's parts.
 use Rattle.std.proofs.Common.{◌≡◌, ◌≢◌, ◌∙◌, sym, ap, subst, refl, Bool, true, false, ◌==◌, ◌||◌, ℕ}
 use Rattle.std.proofs.Common.{◌+◌, ◌<◌, ◌≤◌, List, [], ◌∷◌, ◌++◌, length, Option, Some, None}
-use Rattle.std.proofs.Common.{IsSome, IfSome, Ok, Err, arith, length-append, find, append_assoc}
+use Rattle.std.proofs.Common.{IsSome, IfSome, Ok, arith, length-append, find, append_assoc}
 use Rattle.std.proofs.Common.{inl, inr}
 use Rattle.std.specs.Option.{option_map, option_or}
 use Rattle.std.proofs.lemmas.Bool.{ne_eqb, eq-eqb, leb-false}
@@ -10,7 +10,7 @@ use Rattle.std.proofs.lemmas.List.Folds.{find-append}
 use Rattle.triple_arena.specs.Entries.{value_if, with_entry}
 use Rattle.triple_arena.specs.Content.{Content, entry_at}
 use Rattle.triple_arena_stack.specs.Room.{capacity}
-use Rattle.triple_arena_chain.specs.Chains.{IsAgreed}
+use Rattle.linked_lists.specs.LinkedLists.{IsAgreed}
 use Rattle.triple_arena_chain.specs.LinkShape.{IndexLink}
 use Rattle.triple_arena_chain.specs.declared.gap.Gap.TheVariants.{Between}
 use Rattle.triple_arena_chain.specs.Links.{ends_in, values_in, entry_ends, valued, IsLinkInserted}
@@ -21,7 +21,6 @@ use Rattle.route_lines.specs.Calls.{place_holder, started, after_start}
 use Rattle.route_lines.specs.Routes.{linear, next_stop}
 use Rattle.route_lines.specs.State.{State, Rooms, Place, Stop, Route, stop_list, stop_of}
 use Rattle.route_lines.specs.State.{is_full_of_stops}
-use Rattle.route_lines.specs.declared.refusal.Refusal.TheVariants.{Full}
 use Rattle.route_book.specs.Item.{StopView, MarkView}
 use Rattle.route_book.specs.Follows.{LeadAs}
 use Rattle.route_book.specs.Holds.{entry, state_stop, IsHeld}

@@ -5,9 +5,9 @@ use Rattle.std.specs.List.{AllByRecursion}
 use Rattle.std.specs.Option.{option_map, option_to_list}
 use Rattle.std.proofs.lemmas.Bool.{false≢true, ne_eqb}
 use Rattle.std.proofs.lemmas.List.{append-nil, reverse-append}
-use Rattle.triple_arena_chain.specs.Chains.{Ends, IsAgreed, next_in, prev_in, next_at, prev_at}
-use Rattle.triple_arena_chain.specs.Chains.{first_or, last_or, IsSegment, Off, IsLinear}
-use Rattle.triple_arena_chain.specs.ListLaws.{live_next_in}
+use Rattle.linked_lists.specs.LinkedLists.{Ends, IsAgreed, next_in, prev_in, next_at, prev_at}
+use Rattle.linked_lists.specs.LinkedLists.{first_or, last_or, IsSegment, Off, IsLinear}
+use Rattle.linked_lists.specs.ChainLaws.{live_next_in}
 use Rattle.triple_arena_chain.specs.Walks.{IsWalkFrom, along as walks_along, around as walks_around}
 use Rattle.route_lines.specs.Leads.{head_or, Leads}
 use Rattle.route_lines.specs.Routes.{has_ticket, walk_from}

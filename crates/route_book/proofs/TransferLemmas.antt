@@ -11,10 +11,10 @@ use Rattle.std.proofs.lemmas.Bool.Decides.{eqb_tells, leb_tells}
 use Rattle.std.proofs.lemmas.Option.{slice_get-map}
 use Rattle.triple_arena.specs.Entries.{look_up}
 use Rattle.triple_arena.specs.Compression.{value_of, generation_of, entry_of_listed}
-use Rattle.triple_arena_chain.specs.Chains.{On}
-use Rattle.triple_arena_chain.specs.ChainLaws.{On-cons}
+use Rattle.linked_lists.specs.LinkedLists.{On}
+use Rattle.linked_lists.specs.LinkedListLaws.{On-cons}
 use Rattle.triple_arena_chain.specs.IterChains.{links_along}
-use Rattle.triple_arena_chain.specs.ListLaws.{On-first}
+use Rattle.linked_lists.specs.ChainLaws.{On-first}
 use Rattle.triple_arena_ord.specs.Ascending.{entries_along}
 use Rattle.route_book.proofs.OptionLemmas.{some_same}
 use Rattle.triple_arena.specs.RiseLaws.{RiseFrom, low_none}

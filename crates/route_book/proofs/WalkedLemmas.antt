@@ -4,11 +4,11 @@ use Rattle.std.proofs.Common.{◌++◌, map, reverse, Option, Some, None, IsSome
 use Rattle.std.specs.List.{AllByRecursion}
 use Rattle.std.specs.Option.{option_map}
 use Rattle.triple_arena.specs.Entries.{value_if}
-use Rattle.triple_arena.specs.Content.{Content, entry_at, get}
+use Rattle.triple_arena.specs.Content.{Content, entry_at}
 use Rattle.triple_arena_chain.specs.LinkShape.{IndexLink}
-use Rattle.triple_arena_chain.specs.Chains.{IsAgreed, next_at, prev_at}
+use Rattle.linked_lists.specs.LinkedLists.{IsAgreed, next_at, prev_at}
 use Rattle.triple_arena_chain.specs.IterChains.{links_along}
-use Rattle.triple_arena_chain.specs.Links.{ends_in, link_ends, values_in}
+use Rattle.triple_arena_chain.specs.Links.{ends_in, values_in}
 use Rattle.triple_arena_chain.specs.Walks.{IsWalkFrom}
 use Rattle.triple_arena_ord.specs.Ordered.{Ordered, entry_in}
 use Rattle.ticket_book.specs.Tickets.{Entry}

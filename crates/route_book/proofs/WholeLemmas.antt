@@ -1,6 +1,6 @@
 -- A whole pack, over what its steps tell.
 use Rattle.std.proofs.Common.{◌≡◌, ◌∙◌, sym, ap, subst, refl, ℕ, zero, suc, ◌+◌, ◌*◌, ◌<◌, ◌≤◌}
-use Rattle.std.proofs.Common.{List, length, map, Option, Some, None, IsSome, is_some, true≢false}
+use Rattle.std.proofs.Common.{List, length, map, Option, None, IsSome, is_some, true≢false}
 use Rattle.std.proofs.Common.{arith}
 use Rattle.std.specs.Option.{option_map}
 use Rattle.std.specs.List.{range_with_len}
@@ -8,24 +8,27 @@ use Rattle.triple_arena_ptr.specs.Generation.{second_generation}
 use Rattle.triple_arena_stack.specs.Room.{Room, capacity}
 use Rattle.triple_arena.specs.Content.{Content, entry_at, live_count, arena_capacity}
 use Rattle.triple_arena_chain.specs.LinkShape.{IndexLink}
-use Rattle.triple_arena_chain.specs.Chains.{On}
+use Rattle.linked_lists.specs.LinkedLists.{On}
 use Rattle.triple_arena_chain.specs.Links.{ends_in, values_in}
+use Rattle.triple_arena_chain.specs.CanonicalLayout.{IsLaidOut}
+use Rattle.triple_arena_chain.specs.CanonicalLayoutLaws.{laid_same}
 use Rattle.triple_arena_ord.specs.Ordered.{Ordered, IsOrdered, entry_in, order_in}
 use Rattle.route_lines.specs.Searches.{references_in}
 use Rattle.route_lines.specs.State.{Place, State, Rooms}
 use Rattle.route_book.specs.Item.{StopView, MarkView}
 use Rattle.ticket_book.specs.Tickets.{Entry}
-use Rattle.route_book.specs.Holds.{IsLive}
-use Rattle.route_book.specs.Book.{IsBook}
-use Rattle.route_book.specs.Removals.{HaveGeneration}
+use Rattle.route_book.specs.Book.{Book, IsBook, as_book}
+use Rattle.route_book.specs.Removals.{HaveGeneration, IsPacked}
 use Rattle.route_book.specs.Compressed.{IsAllCompressed}
 use Rattle.route_book.specs.Packing.{IsMoved, IsMirrored, IsBooked, StandAs, recast_stop}
 use Rattle.route_book.specs.Packing.{recast_mark}
 use Rattle.ticket_book.specs.Mirrors.{Mirror, renewed_entry}
 use Rattle.route_book.proofs.BookPackLemmas.{places_moved, stops_moved, marks_moved}
 use Rattle.route_book.proofs.BookPackLemmas.{places_booked, stops_booked, marks_booked}
-use Rattle.route_book.proofs.BookPackLemmas.{pack_kept, no_dead_stop, no_dead_mark}
-use Rattle.route_book.proofs.OptionLemmas.{mapped_some}
+use Rattle.route_book.proofs.BookPackLemmas.{pack_kept}
+use Rattle.route_book.proofs.OptionLemmas.{mapped_some, some_same}
+use Rattle.route_book.proofs.PackLemmas.{AreLive}
+use Rattle.route_book.proofs.RunLemmas.{marks_run}
 
 -- what ties the parts of a store says its rooms and its last ticket as its state has them
 module _ (rooms : Rooms) (last : ℕ) (s : State)
@@ -92,6 +95,12 @@ written {T} g f old new have writes i h x is =
     (sym (writes i) ∙ is) in
     sym (ap (λ (z : ℕ × T). z.0) was.1.1) ∙ have i was.0.0 was.0.1 was.1.0
 
+-- a whole pack: what ties the store's parts still does, and the store is packed
+pub record IsWhole (last : Option ℕ) (rooms : Rooms) (given before after : ℕ) (old new : Book)
+    (entries : List Entry) : Type 0 where
+  pub book : IsBook rooms given new.state new.places new.stops new.marks entries
+  pub packed : IsPacked last before after old new
+
 module _ (last : Option ℕ) (rooms : Rooms) (given : ℕ) (s : State)
     (places places' : Ordered Place)
     (stops stops1 : Content (IndexLink StopView)) (marks marks1 : Content MarkView)
@@ -131,16 +140,16 @@ module _ (last : Option ℕ) (rooms : Rooms) (given : ℕ) (s : State)
       book b all.laid stand stand' all.was_chained all.canonical all.values all.compressed
       room (fits (entry_at marks) (arena_capacity marks) room refl all.mark_indexes up))
 
-  pub places_in_order : order_in places' ≡ range_with_len 1 (length s.places)
+  places_in_order : order_in places' ≡ range_with_len 1 (length s.places)
   places_in_order = all.laid.runs ∙ ap (range_with_len 1) (sym b.within.place_count)
 
   -- the generations
-  pub place_generations : HaveGeneration (second_generation last) (entry_in places')
+  place_generations : HaveGeneration (second_generation last) (entry_in places')
   place_generations =
       moved_to all.laid.to (second_generation last) (entry_in places) (entry_in places')
       (places_moved last places places' all.laid stand stand')
 
-  pub stop_generations : (stops' : Content (IndexLink StopView)) (m : Mirror)
+  stop_generations : (stops' : Content (IndexLink StopView)) (m : Mirror)
       → ((k : ℕ) → values_in stops' k
       ≡ option_map (λ e. (e.0, recast_stop m e.1)) (values_in stops1 k))
       → HaveGeneration (second_generation last) (values_in stops')
@@ -149,7 +158,7 @@ module _ (last : Option ℕ) (rooms : Rooms) (given : ℕ) (s : State)
       (moved_to all.canonical.to (second_generation last) (values_in stops) (values_in stops1)
       (stops_moved last stops stops1 all.canonical)) recast
 
-  pub mark_generations : (marks' : Content MarkView) (m n : Mirror)
+  mark_generations : (marks' : Content MarkView) (m n : Mirror)
       → ((k : ℕ) → entry_at marks' k
       ≡ option_map (λ e. (e.0, recast_mark m n e.1)) (entry_at marks1 k))
       → HaveGeneration (second_generation last) (entry_at marks')
@@ -158,7 +167,7 @@ module _ (last : Option ℕ) (rooms : Rooms) (given : ℕ) (s : State)
       (moved_to _ (second_generation last) (entry_at marks) (entry_at marks1)
       (marks_moved last marks marks1 all.values all.compressed)) recast
 
-  pub looks_made : (before between after : ℕ) → between ≡ before + live_count stops1
+  looks_made : (before between after : ℕ) → between ≡ before + live_count stops1
       → after ≡ between + 2 * live_count marks1
       → after ≡ before + references_in s
   looks_made before between after one two =
@@ -182,67 +191,78 @@ module _ (last : Option ℕ) (rooms : Rooms) (given : ℕ) (s : State)
       (ends : (k : ℕ) → ends_in stops' k ≡ ends_in stops1 k)
       (stops_counter : stops'.counter ≡ stops1.counter)
       (stops_live : live_count stops' ≡ live_count stops1)
-      (stops_room : stops'.room ≡ stops1.room)
+      (stops_room : stops'.room ≡ stops1.room) (stops_free : stops'.free ≡ stops1.free)
+      (marks_counter : marks'.counter ≡ marks1.counter)
       (marks_live : live_count marks' ≡ live_count marks1) (marks_room : marks'.room ≡ marks1.room)
-    where
-      low_p : ℕ
-      low_p = arena_capacity places'.chains + 1
+      (marks_free : marks'.free ≡ marks1.free) where
+    low_p : ℕ
+    low_p = arena_capacity places'.chains + 1
 
-      low_s : ℕ
-      low_s = arena_capacity stops1 + 1
+    low_s : ℕ
+    low_s = arena_capacity stops1 + 1
 
-      low_m : ℕ
-      low_m = arena_capacity marks1 + 1
+    low_m : ℕ
+    low_m = arena_capacity marks1 + 1
 
-      all_p : (k : ℕ) → IsSome (entry_in places' k) → k < low_p
-      unfolding low_p
-      all_p = below (entry_in places') (arena_capacity places'.chains) all.place_bound
+    all_p : (k : ℕ) → IsSome (entry_in places' k) → k < low_p
+    unfolding low_p
+    all_p = below (entry_in places') (arena_capacity places'.chains) all.place_bound
 
-      all_s : (k : ℕ) → IsSome (values_in stops1 k) → k < low_s
-      unfolding low_s
-      all_s = below (values_in stops1) (arena_capacity stops1) all.stop_bound
+    all_s : (k : ℕ) → IsSome (values_in stops1 k) → k < low_s
+    unfolding low_s
+    all_s = below (values_in stops1) (arena_capacity stops1) all.stop_bound
 
-      all_m : (k : ℕ) → IsSome (entry_at marks1 k) → k < low_m
-      unfolding low_m
-      all_m = below (entry_at marks1) (arena_capacity marks1) all.mark_bound
+    all_m : (k : ℕ) → IsSome (entry_at marks1 k) → k < low_m
+    unfolding low_m
+    all_m = below (entry_at marks1) (arena_capacity marks1) all.mark_bound
 
-      in_p : IsMirrored (λ (p : Place). p.ticket) book (entry_in places') low_p m
-      in_p = subst (λ l. IsMirrored (λ (p : Place). p.ticket) l (entry_in places') low_p m) same1
-          (mirrored_p low_p all_p)
+    in_p : IsMirrored (λ (p : Place). p.ticket) book (entry_in places') low_p m
+    in_p = subst (λ l. IsMirrored (λ (p : Place). p.ticket) l (entry_in places') low_p m) same1
+        (mirrored_p low_p all_p)
 
-      in_s : IsMirrored (λ (p : StopView). p.ticket) book (values_in stops1) low_s n
-      in_s = subst (λ l. IsMirrored (λ (p : StopView). p.ticket) l (values_in stops1) low_s n) same2
-          (mirrored_s low_s all_s)
+    in_s : IsMirrored (λ (p : StopView). p.ticket) book (values_in stops1) low_s n
+    in_s = subst (λ l. IsMirrored (λ (p : StopView). p.ticket) l (values_in stops1) low_s n) same2
+        (mirrored_s low_s all_s)
 
-      in_m : IsMirrored (λ (p : MarkView). p.ticket) book (entry_at marks1) low_m o
-      in_m = subst (λ l. IsMirrored (λ (p : MarkView). p.ticket) l (entry_at marks1) low_m o) same3
-          (mirrored_m low_m all_m)
+    in_m : IsMirrored (λ (p : MarkView). p.ticket) book (entry_at marks1) low_m o
+    in_m = subst (λ l. IsMirrored (λ (p : MarkView). p.ticket) l (entry_at marks1) low_m o) same3
+        (mirrored_m low_m all_m)
 
-      pub whole_kept : IsBook rooms given s places' stops' marks'
-          (map (renewed_entry m n o) book)
-      whole_kept =
-          pack_kept last rooms given s places places' stops stops1 stops' marks marks1 marks'
-          book b all.laid stand stand' all.was_chained all.canonical all.values all.compressed
-          m n o low_p low_s low_m in_p all_p in_s all_s in_m all_m recast_s recast_m ends
-          stops_counter stops_live stops_room marks_live marks_room
+    tied : IsBook rooms given s places' stops' marks' (map (renewed_entry m n o) book)
+        × AreLive (entry_in places') (values_in stops') (entry_at marks')
+    tied =
+        pack_kept last rooms given s places places' stops stops1 stops' marks marks1 marks'
+        book b all.laid stand stand' all.was_chained all.canonical all.values all.compressed
+        m n o low_p low_s low_m in_p all_p in_s all_s in_m all_m recast_s recast_m ends
+        stops_counter stops_live stops_room marks_live marks_room
 
-      pub whole_stops : (k h : ℕ) (v : StopView) → values_in stops' k ≡ Some (h, v)
-          → IsLive (entry_in places') v.place
-      whole_stops =
-          no_dead_stop last rooms given s places places' stops stops1 stops' marks marks1
-          marks' book b all.laid stand stand' all.was_chained all.canonical all.values
-          all.compressed
-          m n o low_p low_s low_m in_p all_p in_s all_s in_m all_m recast_s recast_m ends
-          stops_counter stops_live stops_room marks_live marks_room
-
-      pub whole_marks : (k h : ℕ) (v : MarkView) → entry_at marks' k ≡ Some (h, v)
-          → IsLive (entry_in places') v.place × IsLive (values_in stops') v.stop
-      whole_marks =
-          no_dead_mark last rooms given s places places' stops stops1 stops' marks marks1
-          marks' book b all.laid stand stand' all.was_chained all.canonical all.values
-          all.compressed
-          m n o low_p low_s low_m in_p all_p in_s all_s in_m all_m recast_s recast_m ends
-          stops_counter stops_live stops_room marks_live marks_room
-
-      pub whole_stop_counter : stops'.counter ≡ second_generation last
-      whole_stop_counter = stops_counter ∙ all.canonical.counter
+    pub whole_pack : (before between after : ℕ) → between ≡ before + live_count stops1
+        → after ≡ between + 2 * live_count marks1
+        → IsWhole last rooms given before after (as_book s places stops marks)
+        (as_book s places' stops' marks') (map (renewed_entry m n o) book)
+    whole_pack before between after one two = record {
+      book = tied.0;
+      packed = record {
+        looks = looks_made before between after one two;
+        place_counter = all.laid.counter;
+        stop_counter = stops_counter ∙ all.canonical.counter;
+        mark_counter = marks_counter ∙ some_same all.compressed.counter;
+        place_generations = place_generations;
+        stop_generations = stop_generations stops' m recast_s;
+        mark_generations = mark_generations marks' m n recast_m;
+        rooms = record {
+          places = all.laid.room;
+          stops = stops_room ∙ all.canonical.room;
+          marks = marks_room ∙ all.compressed.room;
+        };
+        order = places_in_order;
+        stop_runs = subst (IsLaidOut (ends_in stops')) (sym (stops_live ∙ all.canonical.live))
+            (laid_same (ends_in stops1) (ends_in stops') _ ends all.canonical.laid_out);
+        mark_run = marks_run marks1 marks' _ all.compressed.entries recast_m marks_live;
+        place_free = all.laid.free;
+        stop_free = stops_free ∙ all.canonical.free;
+        mark_free = marks_free ∙ all.mark_free;
+        stops = tied.1.stops;
+        marks = tied.1.marks;
+      };
+    }

@@ -2,8 +2,8 @@
 use Rattle.std.specs.Prelude.{◌≡◌, ℕ, List, [], ◌∷◌, ◌++◌, Option, Some, None, if◌then◌else◌}
 use Rattle.std.specs.Option.{option_map, option_to_list}
 use Rattle.std.specs.List.{AllByRecursion}
-use Rattle.triple_arena_chain.specs.Chains.{Ends, next_at}
-use Rattle.triple_arena_chain.specs.Lists.{Linear, Cyclic, IsChainOf}
+use Rattle.linked_lists.specs.LinkedLists.{Ends, next_at}
+use Rattle.linked_lists.specs.Chains.{Linear, Cyclic, IsChainOf}
 use Rattle.route_lines.specs.State.{Stop, Route}
 
 -- the stops along a list of indexes

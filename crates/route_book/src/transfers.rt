@@ -5,7 +5,7 @@ ghost use Rattle.triple_arena_ptr.specs.Generation.{second_generation};
 ghost use Rattle.triple_arena_ptr.specs.Index.{max_index_of};
 ghost use Rattle.triple_arena.specs.Content.{arena_capacity, entry_at, live_count};
 ghost use Rattle.triple_arena_chain.specs.CanonicalLayout.{IsLaidOut};
-ghost use Rattle.triple_arena_chain.specs.Chains.{next_at};
+ghost use Rattle.linked_lists.specs.LinkedLists.{next_at};
 ghost use Rattle.triple_arena_chain.specs.Links.{ends_in, values_in};
 ghost use Rattle.triple_arena_ord.specs.Ordered.{entry_in, order_in, size_in};
 ghost use Rattle.route_book.specs.Book.{in_order};

@@ -149,8 +149,8 @@ GivesOn-remove s t sound =
 GivesOn-changed : (s : State) (change : Change) → GoesOn change → IsSound s
     → GivesOn s (changed s change)
 GivesOn-changed s (Open places stops marks last) on sound = absurd on
-GivesOn-changed s (PlaceChange key word) on sound = GivesOn-place s key word
-GivesOn-changed s (WordChange t word) on sound = GivesOn-word s t word
+GivesOn-changed s (PlaceChange key word) on sound = GivesOn-place s key word.now
+GivesOn-changed s (WordChange t word) on sound = GivesOn-word s t word.now
 GivesOn-changed s (Start at) on sound = GivesOn-start s at sound
 GivesOn-changed s (Extend t at) on sound = GivesOn-extend s t at sound
 GivesOn-changed s (Join t u) on sound =

@@ -172,8 +172,8 @@ pub IsNumbered-changed : (s : State) (change : Change) → IsPossible s change �
     → IsNumbered (changed s change)
 IsNumbered-changed s (Open places stops marks last) is numbered = IsNumbered-empty _ last is
 IsNumbered-changed s (PlaceChange key word) is numbered =
-    IsNumbered-after_place s key word is.0 numbered
-IsNumbered-changed s (WordChange t word) is numbered = IsNumbered-after_word s t word numbered
+    IsNumbered-after_place s key word.now is.0 numbered
+IsNumbered-changed s (WordChange t word) is numbered = IsNumbered-after_word s t word.now numbered
 IsNumbered-changed s (Start at) is numbered = IsNumbered-after_start s at numbered
 IsNumbered-changed s (Extend t at) is numbered = IsNumbered-after_extend s t at numbered
 IsNumbered-changed s (Join t u) is numbered = IsNumbered-after_join s t u numbered

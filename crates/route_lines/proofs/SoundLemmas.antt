@@ -14,7 +14,7 @@ use Rattle.route_lines.specs.Calls.{after_start, extended, after_extend, joined,
 use Rattle.route_lines.specs.Calls.{after_cut, swapped, after_swap, marked, after_mark, clear_mark}
 use Rattle.route_lines.specs.Calls.{clear_mark_stop, without_place, without_stop, without_mark}
 use Rattle.route_lines.specs.Calls.{after_removed}
-use Rattle.route_lines.specs.Changes.{changed}
+use Rattle.route_lines.specs.Changes.{changed, borrowed}
 use Rattle.route_lines.specs.Grammar.{command_of}
 use Rattle.route_lines.specs.Reply.{next}
 use Rattle.route_lines.specs.Routes.{has_ticket, linear, put_behind, linked, unlinked, taken_out}
@@ -562,8 +562,9 @@ IsSound-empty rooms last = record {
 pub IsSound-changed : (s : State) (change : Change) → IsPossible s change → IsSound s
     → IsSound (changed s change)
 IsSound-changed s (Open places stops marks last) is sound = IsSound-empty _ last
-IsSound-changed s (PlaceChange key word) is sound = IsSound-after_place s key word is.1 sound
-IsSound-changed s (WordChange t word) is sound = IsSound-after_word s t word is sound
+IsSound-changed s (PlaceChange key word) is sound =
+    IsSound-after_place s key word.now is.1 sound
+IsSound-changed s (WordChange t word) is sound = IsSound-after_word s t word.now is sound
 IsSound-changed s (Start at) is sound = IsSound-after_start s at sound
 IsSound-changed s (Extend t at) is sound = IsSound-after_extend s t at sound
 IsSound-changed s (Join t u) is sound = IsSound-after_join s t u sound
@@ -618,13 +619,13 @@ kept_by_lines Keeps kept s (line ∷ lines) keeps =
         at None e = keeps
         at (Some (PlaceLine key word None)) e = let spelled =
             command_of-found bytes (PlaceLine key word None) e in
-            kept s (PlaceChange key word) (spelled.0, spelled.1) tt keeps
+            kept s (PlaceChange key (borrowed word)) (spelled.0, spelled.1) tt keeps
         at (Some (PlaceLine key word (Some near))) e =
             let spelled = command_of-found bytes (PlaceLine key word (Some near)) e in
             keeps_unless_refused Keeps s (place_holder s near) _ keeps
-            (λ p passed. kept s (PlaceChange key word) (spelled.0, spelled.1) tt keeps)
+            (λ p passed. kept s (PlaceChange key (borrowed word)) (spelled.0, spelled.1) tt keeps)
         at (Some (WordLine t word)) e = let spelled = command_of-found bytes (WordLine t word) e in
-            kept s (WordChange t word) spelled.1 tt keeps
+            kept s (WordChange t (borrowed word)) spelled.1 tt keeps
         at (Some (Show ticket)) e = keeps
         at (Some (Find key)) e = keeps
         at (Some (Floor key)) e = keeps

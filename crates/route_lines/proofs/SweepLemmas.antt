@@ -2,8 +2,8 @@
 use Rattle.std.proofs.Common.{ap, ℕ, ◌+◌, ◌-◌, ◌*◌, ◌/◌, ◌≤◌, List, [], ◌∷◌, arith}
 use Rattle.std.proofs.lemmas.Nat.{le-div}
 use Rattle.route_lines.specs.Sweeps.{Tally, Step, EndPlace, EndStop, EndPlaceAfterPack}
-use Rattle.route_lines.specs.Sweeps.{EndStopAfterPack, Pack, Other, AreSteps, packs, removals}
-use Rattle.route_lines.specs.Sweeps.{AreFew}
+use Rattle.route_lines.specs.Sweeps.{EndStopAfterPack, Pack, Other, AreFew, AreSteps, IsStep}
+use Rattle.route_lines.specs.Sweeps.{is_pack, is_removal, packs, removals}
 
 -- how many of the steps are removals that sweep
 abbrev swept : Step → ℕ
@@ -31,91 +31,71 @@ module _ (top most : ℕ) (three : 3 ≤ top) where
   abbrev d : ℕ
   d = top - 2
 
+  -- one step pays on
+  paid_on : (step : Step) (a b : Tally) (paid done : ℕ) → IsPaid top paid done a
+      → IsStep top most step a b → IsPaid top (paid + swept step * d) (done + is_removal step) b
+  paid_on EndPlace a b paid done p is = record {
+    places = omega (arith, p.places, is.1.0);
+    stops = omega (arith, p.stops, is.1.1.0);
+    places_up = omega (arith, is.0, is.1.0);
+    stops_up = omega (arith, p.stops_up, is.1.1.0);
+  }
+  paid_on EndStop a b paid done p is = record {
+    places = omega (arith, p.places, is.1.1.0);
+    stops = omega (arith, p.stops, is.1.0);
+    places_up = omega (arith, p.places_up, is.1.1.0);
+    stops_up = omega (arith, is.0, is.1.0);
+  }
+  paid_on EndPlaceAfterPack a b paid done p is = record {
+    places = omega (arith, p.places, is.0, is.1.0, three);
+    stops = omega (arith, p.places, is.0, is.1.1.0, three);
+    places_up = omega (arith, is.1.0, three);
+    stops_up = omega (arith, is.1.1.0, three);
+  }
+  paid_on EndStopAfterPack a b paid done p is = record {
+    places = omega (arith, p.stops, is.0, is.1.1.0, three);
+    stops = omega (arith, p.stops, is.0, is.1.0, three);
+    places_up = omega (arith, is.1.1.0, three);
+    stops_up = omega (arith, is.1.0, three);
+  }
+  paid_on Pack a b paid done p is = record {
+    places = omega (arith, p.places, is.0);
+    stops = omega (arith, p.places, is.1.0);
+    places_up = omega (arith, is.0, three);
+    stops_up = omega (arith, is.1.0, three);
+  }
+  paid_on Other a b paid done p is = record {
+    places = omega (arith, p.places, is.0);
+    stops = omega (arith, p.stops, is.1.0);
+    places_up = omega (arith, p.places_up, is.0);
+    stops_up = omega (arith, p.stops_up, is.1.0);
+  }
+
+  -- and makes so many looks
+  looks_on : (step : Step) (a b : Tally) → IsStep top most step a b
+      → b.looks ≤ a.looks + (is_pack step + swept step) * most
+  looks_on EndPlace a b is = omega (arith, is.1.1.1)
+  looks_on EndStop a b is = omega (arith, is.1.1.1)
+  looks_on EndPlaceAfterPack a b is = omega (arith, is.1.1.1)
+  looks_on EndStopAfterPack a b is = omega (arith, is.1.1.1)
+  looks_on Pack a b is = omega (arith, is.1.1)
+  looks_on Other a b is = omega (arith, is.1.1)
+
   record Rest (steps : List Step) (a b : Tally) (paid done : ℕ) : Type 0 where
     paid_all : paid + all_swept steps * d ≤ done + removals steps
     looks_all : b.looks ≤ a.looks + (packs steps + all_swept steps) * most
 
   rest : (steps : List Step) (a b : Tally) (paid done : ℕ) → IsPaid top paid done a
       → AreSteps top most steps a b → Rest steps a b paid done
-  rest [] a b paid done p run =
-      let same = ap (λ (x : Tally). x.looks) run in
-      let one = p.places in
-      record { paid_all = omega (arith, one); looks_all = omega (arith, same) }
-  rest (EndPlace ∷ steps) a b paid done p run =
-      let u = p.places in let v = p.stops in let x = p.places_up in let y = p.stops_up in
-      let less = run.1.0.0 in let np = run.1.0.1.0 in let ns = run.1.0.1.1.0 in let nl =
-      run.1.0.1.1.1 in
-      let r = rest steps run.0 b paid (done + 1)
-      (record {
-        places = omega (arith, u, np);
-        stops = omega (arith, v, ns);
-        places_up = omega (arith, less, np);
-        stops_up = omega (arith, y, ns);
-      })
-      run.1.1 in
+  rest [] a b paid done p run = record {
+    paid_all = omega (arith, p.places);
+    looks_all = omega (arith, ap (λ (x : Tally). x.looks) run);
+  }
+  rest (step ∷ steps) a b paid done p run =
+      let r = rest steps run.0 b _ _ (paid_on step a run.0 paid done p run.1.0) run.1.1 in
+      let looks = looks_on step a run.0 run.1.0 in
       let pa = r.paid_all in let la = r.looks_all in
-      record { paid_all = omega (arith, pa); looks_all = omega (arith, la, nl) }
-  rest (EndStop ∷ steps) a b paid done p run =
-      let u = p.places in let v = p.stops in let x = p.places_up in let y = p.stops_up in
-      let less = run.1.0.0 in let ns = run.1.0.1.0 in let np = run.1.0.1.1.0 in let nl =
-      run.1.0.1.1.1 in
-      let r = rest steps run.0 b paid (done + 1)
-      (record {
-        places = omega (arith, u, np);
-        stops = omega (arith, v, ns);
-        places_up = omega (arith, x, np);
-        stops_up = omega (arith, less, ns);
-      })
-      run.1.1 in
-      let pa = r.paid_all in let la = r.looks_all in
-      record { paid_all = omega (arith, pa); looks_all = omega (arith, la, nl) }
-  rest (EndPlaceAfterPack ∷ steps) a b paid done p run =
-      let u = p.places in let full = run.1.0.0 in let np = run.1.0.1.0 in let ns = run.1.0.1.1.0 in
-      let nl = run.1.0.1.1.1 in
-      let r = rest steps run.0 b (paid + d) (done + 1)
-      (record {
-        places = omega (arith, u, full, np, three);
-        stops = omega (arith, u, full, ns, three);
-        places_up = omega (arith, np, three);
-        stops_up = omega (arith, ns, three);
-      }) run.1.1 in
-      let pa = r.paid_all in let la = r.looks_all in
-      record { paid_all = omega (arith, pa); looks_all = omega (arith, la, nl) }
-  rest (EndStopAfterPack ∷ steps) a b paid done p run =
-      let u = p.stops in let full = run.1.0.0 in let ns = run.1.0.1.0 in let np = run.1.0.1.1.0 in
-      let nl = run.1.0.1.1.1 in
-      let r = rest steps run.0 b (paid + d) (done + 1)
-      (record {
-        places = omega (arith, u, full, np, three);
-        stops = omega (arith, u, full, ns, three);
-        places_up = omega (arith, np, three);
-        stops_up = omega (arith, ns, three);
-      }) run.1.1 in
-      let pa = r.paid_all in let la = r.looks_all in
-      record { paid_all = omega (arith, pa); looks_all = omega (arith, la, nl) }
-  rest (Pack ∷ steps) a b paid done p run =
-      let u = p.places in let np = run.1.0.0 in let ns = run.1.0.1.0 in let nl = run.1.0.1.1 in
-      let r = rest steps run.0 b paid done
-      (record {
-        places = omega (arith, u, np);
-        stops = omega (arith, u, ns);
-        places_up = omega (arith, np, three);
-        stops_up = omega (arith, ns, three);
-      }) run.1.1 in
-      let pa = r.paid_all in let la = r.looks_all in
-      record { paid_all = omega (arith, pa); looks_all = omega (arith, la, nl) }
-  rest (Other ∷ steps) a b paid done p run =
-      let u = p.places in let v = p.stops in let x = p.places_up in let y = p.stops_up in
-      let np = run.1.0.0 in let ns = run.1.0.1.0 in let nl = run.1.0.1.1 in
-      let r = rest steps run.0 b paid done
-      (record {
-        places = omega (arith, u, np);
-        stops = omega (arith, v, ns);
-        places_up = omega (arith, x, np);
-        stops_up = omega (arith, y, ns);
-      }) run.1.1 in
-      let pa = r.paid_all in let la = r.looks_all in
-      record { paid_all = omega (arith, pa); looks_all = omega (arith, la, nl) }
+      record { paid_all = grind (arith, pa); looks_all = grind (arith, la, looks) }
 
 pub are_few : AreFew
 are_few top most steps a b three p q run =

@@ -6,7 +6,7 @@ use Rattle.std.specs.List.{AllByRecursion}
 use Rattle.std.specs.Option.{option_map_or}
 use Rattle.std.proofs.lemmas.Bool.{eq-eqb, eqb-true, ne_eqb}
 use Rattle.route_lines.specs.Cuts.{before, onward}
-use Rattle.route_lines.specs.Leads.{head_or, Leads}
+use Rattle.route_lines.specs.Leads.{head_or, Leads, AreOnRoutes, IsOpenList, IsRound}
 use Rattle.route_lines.specs.Routes.{has_ticket, round, has_stop, next_stop, route_of, walk_in}
 use Rattle.route_lines.specs.Routes.{walk_from}
 use Rattle.route_lines.specs.Sound.{count_of, AreWritten, IsSound}
@@ -19,10 +19,6 @@ use Rattle.route_lines.proofs.RelinkLemmas.{is_ticket, leads_to, starts_if_none_
 use Rattle.route_lines.proofs.RouteLemmas.{all_stops_with, all_round, total-round, with_found}
 
 -- ---- lists that lead alike
-
--- each of these is the stop of its ticket
-abbrev AreKnown : List Route → List Stop → Type 0
-AreKnown routes xs = AllByRecursion (λ x. stop_of routes x.ticket ≡ Some x) xs
 
 one_stop : (routes : List Route) (x y : Stop) → stop_of routes x.ticket ≡ Some x
     → stop_of routes y.ticket ≡ Some y → x.ticket ≡ y.ticket → x ≡ y
@@ -51,7 +47,7 @@ own_stops (y ∷ ys) once = (
 
 -- two that end are one
 one_to_end : (next : ℕ → Option ℕ) (routes : List Route) (xs ys : List Stop) → Leads next None xs
-    → Leads next None ys → AreKnown routes xs → AreKnown routes ys
+    → Leads next None ys → AreOnRoutes routes xs → AreOnRoutes routes ys
     → head_or None xs ≡ head_or None ys → xs ≡ ys
 one_to_end next routes [] [] h k known other e = refl
 one_to_end next routes [] (y ∷ ys) h k known other e = cc
@@ -64,7 +60,8 @@ one_to_end next routes (x ∷ xs) (y ∷ ys) h k known other e =
 
 -- two that close at a ticket that neither has are one
 one_round : (next : ℕ → Option ℕ) (routes : List Route) (c : ℕ) (xs ys : List Stop)
-    → Leads next (Some c) xs → Leads next (Some c) ys → AreKnown routes xs → AreKnown routes ys
+    → Leads next (Some c) xs → Leads next (Some c) ys → AreOnRoutes routes xs
+    → AreOnRoutes routes ys
     → count_of (has_ticket c) xs ≡ 0 → count_of (has_ticket c) ys ≡ 0
     → head_or (Some c) xs ≡ head_or (Some c) ys → xs ≡ ys
 one_round next routes c [] [] h k known other off lacks e = refl
@@ -147,7 +144,7 @@ onward_begins s (x ∷ xs) some = at (x.ticket == s) refl (onward_begins s xs)
 record Standing (routes : List Route) (s : ℕ) : Type 0 where
   route : Route
   found : route_of routes s ≡ Some route
-  known : AreKnown routes route.stops
+  known : AreOnRoutes routes route.stops
   leads : Leads (next_stop routes) (closing_of route) route.stops
   own : AllByRecursion (λ t. route_of routes t.ticket ≡ Some route) route.stops
   once : (k : ℕ) → count_of (has_ticket k) route.stops ≤ 1
@@ -182,7 +179,7 @@ standing routes s written some = of (found_if_counted s routes some)
         record {
           route = f.0;
           found = f.1;
-          known = subst (AreKnown routes) (sym same)
+          known = subst (AreOnRoutes routes) (sym same)
               (all_stops_with (λ x. stop_of routes x.ticket ≡ Some x) s routes
               (own_stops (stop_list routes) written.once));
           leads = subst (λ o. IfSome o (λ r. Leads (next_stop routes) (closing_of r) r.stops)) f.1
@@ -214,12 +211,9 @@ none_of next u (x ∷ xs) never =
 -- ---- walks
 
 pub walked_both_ways : (s : State) (front behind : List Stop) (t : Stop) → IsSound s
-    → AllByRecursion (λ x. stop_of s.routes x.ticket ≡ Some x) (front ++ t ∷ behind)
-    → Leads (next_stop s.routes) None (front ++ t ∷ behind)
-    → ((u : ℕ) (x : Stop) (rest : List Stop) → front ++ t ∷ behind ≡ x ∷ rest
-    → next_stop s.routes u ≢ Some x.ticket)
+    → IsOpenList s.routes (front ++ t ∷ behind)
     → walk_from t.ticket s.routes ≡ (t ∷ behind) ++ reverse front
-walked_both_ways s front behind t sound known leads first = from front refl
+walked_both_ways s front behind t sound list = from front refl
   where
     routes : List Route
     routes = s.routes
@@ -239,7 +233,7 @@ walked_both_ways s front behind t sound known leads first = from front refl
         begins : (st.route.is_ring ≡ false) × (head_or None st.route.stops ≡ Some x.ticket)
         begins = starts_parts x.ticket st.route
             (starts_if_none_leads (next_stop routes) x.ticket st.route st.leads
-            (none_of (next_stop routes) x.ticket st.route.stops (λ u. first u x rest is))
+            (none_of (next_stop routes) x.ticket st.route.stops (λ u. list.first u x rest is))
             st.has)
 
         open_end : closing_of st.route ≡ None
@@ -247,8 +241,8 @@ walked_both_ways s front behind t sound known leads first = from front refl
 
         same : front ++ t ∷ behind ≡ st.route.stops
         same =
-            one_to_end (next_stop routes) routes (front ++ t ∷ behind) st.route.stops leads
-            (subst (λ c. Leads (next_stop routes) c st.route.stops) open_end st.leads) known
+            one_to_end (next_stop routes) routes (front ++ t ∷ behind) st.route.stops list.leads
+            (subst (λ c. Leads (next_stop routes) c st.route.stops) open_end st.leads) list.known
             st.known
             (ap (head_or None) is ∙ sym begins.1)
 
@@ -281,15 +275,13 @@ walked_both_ways s front behind t sound known leads first = from front refl
 
     from : (xs : List Stop) → front ≡ xs → Walked
     from [] e = by t behind (ap (λ ys. ys ++ t ∷ behind) e)
-        (all_back (λ x. stop_of routes x.ticket ≡ Some x) front (t ∷ behind) known).0
+        (all_back (λ x. stop_of routes x.ticket ≡ Some x) front (t ∷ behind) list.known).0
     from (x ∷ xs) e = by x (xs ++ t ∷ behind) (ap (λ ys. ys ++ t ∷ behind) e)
-        (subst (AreKnown routes) (ap (λ ys. ys ++ t ∷ behind) e) known).0
+        (subst (AreOnRoutes routes) (ap (λ ys. ys ++ t ∷ behind) e) list.known).0
 
 pub walked_round : (s : State) (t : Stop) (behind : List Stop) → IsSound s
-    → AllByRecursion (λ x. stop_of s.routes x.ticket ≡ Some x) (t ∷ behind)
-    → Leads (next_stop s.routes) (Some t.ticket) (t ∷ behind)
-    → count_of (has_ticket t.ticket) behind ≡ 0 → walk_from t.ticket s.routes ≡ t ∷ behind
-walked_round s t behind sound known leads off =
+    → IsRound s.routes t behind → walk_from t.ticket s.routes ≡ t ∷ behind
+walked_round s t behind sound list =
     ap (λ o. option_map_or (walk_in t.ticket) o []) st.found ∙ by st.route.is_ring refl
   where
     routes : List Route
@@ -300,7 +292,7 @@ walked_round s t behind sound known leads off =
 
     st : Standing routes t.ticket
     st = standing routes t.ticket sound.routes
-        (found_counted (has_ticket t.ticket) (stop_list routes) t known.0)
+        (found_counted (has_ticket t.ticket) (stop_list routes) t list.known.0)
 
     xs : List Stop
     xs = st.route.stops
@@ -320,9 +312,9 @@ walked_round s t behind sound known leads off =
         let there : Leads next (Some head.first.ticket)
         (head.first ∷ head.rest ++ before (has_ticket t.ticket) xs) =
         subst (λ ys. Leads next (head_or None ys) ys) whole turned in
-        let all = subst (AreKnown routes) whole
+        let all = subst (AreOnRoutes routes) whole
         (all_round (λ x. stop_of routes x.ticket ≡ Some x) t.ticket xs st.known) in
-        let one : head.first ≡ t = one_stop routes head.first t all.0 known.0 head.ticket in
+        let one : head.first ≡ t = one_stop routes head.first t all.0 list.known.0 head.ticket in
         let counted = ap (count_of (has_ticket t.ticket)) (sym whole)
         ∙ total-round (λ u. cond (has_ticket t.ticket u) 1 0) t.ticket xs in
         let lacks : count_of (has_ticket t.ticket) (head.rest ++ before (has_ticket t.ticket) xs)
@@ -338,8 +330,8 @@ walked_round s t behind sound known leads off =
         head.ticket there in
         whole ∙ ap (λ z. z ∷ head.rest ++ before (has_ticket t.ticket) xs) one
         ∙ ap (λ ys. t ∷ ys) (one_round next routes t.ticket
-        (head.rest ++ before (has_ticket t.ticket) xs) behind here.1 leads.1 all.1 known.1 lacks
-        off (sym here.0 ∙ ap next head.ticket ∙ leads.0))
+        (head.rest ++ before (has_ticket t.ticket) xs) behind here.1 list.leads.1 all.1
+        list.known.1 lacks list.once (sym here.0 ∙ ap next head.ticket ∙ list.leads.0))
     by false e = absurd (
         let open_end : closing_of st.route ≡ None = ap (λ b. cond b (head_or None xs) None) e in
         let all = subst (λ ys. Leads next None ys) (sym (before_onward (has_ticket t.ticket) xs))
@@ -359,6 +351,6 @@ walked_round s t behind sound known leads off =
           ap (count_of (has_ticket t.ticket)) head.is,
           ap {B = ℕ} (λ b. cond b 1 0) (eq-eqb head.first.ticket t.ticket head.ticket),
         ) in
-        never_both next t.ticket head.rest behind onwards.1 leads.1 lacks
-        (sym onwards.0 ∙ ap next head.ticket ∙ leads.0)
+        never_both next t.ticket head.rest behind onwards.1 list.leads.1 lacks
+        (sym onwards.0 ∙ ap next head.ticket ∙ list.leads.0)
         )

@@ -1,4 +1,6 @@
 -- What a change makes of a state.
+use Rattle.std.specs.Borrow.{Bor}
+use Rattle.std.specs.Prelude.{ℕ, List}
 use Rattle.route_lines.specs.State.{State, empty, in_rooms}
 use Rattle.route_lines.specs.Calls.{after_place, after_word, after_start, after_extend, after_join}
 use Rattle.route_lines.specs.Calls.{after_cut, after_swap, after_mark, after_removed}
@@ -7,11 +9,15 @@ use Rattle.route_lines.specs.declared.change.Change.TheVariants.{Open, Place, Wo
 use Rattle.route_lines.specs.declared.change.Change.TheVariants.{Join, Cut, Swap, Mark, Remove}
 use Rattle.route_lines.specs.declared.change.Change.TheVariants.{Move}
 
+-- a word as a change has it, behind a reference
+abbrev pub borrowed : List ℕ → Bor (List ℕ)
+borrowed word = record { ref_ptr = (0, 0); now = word }
+
 abbrev pub changed : State → Change → State
 changed s (Open places stops marks last)
     = empty (record { places = places; stops = stops; marks = marks }) last
-changed s (Place key word) = after_place s key word
-changed s (Word ticket word) = after_word s ticket word
+changed s (Place key word) = after_place s key word.now
+changed s (Word ticket word) = after_word s ticket word.now
 changed s (Start at) = after_start s at
 changed s (Extend t at) = after_extend s t at
 changed s (Join t u) = after_join s t u

@@ -86,8 +86,8 @@ pub record IsNumbered (s : State) : Type 0 where
 -- lives
 abbrev pub IsPossible : State → Change → Type 0
 IsPossible s (Open places stops marks last) = IsNumber last
-IsPossible s (PlaceChange key word) = IsNumber key × IsWord word
-IsPossible s (WordChange ticket word) = IsWord word
+IsPossible s (PlaceChange key word) = IsNumber key × IsWord word.now
+IsPossible s (WordChange ticket word) = IsWord word.now
 IsPossible s (Start at) = Unit {0}
 IsPossible s (Extend t at) = Unit {0}
 IsPossible s (Join t u) = Unit {0}

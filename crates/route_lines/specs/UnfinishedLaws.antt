@@ -11,7 +11,8 @@ use Rattle.route_lines.specs.Reply.{ended, reply, next}
 use Rattle.route_lines.specs.Text.{whole, unended, unended_line, lines, whole_lines}
 use Rattle.route_lines.specs.Searches.{CountsFor, LooksWithin, most_looks}
 use Rattle.route_lines.specs.Run.{Carries, BreaksOff, StopsWithin}
-use Rattle.route_lines.specs.Unfinished.{HasNoLineEnd, StandsFor, Cuts, Takes, BreaksOffIn, StopsAtEnd}
+use Rattle.route_lines.specs.Unfinished.{HasNoLineEnd, StandsFor, Cuts, Takes, BreaksOffIn}
+use Rattle.route_lines.specs.Unfinished.{StopsAtEnd}
 use Rattle.route_lines.specs.Written.{AppendsBeginning}
 use Rattle.route_lines.specs.declared.command.Command.{Command}
 use Rattle.route_lines.specs.declared.counts.Counts.{Counts}

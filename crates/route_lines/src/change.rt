@@ -3,13 +3,13 @@ use crate::word::Word;
 
 /// A change of a store's state, for proofs alone.
 #[derive(Drop)]
-pub enum Change {
+pub enum Change<'a> {
     /// A new store: the rooms of places, stops and marks, and the last ticket that counts as given.
     Open(usize, usize, usize, u64),
     /// A place with this key and word.
-    Place(u64, Word),
+    Place(u64, &'a Word),
     /// Another word for the place with this ticket.
-    Word(u64, Word),
+    Word(u64, &'a Word),
     /// A stop at this place, alone on a linear route.
     Start(u64),
     /// Directly behind this stop, a stop at this place.

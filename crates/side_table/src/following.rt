@@ -1,6 +1,7 @@
 //! Tables that follow an arena through a compression.
-ghost use Rattle.std.specs.Prelude.{◌≡◌, ◌≤◌, ◌↔◌, ℕ, IsOk, IsSome, IfSome, OnOk, OnErr, IsErrOf};
+ghost use Rattle.std.specs.Prelude.{◌≡◌, ◌≤◌, ◌↔◌, ℕ, IsOk, IsSome, IfSome, OnOk, OnErr};
 ghost use Rattle.std.specs.Prelude.{IsTrue, Some, ⊤};
+ghost use Rattle.triple_arena_ptr.specs.Errors.{IsBeyondMaxCapacity, IsAllocError};
 ghost use Rattle.triple_arena_stack.specs.Room.{IsBeyond};
 ghost use Rattle.triple_arena.specs.ArenaRoom.{room_with};
 ghost use Rattle.triple_arena.specs.Changes.{IsCompressed};
@@ -108,9 +109,9 @@ where
     ensures formed { OnOk result (IsWellFormed table.new) }
     ensures map_formed { IsWellFormed map.new }
     ensures succeeds { last_index arena.old ≤ arena_capacity map.old → IsOk result }
-    ensures beyond { IsErrOf result ReallocationError.BeyondMaxCapacity
+    ensures beyond { IsBeyondMaxCapacity result
         ↔ IsBeyond map.old.room.limit (last_index arena.old) }
-    ensures memory { IsErrOf result ReallocationError.AllocError → IsTrue M.takes_memory }
+    ensures memory { IsAllocError result → IsTrue M.takes_memory }
     ensures err { OnErr result (arena.new ≡ arena.old) }
     ensures table_err { OnErr result (table.new ≡ table.old) }
     ensures map_err { OnErr result (map.new ≡ map.old) }

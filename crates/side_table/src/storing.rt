@@ -1,14 +1,15 @@
 //! Values stored beside the pointers of an arena.
 ghost use Rattle.std.specs.Prelude.{◌≡◌, ◌≤◌, ◌↔◌, ◌⊎◌, ◌^◌, ℕ, max, IsOk, IfOk, OnOk, OnErr};
-ghost use Rattle.std.specs.Prelude.{IsErrOf, IsTrue, ⊤};
+ghost use Rattle.std.specs.Prelude.{IsTrue, ⊤};
 ghost use Rattle.std.specs.Option.{option_map};
+ghost use Rattle.triple_arena_ptr.specs.Errors.{IsBeyondMaxCapacity, IsAllocError};
 ghost use Rattle.triple_arena_stack.specs.Room.{IsBeyond};
 ghost use Rattle.triple_arena.specs.ArenaRoom.{room_with};
 ghost use Rattle.triple_arena.specs.Changes.{IsDirectlyInserted};
 ghost use Rattle.triple_arena.specs.DirectContent.{entry_at, arena_capacity, no_counter};
 ghost use Rattle.triple_arena.specs.DirectContent.{live_count as table_count};
 ghost use Rattle.triple_arena.specs.DirectContent.{IsPlace, IsWellFormed};
-ghost use Rattle.triple_arena.specs.Entries.{with_entry};
+ghost use Rattle.triple_arena.specs.Entries.{with_entry, value_in};
 ghost use Rattle.side_table.specs.SideTable.{IsTaken};
 
 use proof_marks::recall;
@@ -51,7 +52,7 @@ fn take_out<P: PtrCore, T: Drop, S: DirectSlots<P, T>>(
     p: P,
 ) -> Option<T>
     ensures taken { IsTaken (P.index p) table.old table.new }
-    ensures value { result ≡ option_map (λ e. e.1) (entry_at table.old (P.index p)) }
+    ensures value { result ≡ value_in (entry_at table.old (P.index p)) }
     ensures formed { IsWellFormed table.new }
 {
     value_alone(table.remove_inx(p.inx()).allow())
@@ -68,7 +69,7 @@ pub(crate) fn put<P: PtrCore, T: Drop, S: DirectSlots<P, T>>(
     requires no_more { ⊤ }
     ensures entries { (j : ℕ) → entry_at table.new j
         ≡ with_entry (entry_at table.old) (P.index p) (P.generation p, value) j }
-    ensures replaced { result ≡ option_map (λ e. e.1) (entry_at table.old (P.index p)) }
+    ensures replaced { result ≡ value_in (entry_at table.old (P.index p)) }
     ensures room { table.new.room ≡ table.old.room }
     ensures formed { IsWellFormed table.new }
 {
@@ -95,14 +96,13 @@ pub fn put_beside<P: PtrCore, T: Drop, S: DirectSlots<P, T>>(
 ) -> Result<Option<T>, ReallocationError>
     ensures entries { OnOk result ((j : ℕ) → entry_at table.new j
         ≡ with_entry (entry_at table.old) (P.index p) (P.generation p, value) j) }
-    ensures replaced { IfOk result (λ old. old
-        ≡ option_map (λ e. e.1) (entry_at table.old (P.index p))) }
+    ensures replaced { IfOk result (λ old. old ≡ value_in (entry_at table.old (P.index p))) }
     ensures grown { OnOk result (table.new.room ≡ room_with (max room (P.index p)) table.old.room) }
     ensures formed { OnOk result (IsWellFormed table.new) }
     ensures succeeds { max room (P.index p) ≤ arena_capacity table.old → IsOk result }
-    ensures beyond { IsErrOf result ReallocationError.BeyondMaxCapacity
+    ensures beyond { IsBeyondMaxCapacity result
         ↔ (IsBeyond table.old.room.limit (max room (P.index p)) ⊎ (2 ^ 64 ≤ P.index p)) }
-    ensures memory { IsErrOf result ReallocationError.AllocError → IsTrue S.takes_memory }
+    ensures memory { IsAllocError result → IsTrue S.takes_memory }
     ensures err { OnErr result (table.new ≡ table.old) }
 {
     let Some(index) = p.inx().try_into_usize() else {

@@ -1,5 +1,5 @@
 -- How many comparisons a search makes follows from where its ticket stands among the entries.
-use Rattle.std.proofs.Common.{◌≡◌, ◌∙◌, sym, ap, subst, refl, ℕ, ◌+◌, ◌<◌, ◌≤◌, List, [], ◌∷◌, ◌++◌}
+use Rattle.std.proofs.Common.{◌≡◌, ◌∙◌, sym, ap, subst, refl, ℕ, ◌+◌, ◌<◌, ◌≤◌, List, [], ◌∷◌}
 use Rattle.std.proofs.Common.{map, length, Option, Some, None, arith, inl, inr}
 use Rattle.std.specs.List.{AllByRecursion}
 use Rattle.std.specs.Cmp.{nat_cmp_is}
@@ -17,7 +17,7 @@ use Rattle.triple_arena_ord.specs.Ordered.{Ordered, asked_of, entry_in, order_in
 use Rattle.triple_arena_ord.specs.Ordered.{size_in, tree_in}
 use Rattle.ticket_book.specs.InArena.{asked_beside, asked_in, entries_of}
 use Rattle.ticket_book.specs.Tickets.{Entry, TicketsRise, asked_among}
-use Rattle.ticket_book.proofs.TicketLemmas.{along}
+use Rattle.ticket_book.specs.AlongLaws.{along}
 
 -- two tickets compare alike with each of these entries
 abbrev AreAlike : ℕ → ℕ → List Entry → Type 0

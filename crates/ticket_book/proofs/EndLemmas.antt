@@ -7,16 +7,16 @@ use Rattle.std.specs.List.{AllByRecursion}
 use Rattle.std.proofs.lemmas.Bool.{eq-eqb, ne_eqb}
 use Rattle.std.proofs.lemmas.Bool.Decides.{eqb_tells}
 use Rattle.triple_arena.specs.Entries.{without}
-use Rattle.triple_arena_chain.specs.Chains.{Apart, Off}
-use Rattle.triple_arena_chain.specs.ListLaws.{Apart-split}
+use Rattle.linked_lists.specs.LinkedLists.{Apart, Off}
+use Rattle.linked_lists.specs.ChainLaws.{Apart-split}
 use Rattle.triple_arena_chain.specs.Links.{ends_in}
-use Rattle.triple_arena_chain.specs.UniquenessLaws.{linear_apart}
+use Rattle.linked_lists.specs.UniquenessLaws.{linear_apart}
 use Rattle.triple_arena_ord.specs.Ordered.{Ordered, IsOrdered, entry_in, order_in}
 use Rattle.triple_arena_ord.specs.Removal.{IsEntryRemoved}
 use Rattle.ticket_book.specs.InArena.{StandByNumber, entries_of}
 use Rattle.ticket_book.specs.Tickets.{Entry, TicketsRise, without_ticket}
+use Rattle.ticket_book.specs.AlongLaws.{along, along-append, along_none, along_some}
 use Rattle.ticket_book.proofs.LookLemmas.{numbered_without}
-use Rattle.ticket_book.proofs.TicketLemmas.{along, along-append, along_none, along_some}
 
 -- ---- an entry less
 
@@ -71,6 +71,16 @@ along_without at at' i entries (j ∷ w) off = by (at j) refl (along_without at 
     by (Some e) is rest = along_some at' j w e (now ∙ is) ∙ ap (λ l. e.1 ∷ l) rest
         ∙ sym (along_some at j w e is)
 
+-- the entry at an index is taken out
+pub record IsTakenFrom (old new : Ordered Entry) (i g : ℕ) (e : Entry) : Type 0 where
+  pub stood : entry_in old i ≡ Some (g, e)
+  pub out : entries_of new ≡ without_ticket e.ticket (entries_of old)
+  pub rise : TicketsRise (entries_of new)
+  -- those that stood at the index of their own number still do
+  pub numbered : (first : ℕ) → StandByNumber first (entry_in old)
+      → StandByNumber first (entry_in new)
+  pub others : (k : ℕ) → k ≢ i → entry_in new k ≡ entry_in old k
+
 module _ (old new : Ordered Entry) (ordered : IsOrdered old)
     (rise : TicketsRise (entries_of old)) where
   entry_out : (last : Option ℕ) (i : ℕ) (e : ℕ × Entry) → IsEntryRemoved last i old new
@@ -103,7 +113,7 @@ module _ (old new : Ordered Entry) (ordered : IsOrdered old)
       (found : option_map {U = ℕ × Entry} (λ a. (generation (value a).0, (value a).1)) answer
       ≡ entry_in old i)
       (removed : OnSome answer (IsEntryRemoved last i old new)) where
-    pub taken_stood : entry_in old i ≡ Some (generation taken.0, taken.1)
+    taken_stood : entry_in old i ≡ Some (generation taken.0, taken.1)
     taken_stood = sym found ∙ by answer is
       where
         by : (o : Option A) → option_map value o ≡ Some taken
@@ -122,22 +132,17 @@ module _ (old new : Ordered Entry) (ordered : IsOrdered old)
             (let no : ◌≡◌ {A = Option (G × Entry)} None (Some taken) = none in cc)
         by (Some a) some h = h
 
-    -- those that stood at the index of their own number still do
-    pub numbered_taken : (first : ℕ) → StandByNumber first (entry_in old)
-        → StandByNumber first (entry_in new)
-    numbered_taken first stand =
-        numbered_without first i (entry_in old) (entry_in new) gone.entries stand
-
-    -- all others stand where they stood
-    pub others_stand : (k : ℕ) → k ≢ i → entry_in new k ≡ entry_in old k
-    others_stand k other = gone.entries k ∙ rw (ne_eqb k i other) refl
-
-    pub entry_taken : entries_of new ≡ without_ticket taken.1.ticket (entries_of old)
-    entry_taken = entry_out last i (generation taken.0, taken.1) gone taken_stood
-
-    pub rise_taken : TicketsRise (entries_of new)
-    rise_taken = subst TicketsRise (sym entry_taken)
-        (still_rise taken.1.ticket (entries_of old) rise)
+    pub taken_from : IsTakenFrom old new i (generation taken.0) taken.1
+    taken_from =
+        let out = entry_out last i (generation taken.0, taken.1) gone taken_stood in
+        record {
+          stood = taken_stood;
+          out = out;
+          rise = subst TicketsRise (sym out) (still_rise taken.1.ticket (entries_of old) rise);
+          numbered = λ first stand.
+              numbered_without first i (entry_in old) (entry_in new) gone.entries stand;
+          others = λ k other. gone.entries k ∙ rw (ne_eqb k i other) refl;
+        }
 
 -- a removal that finds nothing, though an entry stands
 pub none_taken : {A B : Type 0} (value : A → B) (entry : A → ℕ × Entry) (answer : Option A)
@@ -169,18 +174,3 @@ module _ (f : Entry → Entry) (at at' : ℕ → Option (ℕ × Entry))
           ∙ ap (option_map (λ (e : ℕ × Entry). (let z : ℕ × Entry = (e.0, f e.1) in z))) is in
           along_some at' j w (e.0, f e.1) some ∙ ap (λ l. f e.1 ∷ l) rest
           ∙ ap (map f) (sym (along_some at j w e is))
-
-  -- tickets that stay still rise
-  pub rise_renewed : ((e : Entry) → (f e).ticket ≡ e.ticket) → (xs : List Entry) → TicketsRise xs
-      → TicketsRise (map f xs)
-  rise_renewed same [] rise = tt
-  rise_renewed same (x ∷ xs) rise = (above xs rise.0, rise_renewed same xs rise.1)
-    where
-      above : (ys : List Entry) → AllByRecursion (λ (y : Entry). x.ticket < y.ticket) ys
-          → AllByRecursion (λ (y : Entry). (f x).ticket < y.ticket) (map f ys)
-      above [] all = tt
-      above (y ∷ ys) all = (
-        let one = same x in let two = same y in let less = all.0 in
-            omega (arith, one, two, less),
-        above ys all.1,
-      )

@@ -1,7 +1,7 @@
 -- What a look at the index of a ticket's own number finds, and which entries stand there.
-use Rattle.std.proofs.Common.{◌≡◌, ◌∙◌, sym, ap, subst, refl, Bool, true, false, ℕ, ◌+◌, ◌*◌, ◌^◌}
+use Rattle.std.proofs.Common.{◌≡◌, ◌∙◌, sym, ap, subst, refl, true, false, ℕ, ◌+◌}
 use Rattle.std.proofs.Common.{◌<◌, ◌≤◌, ◌⊎◌, min, List, [], ◌∷◌, map, length, find, ◌==◌, Option}
-use Rattle.std.proofs.Common.{Some, None, IsSome, nat_lt, arith, inl, inr}
+use Rattle.std.proofs.Common.{Some, None, IsSome, arith, inl, inr}
 use Rattle.std.specs.Option.{option_map}
 use Rattle.std.specs.Cmp.{ranked}
 use Rattle.std.specs.Ordering.{nat_cmp}
@@ -20,7 +20,7 @@ use Rattle.triple_arena_ord.specs.Node.{itemed}
 use Rattle.triple_arena_ord.specs.NodeShape.{IndexNode}
 use Rattle.triple_arena_ord.specs.Ordered.{Ordered, asked_of, entry_in}
 use Rattle.ticket_book.specs.InArena.{StandByNumber, entries_of}
-use Rattle.ticket_book.specs.Tickets.{Entry, Tickets, asked, asked_among, elsewhere_after, entry_at}
+use Rattle.ticket_book.specs.Tickets.{Entry, elsewhere_after}
 use Rattle.ticket_book.specs.Tickets.{look_count, lookup}
 use Rattle.ticket_book.proofs.TicketLemmas.{lookup_missing}
 

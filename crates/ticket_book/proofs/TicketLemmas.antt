@@ -1,5 +1,5 @@
 -- Tickets that rise, and the entries along the list of an arena.
-use Rattle.std.proofs.Common.{◌≡◌, ◌≢◌, ◌∙◌, sym, ap, subst, refl, Bool, true, false, ℕ, zero, suc}
+use Rattle.std.proofs.Common.{◌≡◌, ◌≢◌, ◌∙◌, sym, ap, subst, refl, ℕ, zero, suc}
 use Rattle.std.proofs.Common.{◌+◌, ◌<◌, List, [], ◌∷◌, ◌++◌, map, Option, Some, None, IsSome}
 use Rattle.std.proofs.Common.{option_map, arith, append_assoc}
 use Rattle.std.specs.List.{AllByRecursion}
@@ -10,16 +10,15 @@ use Rattle.std.specs.declared.cmp.Ordering.TheVariants.{Equal, Greater}
 use Rattle.std.proofs.lemmas.Bool.{eq-eqb, ne_eqb}
 use Rattle.rank_tree.specs.declared.side.Side.TheVariants.{Right}
 use Rattle.triple_arena.specs.Content.{entry_at}
-use Rattle.triple_arena.specs.Entries.{with_entry}
-use Rattle.triple_arena_chain.specs.Chains.{Ends, IsSegment, On, first_or, last_or, next_in}
+use Rattle.linked_lists.specs.LinkedLists.{Ends, IsSegment, On, first_or, last_or, next_in}
 use Rattle.triple_arena_chain.specs.Links.{ends_in}
 use Rattle.triple_arena_chain.specs.LinkShape.{IndexLink}
 use Rattle.triple_arena_ord.specs.NodeShape.{IndexNode}
-use Rattle.triple_arena_ord.specs.Ascending.{entries_along}
 use Rattle.triple_arena_ord.specs.Found.{Answers}
 use Rattle.triple_arena_ord.specs.Inserted.{IsAdded, StandsAt}
 use Rattle.triple_arena_ord.specs.Ordered.{Ordered, IsOrdered, StandsBeside, entry_in, order_in}
 use Rattle.triple_arena_ord.specs.Ordered.{asked_of, asked_at}
+use Rattle.ticket_book.specs.AlongLaws.{along, along-append, along_none, along_some, along_with}
 use Rattle.ticket_book.specs.InArena.{entries_of}
 use Rattle.ticket_book.specs.Tickets.{Entry, TicketsRise, lookup}
 
@@ -67,29 +66,6 @@ ascending (x ∷ y ∷ l) rise (suc k) d low high =
 
 -- ---- the entries along a list of indexes
 
-abbrev pub along : (ℕ → Option (ℕ × Entry)) → List ℕ → List Entry
-along at w = map (λ x. x.1.1) (entries_along at w)
-
-pub along_some : (at : ℕ → Option (ℕ × Entry)) (i : ℕ) (w : List ℕ) (e : ℕ × Entry) → at i ≡ Some e
-    → along at (i ∷ w) ≡ e.1 ∷ along at w
-along_some at i w e is = rw is refl
-
-pub along_none : (at : ℕ → Option (ℕ × Entry)) (i : ℕ) (w : List ℕ) → at i ≡ None
-    → along at (i ∷ w) ≡ along at w
-along_none at i w is = rw is refl
-
-pub along-append : (at : ℕ → Option (ℕ × Entry)) (v w : List ℕ)
-    → along at (v ++ w) ≡ along at v ++ along at w
-along-append at [] w = refl
-along-append at (i ∷ v) w = by (at i) refl (along-append at v w)
-  where
-    by : (o : Option (ℕ × Entry)) → at i ≡ o → along at (v ++ w) ≡ along at v ++ along at w
-        → along at (i ∷ (v ++ w)) ≡ along at (i ∷ v) ++ along at w
-    by None is rest = along_none at i (v ++ w) is ∙ rest
-        ∙ ap (λ l. l ++ along at w) (sym (along_none at i v is))
-    by (Some e) is rest = along_some at i (v ++ w) e is ∙ ap (λ l. e.1 ∷ l) rest
-        ∙ ap (λ l. l ++ along at w) (sym (along_some at i v e is))
-
 -- no entry compares as equal: none is found
 none_along : (at : ℕ → Option (ℕ × Entry)) (t : ℕ)
     → ((i : ℕ) → IsSome (at i) → asked_of nat_cmp (λ (e : Entry). e.ticket) t (at i) ≢ Equal)
@@ -105,23 +81,6 @@ none_along at t other (i ∷ w) = by (at i) refl (other i) (none_along at t othe
         let apart : e.1.ticket ≢ t =
         λ same. differs (rw is refl) (rw is (sym (nat_cmp_is t e.1.ticket Equal (sym same)))) in
         ap (λ l. lookup l t) (along_some at i w e is) ∙ rw (ne_eqb e.1.ticket t apart) rest
-
--- an entry more leaves those along a list of live indexes
-along_with : (at at' : ℕ → Option (ℕ × Entry)) (i : ℕ) (x : ℕ × Entry) → at i ≡ None
-    → ((k : ℕ) → at' k ≡ with_entry at i x k) → (w : List ℕ) → AllByRecursion (λ j. IsSome (at j)) w
-    → along at' w ≡ along at w
-along_with at at' i x vacant entries [] all = refl
-along_with at at' i x vacant entries (j ∷ w) all =
-    by (at j) refl all.0 (along_with at at' i x vacant entries w all.1)
-  where
-    by : (o : Option (ℕ × Entry)) → at j ≡ o → IsSome (at j) → along at' w ≡ along at w
-        → along at' (j ∷ w) ≡ along at (j ∷ w)
-    by None is some rest = absurd (let no : ◌≡◌ {A = Bool} false true = subst IsSome is some in cc)
-    by (Some e) is some rest =
-        let other : j ≢ i = λ same. (let no : None ≡ Some e = sym vacant ∙ sym (ap at same)
-        ∙ is in cc) in
-        let there : at' j ≡ Some e = entries j ∙ rw (ne_eqb j i other) is in
-        along_some at' j w e there ∙ ap (λ l. e.1 ∷ l) rest ∙ sym (along_some at j w e is)
 
 -- ---- the list of an arena
 

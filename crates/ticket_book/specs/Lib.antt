@@ -1,3 +1,4 @@
+pub mod AlongLaws
 pub mod InArena
 pub mod Mirrors
 pub mod Moving

@@ -1,13 +1,15 @@
 -- What a loop over a rising walk writes.
 use Rattle.std.proofs.Common.{◌≡◌, ◌≢◌, ◌∙◌, sym, ap, subst, refl, ℕ, ◌+◌, ◌<◌, ◌≤◌}
-use Rattle.std.proofs.Common.{inl, inr, Option, Some, None, IsSome, arith}
+use Rattle.std.proofs.Common.{inl, inr, Option, Some, None, IsSome, false, arith}
 use Rattle.std.specs.Option.{option_map}
 use Rattle.std.proofs.lemmas.Bool.{eq-eqb, ne_eqb}
 use Rattle.std.proofs.lemmas.Bool.Decides.{eqb_tells, leb_tells}
 use Rattle.triple_arena.specs.Entries.{value_if, with_entry, with_value_at}
+use Rattle.triple_arena.specs.Walk.{Steps, Walk}
+use Rattle.triple_arena.specs.WalkLaws.{end_all, step_is}
 
 -- what was live lies below where what is live does, if nothing has changed from there on
-pub all_before : {T : Type 0} (old at : ℕ → Option T) (low : ℕ) → ((j : ℕ) → low ≤ j → at j ≡ old j)
+all_before : {T : Type 0} (old at : ℕ → Option T) (low : ℕ) → ((j : ℕ) → low ≤ j → at j ≡ old j)
     → ((j : ℕ) → IsSome (at j) → j < low) → (j : ℕ) → IsSome (old j) → j < low
 all_before old at low ahead all j some = elim (leb_tells low j) [
   | inr less ↦ less.1
@@ -56,7 +58,7 @@ module _ {V : Type 0} (cast : V → V) (at0 at at' : ℕ → Option (ℕ × V)) 
     (up : low ≤ i) (between : (j : ℕ) → low ≤ j → j < i
     → at j ≡ None) (stands : at i ≡ Some (g, v)) (is : v' ≡ cast v)
     (here : at' i ≡ Some (g, v')) (others : (j : ℕ) → j ≢ i → at' j ≡ at j) where
-  pub cast_passed : (j : ℕ) → j < i + 1
+  cast_passed : (j : ℕ) → j < i + 1
       → at' j ≡ option_map (λ (e : ℕ × V). (let z : ℕ × V = (e.0, cast e.1) in z)) (at0 j)
   cast_passed j below = elim (eqb_tells j i) [
     | inl same ↦
@@ -74,24 +76,24 @@ module _ {V : Type 0} (cast : V → V) (at0 at at' : ℕ → Option (ℕ × V)) 
     ]
   ]
 
-  pub cast_ahead : (j : ℕ) → i + 1 ≤ j → at' j ≡ at0 j
+  cast_ahead : (j : ℕ) → i + 1 ≤ j → at' j ≡ at0 j
   cast_ahead j past = others j (λ e. omega (arith, e, past)) ∙ ahead j (omega (arith, past, up))
 
   -- the indexes that are live are the same
-  pub cast_live : (j : ℕ) → IsSome (at' j) → IsSome (at j)
+  cast_live : (j : ℕ) → IsSome (at' j) → IsSome (at j)
   cast_live j some = elim (eqb_tells j i) [
     | inl same ↦ subst IsSome (sym (ap at same.1 ∙ stands)) refl
     | inr other ↦ subst IsSome (others j other.1) some
   ]
 
-  pub cast_first : at0 i ≡ Some (g, v)
+  cast_first : at0 i ≡ Some (g, v)
   cast_first = sym (ahead i up) ∙ stands
 
-  pub cast_gap : (j : ℕ) → low ≤ j → j < i → at0 j ≡ None
+  cast_gap : (j : ℕ) → low ≤ j → j < i → at0 j ≡ None
   cast_gap j back less = sym (ahead j back) ∙ between j back less
 
 -- at the end of a walk each entry is written anew
-pub cast_all : {V : Type 0} (cast : V → V) (at0 at : ℕ → Option (ℕ × V)) (low : ℕ)
+cast_all : {V : Type 0} (cast : V → V) (at0 at : ℕ → Option (ℕ × V)) (low : ℕ)
     → ((j : ℕ) → j < low → at j
     ≡ option_map (λ (e : ℕ × V). (let z : ℕ × V = (e.0, cast e.1) in z)) (at0 j))
     → ((j : ℕ) → low ≤ j → at j ≡ at0 j)
@@ -108,3 +110,58 @@ cast_all {V} cast at0 at low passed ahead all j = elim (leb_tells low j) [
         ∙ sym (ap (option_map (λ (e : ℕ × V). (let z : ℕ × V = (e.0, cast e.1) in z))) is)
     by (Some e) is back = let less = all j (subst IsSome (sym (ahead j back ∙ is)) refl) in
         absurd (omega (arith, less, back))
+
+-- a rising walk writes each entry anew as it passes: those behind it are, and those ahead are not
+pub record IsCasting {V : Type 0} (cast : V → V) (at0 at : ℕ → Option (ℕ × V)) (w : Walk)
+    : Type 0 where
+  pub rises : w.falls ≡ false
+  pub reaches : (j : ℕ) → IsSome (at j) → j ≤ w.high
+  pub passed : (j : ℕ) → j < w.low
+      → at j ≡ option_map (λ (e : ℕ × V). (let z : ℕ × V = (e.0, cast e.1) in z)) (at0 j)
+  pub ahead : (j : ℕ) → w.low ≤ j → at j ≡ at0 j
+
+-- and the entry that it comes to next
+pub record IsCastOn {V : Type 0} (cast : V → V) (at0 at' : ℕ → Option (ℕ × V)) (w w' : Walk)
+    (i : ℕ) : Type 0 where
+  pub casting : IsCasting cast at0 at' w'
+  pub up : w.low ≤ i
+  pub low : w'.low ≡ i + 1
+  pub gap : (j : ℕ) → w.low ≤ j → j < i → at0 j ≡ None
+  pub some : IsSome (at0 i)
+
+module _ {V : Type 0} (cast : V → V) (at0 at : ℕ → Option (ℕ × V)) (w w' : Walk)
+    (c : IsCasting cast at0 at w) where
+  pub cast_on : (at' : ℕ → Option (ℕ × V)) (i g : ℕ) (v v' : V) → Steps at w (Some (i, g)) w'
+      → at i ≡ Some (g, v) → v' ≡ cast v
+      → (at' i ≡ Some (g, v')) × ((j : ℕ) → j ≢ i → at' j ≡ at j)
+      → IsCastOn cast at0 at' w w' i
+  cast_on at' i g v v' step stands is made =
+      let st = step_is at w w' c.rises i g step in
+      let between = st.between in
+      record {
+        casting = record {
+          rises = st.still_rises;
+          reaches = λ j some. subst (λ k. j ≤ k) (sym st.high)
+              (c.reaches j (cast_live cast at0 at at' w.low i g v v' c.passed c.ahead st.up between
+              stands is made.0 made.1 j some));
+          passed = λ j below. cast_passed cast at0 at at' w.low i g v v' c.passed c.ahead st.up
+              between stands is made.0 made.1 j (subst (λ l. j < l) st.low below);
+          ahead = λ j past. cast_ahead cast at0 at at' w.low i g v v' c.passed c.ahead st.up between
+              stands is made.0 made.1 j (subst (λ l. l ≤ j) st.low past);
+        };
+        up = st.up;
+        low = st.low;
+        gap = cast_gap cast at0 at at' w.low i g v v' c.passed c.ahead st.up between stands is
+            made.0 made.1;
+        some = subst IsSome (sym (cast_first cast at0 at at' w.low i g v v' c.passed c.ahead st.up
+            between stands is made.0 made.1)) refl;
+      }
+
+  -- at its end all are written anew, and none that was live is ahead
+  pub cast_end : Steps at w None w' → (j : ℕ)
+      → at j ≡ option_map (λ (e : ℕ × V). (let z : ℕ × V = (e.0, cast e.1) in z)) (at0 j)
+  cast_end step = cast_all cast at0 at w.low c.passed c.ahead
+      (end_all at w w' c.rises c.reaches step)
+
+  pub cast_below : Steps at w None w' → (j : ℕ) → IsSome (at0 j) → j < w.low
+  cast_below step = all_before at0 at w.low c.ahead (end_all at w w' c.rises c.reaches step)

@@ -1,8 +1,9 @@
 //! The book of living tickets.
 ghost use Rattle.std.specs.Prelude.{◌≡◌, ◌≢◌, ℕ, ◌+◌, ◌-◌, ◌^◌, ◌<◌, ◌≤◌, ◌↔◌, ◌⊎◌, ◌++◌, []};
-ghost use Rattle.std.specs.Prelude.{◌∷◌, length, map, Some, None, IsTrue, IsOk, IsErrOf, IfOk};
+ghost use Rattle.std.specs.Prelude.{◌∷◌, length, map, Some, None, IsTrue, IsOk, IfOk};
 ghost use Rattle.std.specs.Prelude.{IfSome, IfNone, IsSome, ⊤};
 ghost use Rattle.std.specs.Option.{option_map};
+ghost use Rattle.triple_arena_ptr.specs.Errors.{IsBeyondMaxCapacity, IsAllocError};
 ghost use Rattle.rank_tree.specs.Comparisons.{most_comparisons};
 ghost use Rattle.ticket_book.specs.Mirrors.{renewed_by};
 ghost use Rattle.ticket_book.specs.InArena.{entries_of};
@@ -121,9 +122,9 @@ impl<P: PtrCore, S: OrdSlots<P, Entry<P>>> TicketBook<P, S> {
         ensures exact { IfOk result (λ book. book.capacity
             ≡ capacity_of (room_of P.Inx.greatest (S.room_at room))) }
         ensures succeeds { room ≤ capacity_of (room_of P.Inx.greatest (S.room_at 0)) → IsOk result }
-        ensures beyond { IsErrOf result ReallocationError.BeyondMaxCapacity
+        ensures beyond { IsBeyondMaxCapacity result
             ↔ IsBeyond (room_of P.Inx.greatest (S.room_at room)).limit room }
-        ensures memory { IsErrOf result ReallocationError.AllocError → IsTrue S.takes_memory }
+        ensures memory { IsAllocError result → IsTrue S.takes_memory }
         ensures by_number { IfOk result (λ book. book.first_elsewhere ≡ 2 ^ 64 - 1) }
     {
         Ok(TicketBook {

@@ -7,23 +7,26 @@ use Rattle.std.proofs.lemmas.List.{map-set, map_push, length-map, length_push, g
 use Rattle.std.proofs.lemmas.List.{get_or-set_same, get_or-set_other, set-set, set-get_or, set_at}
 use Rattle.std.proofs.lemmas.List.Sums.{sum_by-set, sum_by_push}
 use Rattle.std.proofs.lemmas.Option.{slice_get_within, get_or_from_slice_get}
-use Rattle.triple_arena.specs.FreeLinks.{Ends, first_or, IsSegment, with_prev_at}
+use Rattle.linked_lists.specs.LinkedLists.{Ends, first_or, IsSegment, Off, with_prev_if}
+use Rattle.linked_lists.specs.LinkedListLaws.{not_first}
+use Rattle.linked_lists.specs.UniquenessLaws.{linear_apart}
+use Rattle.linked_lists.specs.ChainLaws.{first_on, live_on, none_off, segment-where}
+use Rattle.linked_lists.specs.SegmentLaws.{prev_same, put_first, taken}
 use Rattle.triple_arena.specs.Slot.{Slot, free, used, entry_of, links_of, value_of, with_slot_value}
 use Rattle.triple_arena.specs.Slot.{with_slot_generation}
-use Rattle.std.proofs.Common.{IsSome, IfSome, Bor, option_copied, option_to_list, true, false, true≢false, eqb}
+use Rattle.std.proofs.Common.{IsSome, IfSome, Bor, option_copied, option_to_list, true, false}
+use Rattle.std.proofs.Common.{true≢false, eqb}
 use Rattle.std.specs.Option.{option_map}
 use Rattle.std.proofs.lemmas.Bool.{eq-eqb, ne_eqb}
 use Rattle.std.proofs.lemmas.Bool.Decides.{eqb_tells}
 use Rattle.std.proofs.Math.Seq.{take-append_seam}
 use Rattle.triple_arena_stack.specs.Room.{Room, capacity}
 use Rattle.triple_arena.specs.Content.{Content, entry_at, get, live_count, arena_capacity, inserted}
-use Rattle.triple_arena.specs.Content.{vacated, with_value, with_generation, Lacks, AllVacant}
+use Rattle.triple_arena.specs.Content.{vacated, with_value, with_generation, AllVacant}
 use Rattle.triple_arena.specs.Content.{IsWellFormed}
 use Rattle.triple_arena.specs.Entries.{value_if}
 use Rattle.triple_arena.specs.ContentLaws.{entry_at_slot}
 use Rattle.triple_arena.specs.Layout.{links, content_of, links_at, IsFreeList, IsSound}
-use Rattle.triple_arena.proofs.FreeLinkLemmas.{first_differs, first_links, once, none_off}
-use Rattle.triple_arena.proofs.FreeLinkLemmas.{prev_same, stands_all, put_first, first_gone}
 
 -- an option that is there
 pub the_some : {X : Type 0} (o : Option X) → IsSome o → (x : X) × (o ≡ Some x)
@@ -157,13 +160,13 @@ module _ {T : Type 0} where
   -- the first of a list is free after a write elsewhere
   pub first_free : (es : List (Slot T)) (i : ℕ) (new : Slot T) (b : Option ℕ) (l : List ℕ) → 0 < i
       → i - 1 < length es → IsSegment (links_at es) b l None
-      → Lacks l i → (j : ℕ) → first_or l None ≡ Some j → IsSome (links_at (set es (i - 1) new) j)
+      → Off l i → (j : ℕ) → first_or l None ≡ Some j → IsSome (links_at (set es (i - 1) new) j)
   first_free es i new b l positive within s off j is =
-      let w = first_links (links_at es) b l s j is in
-      let differs : j ≢ i = λ same. first_differs l i off (is ∙ ap Some same) in
+      let some = live_on (links_at es) b None l j s (first_on l j is) in
+      let differs : j ≢ i = λ same. not_first i l (is ∙ ap Some same) off in
       let stays : links_at (set es (i - 1) new) j ≡ links_at es j =
       links-set es i new positive within j ∙ rw (ne_eqb j i differs) refl in
-      ap is_some (stays ∙ w.1)
+      subst IsSome (sym stays) some
 
   -- the slots are sound, and the free indexes are these
   pub record Fits (es : List (Slot T)) (len : ℕ) (head : Option ℕ) (l : List ℕ) (room : Room) : Type
@@ -308,7 +311,7 @@ module _ {T : Type 0} where
       let next_is : next ≡ first_or h.rest None = cc in
       let positive = h.slot.positive in
       let within = h.slot.within in
-      let off = once (links_at es) None i h.rest h.stands in
+      let off = (linear_apart (links_at es) None (i ∷ h.rest) h.stands).0 in
       subst (λ xs. IsSome (links_at xs j)) (sym written)
       (first_free es i new (Some i) h.rest positive (omega (arith, positive, within)) h.stands.1 off
       j (sym next_is ∙ at))
@@ -338,7 +341,7 @@ module _ {T : Type 0} where
       → head ≡ Some i → IsSound es len head room → slice_get es (i - 1) ≡ Some old
       → option_map (λ (l : Ends). l.1) (links_of old) ≡ Some next
       → es1 ≡ set es (i - 1) new → new ≡ used g t
-      → ((j : ℕ) → links_at es' j ≡ with_prev_at (links_at es1) next None j)
+      → ((j : ℕ) → links_at es' j ≡ with_prev_if (links_at es1) next None j)
       → map entry_of es' ≡ map entry_of es1 → head' ≡ next → room' ≡ room
       → content_of es room g head ≡ c → Becomes es' (len + 1) head' room' g (inserted c t)
   filled {es} {es1} {es'} {len} {i} {next = next} {room = room} {g = g} {t = t} {old = old} is sound
@@ -353,13 +356,14 @@ module _ {T : Type 0} where
       let put : es1 ≡ set es (i - 1) (used g t) = written ∙ ap (set es (i - 1)) filling in
       let within = h.slot.within in
       let others : (k : ℕ) → k ≢ i
-      → links_at es' k ≡ with_prev_at (links_at es) (first_or h.rest None) None k =
-      λ k other. linked k ∙ ap (λ o. with_prev_at (links_at es1) o None k) next_is
+      → links_at es' k ≡ with_prev_if (links_at es) (first_or h.rest None) None k =
+      λ k other. linked k ∙ ap (λ o. with_prev_if (links_at es1) o None k) next_is
       ∙ prev_same (links_at es1) (links_at es) (first_or h.rest None) None k
       (ap (λ xs. links_at xs k) put
       ∙ links-set es i (used g t) positive (omega (arith, positive, within)) k
       ∙ rw (ne_eqb k i other) refl) in
-      let stands = first_gone (links_at es) (links_at es') i h.rest h.stands others in
+      let stands = taken (links_at es) (links_at es') [] h.rest i None (first_or h.rest None)
+      h.stands h.stands.0 others in
       let sizes = length-set es (i - 1) (used g t) in
       let there1 = length-map es1 entry_of in
       let there2 = length-map es' entry_of in
@@ -498,7 +502,8 @@ module _ {T : Type 0} where
       let listed : IsFreeList es' head l =
       record {
         first = sound.listed.first;
-        stands = stands_all (links_at es) (links_at es') linked None None l sound.listed.stands;
+        stands = segment-where (links_at es) (links_at es') None None l (λ k on. linked k)
+            sound.listed.stands;
       } in
       let left = sound_of es' (len - 1) head l room (omega arith) (omega arith) listed (omega arith)
       in
@@ -522,7 +527,7 @@ module _ {T : Type 0} where
       let f = finds head seen is in
       let l = links es (length es) head in
       let within = slice_get_within es (i - 1) _ f.found in
-      let off = none_off (links_at es) None l i sound.listed.stands
+      let off = none_off (links_at es) None None l i sound.listed.stands
       (links_of_slot es i (used e.0 e.1) f.positive f.found) in
       subst (λ xs. IsSome (links_at xs j)) (sym written)
       (first_free es i new None l f.positive within sound.listed.stands off j
@@ -533,7 +538,7 @@ module _ {T : Type 0} where
       {g : ℕ} {new : Slot T} {e : ℕ × T} {c : Content T}
       → IsSound es len head room → (i ≡ length es → ⊥) → content_of es room g head ≡ c
       → entry_at c i ≡ Some e → es1 ≡ set es (i - 1) new → new ≡ free None head → head' ≡ Some i
-      → ((j : ℕ) → links_at es' j ≡ with_prev_at (links_at es1) head head' j)
+      → ((j : ℕ) → links_at es' j ≡ with_prev_if (links_at es1) head head' j)
       → map entry_of es' ≡ map entry_of es1 → room' ≡ room
       → Leaves es' (len - 1) head' room' g (vacated c i)
   freed {es} {es1} {es'} {len} {i} {head} {head'} {room} {e = e} sound inner seen is written emptied
@@ -558,12 +563,12 @@ module _ {T : Type 0} where
       ap (count_by is_some) entries ∙ ap (λ xs. count_by is_some (map entry_of xs)) put in
       let at : (k : ℕ) → links_at es1 k ≡ (if k == i then Some (None, head) else links_at es k) =
       λ k. ap (λ xs. links_at xs k) put ∙ links-set es i (free None head) positive within k in
-      let off = none_off (links_at es) None l i sound.listed.stands
+      let off = none_off (links_at es) None None l i sound.listed.stands
       (links_of_slot es i (used e.0 e.1) positive found) in
       let stands = put_first (links_at es) (links_at es') (links_at es1) head i l
       sound.listed.stands sound.listed.first off
       (at i ∙ rw (eq-eqb i i refl) refl) (λ k other. at k ∙ rw (ne_eqb k i other) refl)
-      (λ k. linked k ∙ ap (λ o. with_prev_at (links_at es1) head o k) first) in
+      (λ k. linked k ∙ ap (λ o. with_prev_if (links_at es1) head o k) first) in
       let left = sound_of es' (len - 1) (Some i) (i ∷ l) room (omega arith) (omega arith)
       (record { first = refl; stands = stands }) (omega arith) in
       let test : eqb i (length (map entry_of es)) ≡ false =
@@ -583,13 +588,13 @@ module _ {T : Type 0} where
   list_set es i g h t w head l positive found f =
       record {
         first = f.first;
-        stands = stands_all (links_at es) _
-            (λ k. links-set es i (used h w) positive (slice_get_within es (i - 1) _ found) k
+        stands = segment-where (links_at es) _ None None l
+            (λ k on. links-set es i (used h w) positive (slice_get_within es (i - 1) _ found) k
             ∙ elim (eqb_tells k i) [
               | inl same ↦ rw same.0
                   (sym (ap (links_at es) same.1 ∙ links_of_slot es i (used g t) positive found))
               | inr other ↦ rw other.0 refl
-            ]) None None l f.stands;
+            ]) f.stands;
       }
 
   -- a live slot has another value
@@ -660,7 +665,10 @@ module _ {T : Type 0} where
           within = omega arith;
           vacant = entry_at_slot c i positive ∙ rw same read;
         },
-        (once (links_at es) b i l s, all_vacant es c (Some i) l same s.1),
+        (
+          (linear_apart (links_at es) b (i ∷ l) s).0,
+          all_vacant es c (Some i) l same s.1,
+        ),
       )
 
   -- sound slots are seen as a content that is well formed

@@ -13,23 +13,29 @@ use Rattle.std.proofs.lemmas.List.{get_or-map, length-map, length_push, map_push
 use Rattle.std.proofs.lemmas.List.Sums.{sum_by_push}
 use Rattle.std.proofs.lemmas.Option.{slice_get_within, get_or_from_slice_get}
 use Rattle.triple_arena_stack.specs.Room.{Room, capacity}
-use Rattle.triple_arena.specs.FreeLinks.{Ends, first_or, IsSegment, neighbors, renext, reprev}
-use Rattle.triple_arena.specs.FreeLinks.{with_next_at, with_prev_at}
+use Rattle.linked_lists.specs.LinkedLists.{Ends, next_in, prev_in, first_or, IsSegment}
+use Rattle.linked_lists.specs.LinkedLists.{IsLinear, Off, renext, reprev, with_next_if}
+use Rattle.linked_lists.specs.LinkedLists.{with_prev_if}
+use Rattle.linked_lists.specs.LinkedListLaws.{Below, off_or_on}
+use Rattle.linked_lists.specs.UniquenessLaws.{linear_apart}
+use Rattle.linked_lists.specs.Chains.{Linear}
+use Rattle.linked_lists.specs.ChainLaws.{Apart-split, live_in, holds_next, holds_prev}
+use Rattle.linked_lists.specs.JoinLaws.{alive-with_next_if}
+use Rattle.linked_lists.specs.SegmentLaws.{prev_same, put_first, taken}
+use Rattle.triple_arena.specs.FreeLinks.{neighbors}
 use Rattle.triple_arena.specs.Slot.{Slot, free, used, entry_of, links_of, free_links, index_up_to}
 use Rattle.triple_arena.specs.Slot.{value_of, with_links, with_prev, with_next}
 use Rattle.triple_arena.specs.Layout.{links, content_of, links_at, head_after, without_last}
 use Rattle.triple_arena.specs.Layout.{IsFreeList, IsSound}
 use Rattle.triple_arena.specs.Content.{Content, entry_at, arena_capacity, last_index}
-use Rattle.triple_arena.specs.Content.{without_free_end, vacant_from, canonicalized, Lacks}
+use Rattle.triple_arena.specs.Content.{without_free_end, vacant_from, canonicalized}
 use Rattle.triple_arena.specs.Content.{IsVacant, AllVacant}
 use Rattle.triple_arena.specs.ContentLaws.{entry_at_slot}
 use Rattle.triple_arena.specs.Walk.{Finds}
 use Rattle.triple_arena.specs.FreeListLaws.{last_index-is, last_index-unique, vacant-counted}
-use Rattle.triple_arena.specs.FreeListLaws.{vacant-lacks, vacant-fit}
-use Rattle.triple_arena.proofs.FreeLinkLemmas.{next_stays, on_or_off, AllUpTo, below_greatest}
-use Rattle.triple_arena.proofs.FreeLinkLemmas.{neighbors_shown, listed_neighbors, once-front}
-use Rattle.triple_arena.proofs.FreeLinkLemmas.{once-back, put_first, taken, head_taken, prev_same}
-use Rattle.triple_arena.proofs.FreeLinkLemmas.{prev_links, next_links}
+use Rattle.triple_arena.specs.FreeListLaws.{vacant-off, vacant-fit}
+use Rattle.triple_arena.proofs.FreeLinkLemmas.{below_greatest, neighbors_shown, listed_neighbors}
+use Rattle.triple_arena.proofs.FreeLinkLemmas.{head_taken}
 use Rattle.triple_arena.proofs.FreeListLemmas.{first_free, Becomes, free_at, links_of_slot}
 use Rattle.triple_arena.proofs.FreeListLemmas.{links-set, links-push, list_set, none_free}
 use Rattle.triple_arena.proofs.FreeListLemmas.{entry_of_slot, sound_of, formed}
@@ -50,11 +56,11 @@ filter_inside p q each (i ∷ l) = by_test (p i) refl (q i) refl (filter_inside 
 
 -- where there is no index nothing is written
 pub no_prev : (e : ℕ → Option Ends) (at prev : Option ℕ) → at ≡ None → (j : ℕ)
-    → e j ≡ with_prev_at e at prev j
+    → e j ≡ with_prev_if e at prev j
 no_prev e at prev none j = rw none refl
 
 pub no_next : (e : ℕ → Option Ends) (at next : Option ℕ) → at ≡ None → (j : ℕ)
-    → e j ≡ with_next_at e at next j
+    → e j ≡ with_next_if e at next j
 no_next e at next none j = rw none refl
 
 module _ {T : Type 0} where
@@ -90,7 +96,7 @@ module _ {T : Type 0} where
   pub prev_written : (es : List (Slot T)) {es' : List (Slot T)} {i : ℕ} {at : Option ℕ}
       (prev : Option ℕ) {x y : Slot T} → at ≡ Some i → 0 < i → Some x ≡ slice_get es (i - 1)
       → y ≡ with_prev x prev → es' ≡ set es (i - 1) y → (j : ℕ)
-      → links_at es' j ≡ with_prev_at (links_at es) at prev j
+      → links_at es' j ≡ with_prev_if (links_at es) at prev j
   prev_written es {es'} {i} {at} prev {x} {y} is positive found changed written j =
       let within = slice_get_within es (i - 1) x (sym found) in
       ap (λ xs. links_at xs j) written
@@ -106,7 +112,7 @@ module _ {T : Type 0} where
   pub next_written : (es : List (Slot T)) {es' : List (Slot T)} {i : ℕ} {at : Option ℕ}
       (next : Option ℕ) {x y : Slot T} → at ≡ Some i → 0 < i → Some x ≡ slice_get es (i - 1)
       → y ≡ with_next x next → es' ≡ set es (i - 1) y → (j : ℕ)
-      → links_at es' j ≡ with_next_at (links_at es) at next j
+      → links_at es' j ≡ with_next_if (links_at es) at next j
   next_written es {es'} {i} {at} next {x} {y} is positive found changed written j =
       let within = slice_get_within es (i - 1) x (sym found) in
       ap (λ xs. links_at xs j) written
@@ -195,17 +201,17 @@ module _ {T : Type 0} where
       → Some x ≡ slice_get es (i - 1) → es1 ≡ set es (i - 1) y → (j : ℕ) → head ≡ Some j
       → IsSome (links_at es1 j)
   risen_first {old} {es} {head = head} {left} {i} {x} y r at positive found written j is =
-      let lacks = vacant-lacks (left + 1) i (drop left (map entry_of old)) (omega (arith, at)) in
+      let off = vacant-off (left + 1) i (drop left (map entry_of old)) (omega (arith, at)) in
       subst (λ xs. IsSome (links_at xs j)) (sym written)
       (first_free es i y None _ positive (slice_get_within es (i - 1) x (sym found)) r.listed.stands
-      lacks j (sym r.listed.first ∙ is))
+      off j (sym r.listed.first ∙ is))
 
   -- the slot before them is linked to them where it is free
   pub risen_free : {old es es1 es' : List (Slot T)} {head first head' : Option ℕ} {left i n : ℕ}
       {x : Slot T} → Risen old es head left → i ≡ left → 0 < i
       → Some x ≡ slice_get es (i - 1) → value_of x ≡ None
       → es1 ≡ set es (i - 1) (with_links x None head) → first ≡ Some i
-      → ((j : ℕ) → links_at es' j ≡ with_prev_at (links_at es1) head first j)
+      → ((j : ℕ) → links_at es' j ≡ with_prev_if (links_at es1) head first j)
       → map entry_of es' ≡ map entry_of es1 → head' ≡ first → n ≡ left - 1
       → Risen old es' head' n
   risen_free {x = used g t} r at positive found none written first linked entries next less =
@@ -221,14 +227,14 @@ module _ {T : Type 0} where
       let counted = length-map es entry_of in
       let whole = ap length r.entries in
       let rest = vacant_from (left + 1) (drop left (map entry_of old)) in
-      let lacks : Lacks rest i =
-      vacant-lacks (left + 1) i (drop left (map entry_of old)) (omega (arith, at)) in
+      let off : Off rest i =
+      vacant-off (left + 1) i (drop left (map entry_of old)) (omega (arith, at)) in
       let put : (k : ℕ) → links_at es1 k ≡ (if k == i then Some (None, head) else links_at es k) =
       λ k. ap (λ xs. links_at xs k) written ∙ links-set es i (free None head) positive below_i k in
       let stands = put_first (links_at es) (links_at es') (links_at es1) head i rest r.listed.stands
-      r.listed.first lacks
+      r.listed.first off
       (put i ∙ rw (eq-eqb i i refl) refl) (λ k other. put k ∙ rw (ne_eqb k i other) refl)
-      (λ k. linked k ∙ ap (λ o. with_prev_at (links_at es1) head o k) is) in
+      (λ k. linked k ∙ ap (λ o. with_prev_if (links_at es1) head o k) is) in
       let listed : vacant_from (n + 1) (drop n (map entry_of old)) ≡ i ∷ rest =
       vacant_free (map entry_of old) n left one (omega (arith, below, counted, whole))
       (entry_there old es n (free prev own) r.entries there)
@@ -363,7 +369,7 @@ module _ {T : Type 0} where
   -- each free slot is on the list
   pub each_listed : (es : List (Slot T)) (len : ℕ) (head : Option ℕ) (room : Room) (i : ℕ)
       (v : Ends) → IsSound es len head room → links_at es i ≡ Some v
-      → Lacks (links es (length es) head) i → ⊥
+      → Off (links es (length es) head) i → ⊥
   each_listed es len head room i v sound at off =
       let c = content_of es room 0 head in
       let f = formed sound refl in
@@ -388,23 +394,23 @@ module _ {T : Type 0} where
       let free : c.free ≡ l = ap (λ d. d.free) (sym seen) in
       let f = formed sound seen in
       let room_is = ap (λ d. capacity d.room) seen in
-      let up_to : (m : List ℕ) → AllVacant c m → AllUpTo greatest m = all_up_to in
+      let up_to : (m : List ℕ) → AllVacant c m → Below (greatest + 1) m = all_up_to in
       let is : links_of slot ≡ neighbors l i =
       sym (links_of_slot es i slot positive found)
       ∙ listed_neighbors (links_at es) None l i sound.listed.stands
       (λ off. by_links (links_at es i) refl off) in
       ap (option_map (λ (v : Ends). (index_up_to greatest v.0, index_up_to greatest v.1))) is
       ∙ neighbors_shown greatest None l i (λ x none. absurd (cc))
-      (subst (AllUpTo greatest) free (up_to c.free f.free))
+      (subst (Below (greatest + 1)) free (up_to c.free f.free))
       ∙ ap (λ m. neighbors m i) (sym free)
     where
-      all_up_to : (m : List ℕ) → AllVacant c m → AllUpTo greatest m
+      all_up_to : (m : List ℕ) → AllVacant c m → Below (greatest + 1) m
       all_up_to [] all = tt
       all_up_to (x ∷ m) all =
           let fit = (formed sound seen).fits in
           (omega (arith, all.0.within, fit, fits), all_up_to m all.1.1)
 
-      by_links : (o : Option Ends) → links_at es i ≡ o → Lacks (links es (length es) head) i
+      by_links : (o : Option Ends) → links_at es i ≡ o → Off (links es (length es) head) i
           → links_at es i ≡ None
       by_links None e off = e
       by_links (Some v) e off = absurd (each_listed es len head room i v sound e off)
@@ -453,26 +459,28 @@ module _ {T : Type 0} where
       → IsSound es len head room → Some v ≡ links_at es n
       → (j : ℕ) → v.0 ≡ Some j → IsSome (links_at es j)
   prev_free {es} {len} n {head} {room} {v} sound at j is =
-      elim (on_or_off (links es (length es) head) n) [
-        | inr off ↦ absurd (each_listed es len head room n v sound (sym at) off)
-        | inl on ↦
-            let stands = subst (λ l. IsSegment (links_at es) None l None) on.is sound.listed.stands in
-            let p = prev_links (links_at es) None on.front on.back n v j stands (sym at) is
-            (λ x none. absurd (cc)) in
-            ap is_some p.1
+      elim (off_or_on (links es (length es) head) n) [
+        | inl off ↦ absurd (each_listed es len head room n v sound (sym at) off)
+        | inr on ↦
+            let l = links es (length es) head in
+            let into = ap prev_in (sym at) ∙ is in
+            live_in (links_at es) (Linear l) j sound.listed.stands
+            (holds_prev (links_at es) (Linear l) n j sound.listed.stands on into)
       ]
 
   pub next_free : {es : List (Slot T)} (es1 : List (Slot T)) {len : ℕ} (n : ℕ) {head : Option ℕ}
       {room : Room} {v : Ends} → IsSound es len head room
-      → Some v ≡ links_at es n → ((j : ℕ) → links_at es1 j ≡ with_next_at (links_at es) v.0 v.1 j)
+      → Some v ≡ links_at es n → ((j : ℕ) → links_at es1 j ≡ with_next_if (links_at es) v.0 v.1 j)
       → (j : ℕ) → v.1 ≡ Some j → IsSome (links_at es1 j)
   next_free {es} es1 {len} n {head} {room} {v} sound at linked j is =
-      elim (on_or_off (links es (length es) head) n) [
-        | inr off ↦ absurd (each_listed es len head room n v sound (sym at) off)
-        | inl on ↦
-            let stands = subst (λ l. IsSegment (links_at es) None l None) on.is sound.listed.stands in
-            let p = next_links (links_at es) None on.front on.back n v j stands (sym at) is in
-            subst IsSome (sym (linked j)) (next_stays (links_at es) v.0 v.1 j p.0 p.1)
+      elim (off_or_on (links es (length es) head) n) [
+        | inl off ↦ absurd (each_listed es len head room n v sound (sym at) off)
+        | inr on ↦
+            let l = links es (length es) head in
+            let out = ap next_in (sym at) ∙ is in
+            let some = live_in (links_at es) (Linear l) j sound.listed.stands
+            (holds_next (links_at es) (Linear l) n j sound.listed.stands on out) in
+            subst IsSome (sym (linked j)) (alive-with_next_if (links_at es) v.0 v.1 j some)
       ]
 
   none_counts : (o : Option (ℕ × T)) → o ≡ None → cond (is_some o) 1 0 ≡ zero
@@ -507,9 +515,9 @@ module _ {T : Type 0} where
       (x : Option (Slot T))
       → IsSound es len head room → content_of es room g head ≡ c → n ≡ length es
       → Some v ≡ links_at es n
-      → ((j : ℕ) → links_at es1 j ≡ with_next_at (links_at es) v.0 v.1 j)
+      → ((j : ℕ) → links_at es1 j ≡ with_next_if (links_at es) v.0 v.1 j)
       → map entry_of es1 ≡ map entry_of es
-      → ((j : ℕ) → links_at es2 j ≡ with_prev_at (links_at es1) v.1 v.0 j)
+      → ((j : ℕ) → links_at es2 j ≡ with_prev_if (links_at es1) v.1 v.0 j)
       → map entry_of es2 ≡ map entry_of es1
       → head' ≡ head_after head v.0 v.1 → IsSome x → es2 ≡ es3 ++ option_to_list x → room' ≡ room
       → Becomes es3 len head' room' g (without_last c)
@@ -538,32 +546,33 @@ module _ {T : Type 0} where
       ∙ ap (λ k. get_or (map entry_of es3 ++ entry_of y ∷ []) k None)
       (length-map es3 entry_of ∙ last)
       ∙ ap (λ xs. get_or xs (n - 1) None) (sym whole) ∙ read in
-      elim (on_or_off l n) [
-        | inr off ↦ absurd (each_listed es len head room n v sound (sym at) off)
-        | inl on ↦
-            let stands = subst (λ m. IsSegment (links_at es) None m None) on.is sound.listed.stands in
+      elim (off_or_on l n) [
+        | inl off ↦ absurd (each_listed es len head room n v sound (sym at) off)
+        | inr on ↦
+            let stands = subst (IsLinear (links_at es)) on.is sound.listed.stands in
+            let apart = Apart-split on.front on.back n
+            (linear_apart (links_at es) None (on.front ++ n ∷ on.back) stands) in
             let rest = on.front ++ on.back in
             let written : (k : ℕ) → k ≢ n
-            → links_at es3 k ≡ with_prev_at (with_next_at (links_at es) v.0 v.1) v.1 v.0 k =
+            → links_at es3 k ≡ with_prev_if (with_next_if (links_at es) v.0 v.1) v.1 v.0 k =
             λ k other.
             (elim (leb_tells k (length es3)) [
               | inl below ↦ sym (ap (λ xs. links_at xs k) split ∙ links-push es3 y k below.1)
               | inr above ↦ links_at_past es3 k above.1
                   ∙ sym (links_at_past es2 k (omega (arith, above.1, other, sizes, short, all)))
             ])
-            ∙ linked2 k ∙ prev_same (links_at es1) (with_next_at (links_at es) v.0 v.1) v.1 v.0 k
+            ∙ linked2 k ∙ prev_same (links_at es1) (with_next_if (links_at es) v.0 v.1) v.1 v.0 k
             (linked1 k) in
             let left_stands = taken (links_at es) (links_at es3) on.front on.back n v.0 v.1 stands
             (sym at) written in
             let left_first = first
             ∙ head_taken (links_at es) on.front on.back n head v.0 v.1 stands (sym at)
             (sound.listed.first ∙ ap (λ m. first_or m None) on.is) in
-            let up_to : AllUpTo n l = listed_up_to es n None l all sound.listed.stands in
+            let up_to : Below (n + 1) l = listed_up_to es n None l all sound.listed.stands in
             let below : filter (λ j. ltb j n) l ≡ rest =
             ap (filter (λ j. ltb j n)) on.is
-            ∙ below_greatest n on.front on.back (subst (AllUpTo n) on.is up_to)
-            (once-front (links_at es) None on.front n on.back stands)
-            (once-back (links_at es) None on.front n on.back stands) in
+            ∙ below_greatest n on.front on.back (subst (Below (n + 1)) on.is up_to)
+            apart.0 apart.1 in
             let counts : length l ≡ length rest + 1 =
             ap length on.is ∙ omega
             (arith, length-append on.front (n ∷ on.back), length-append on.front on.back) in
@@ -599,7 +608,7 @@ module _ {T : Type 0} where
       ]
     where
       listed_up_to : (xs : List (Slot T)) (m : ℕ) (b : Option ℕ) (k : List ℕ) → m ≡ length xs
-          → IsSegment (links_at xs) b k None → AllUpTo m k
+          → IsSegment (links_at xs) b k None → Below (m + 1) k
       listed_up_to xs m b [] all s = tt
       listed_up_to xs m b (i ∷ k) all s =
           (omega (arith, (free_at xs i _ s.0).within, all), listed_up_to xs m (Some i) k all s.1)

@@ -4,7 +4,7 @@ use Rattle.std.proofs.Common.{◌∷◌, length, map}
 use Rattle.std.specs.Prelude.{Option, Some, None, is_some, count_by, slice_index_or}
 use Rattle.std.specs.Option.{option_map}
 use Rattle.triple_arena_stack.specs.Room.{Room, capacity}
-use Rattle.triple_arena.specs.FreeLinks.{Ends, IsSegment}
+use Rattle.linked_lists.specs.ChainLaws.{segment-where}
 use Rattle.triple_arena.specs.Slot.{
   Slot,
   free,
@@ -22,13 +22,9 @@ use Rattle.triple_arena.specs.LentSlots.{filled, refilled}
 use Rattle.triple_arena.specs.IterMutLaws.{count-refilled}
 use Rattle.triple_arena.proofs.LentSlotsLemmas.{length-refilled}
 use Rattle.triple_arena.specs.IterMut.{keyed, entries_of, direct_values_at, direct_holding}
-use Rattle.triple_arena.specs.IterMut.{value_in, with_entry_value, values_at, with_values}
+use Rattle.triple_arena.specs.Entries.{value_in}
+use Rattle.triple_arena.specs.IterMut.{with_entry_value, values_at, with_values}
 use Rattle.triple_arena.specs.IterMut.{entry_for, holding}
-
-stands_alike : (f g : ℕ → Option Ends) → ((i : ℕ) → g i ≡ f i) →
-    (b : Option ℕ) (l : List ℕ) (a : Option ℕ) → IsSegment f b l a → IsSegment g b l a
-stands_alike f g e b [] a s = tt
-stands_alike f g e b (x ∷ xs) a s = (e x ∙ s.0, stands_alike f g e (Some x) xs a s.1)
 
 module _ {T : Type 0} where
   abbrev W : List (Slot T) → List (Option T) → List (Slot T)
@@ -106,8 +102,8 @@ module _ {T : Type 0} where
           total = ap (λ n. len + n) longs ∙ sound.total ∙ sym size;
           listed = rw free_is record {
             first = sound.listed.first;
-            stands = stands_alike (links_at es) (links_at (W es ws)) (at-refilled es ws) None
-                (links es (length es) head) None sound.listed.stands;
+            stands = segment-where (links_at es) (links_at (W es ws)) None None
+                (links es (length es) head) (λ k on. at-refilled es ws k) sound.listed.stands;
           };
           fits = subst (λ n. n ≤ capacity room) (sym size) sound.fits;
         };

@@ -17,7 +17,7 @@ use Rattle.triple_arena.specs.Transfer.{steps_wrap}
 use Rattle.triple_arena.specs.Steps.{Step, insert, remove, invalidate, clear, drain, inc_generation}
 use Rattle.triple_arena.specs.Steps.{compress, exchange, write, reallocate, give_up_copy, keep}
 use Rattle.triple_arena.specs.Steps.{counts, AreNew, Finds, given, all_given, reached, Takes}
-use Rattle.triple_arena.specs.Steps.{Happens}
+use Rattle.triple_arena.specs.Steps.{Happens, History}
 
 -- the generation of an entry, if there is one
 abbrev generation : {T : Type 0} → Option (ℕ × T) → Option ℕ
@@ -521,14 +521,14 @@ module _ {S T : Type 0} (entry_of : S → ℕ → Option (ℕ × T)) (live_of : 
   neither first second (inr y) = second y
 
   -- what is known at the end of a history of a pointer that may have been given before it
-  record Carried (s : S) (h : List (Step T × S)) (p : ℕ × ℕ) : Type 0 where
+  record Carried (s : S) (h : History S T) (p : ℕ × ℕ) : Type 0 where
     pub c : ℕ
     pub counted : Counted c (reached s h)
     pub past : Past c (reached s h) p
     pub never : IsOneOf (all_given listed h) p → ⊥
     pub gone : (Finds entry_of s p → ⊥) → Finds entry_of (reached s h) p → ⊥
 
-  carried : (h : List (Step T × S)) {c : ℕ} (s : S) → Counted c s
+  carried : (h : History S T) {c : ℕ} (s : S) → Counted c s
       → Happens entry_of live_of counter_of room_of listed (Some greatest) s h
       → (p : ℕ × ℕ) → Past c s p → Carried s h p
   carried [] {c} s counted happens p past =
@@ -550,7 +550,7 @@ module _ {S T : Type 0} (entry_of : S → ℕ → Option (ℕ × T)) (live_of : 
       }
 
   -- no pointer is given twice
-  once_in : (h : List (Step T × S)) {c : ℕ} (s : S) → Counted c s
+  once_in : (h : History S T) {c : ℕ} (s : S) → Counted c s
       → Happens entry_of live_of counter_of room_of listed (Some greatest) s h
       → AreNew (all_given listed h)
   once_in [] s counted happens = tt
@@ -567,7 +567,7 @@ module _ {S T : Type 0} (entry_of : S → ℕ → Option (ℕ × T)) (live_of : 
     pub counted : Counted c s
     pub past : Past c s p
 
-  kept_in : (h : List (Step T × S)) {c : ℕ} (s : S) → Counted c s
+  kept_in : (h : History S T) {c : ℕ} (s : S) → Counted c s
       → Happens entry_of live_of counter_of room_of listed (Some greatest) s h
       → (p : ℕ × ℕ) → IsOneOf (all_given listed h) p → Kept (reached s h) p
   kept_in [] s counted happens p one = absurd one
@@ -580,7 +580,7 @@ module _ {S T : Type 0} (entry_of : S → ℕ → Option (ℕ × T)) (live_of : 
         | inr there ↦ kept_in h moment.1 after happens.2 p there
       ]
 
-  counted_in : (h : List (Step T × S)) {c : ℕ} (s : S) → Counted c s
+  counted_in : (h : History S T) {c : ℕ} (s : S) → Counted c s
       → Happens entry_of live_of counter_of room_of listed (Some greatest) s h
       → (c' : ℕ) × Counted c' (reached s h)
   counted_in [] {c} s counted happens = (c, counted)
@@ -598,13 +598,13 @@ module _ {S T : Type 0} (entry_of : S → ℕ → Option (ℕ × T)) (live_of : 
   }
 
   pub given_once : {s : S} {room : Room} → IsNew entry_of live_of counter_of room_of (Some 2) room s
-      → (h : List (Step T × S))
+      → (h : History S T)
       → Happens entry_of live_of counter_of room_of listed (Some greatest) s h
       → AreNew (all_given listed h)
   given_once {s} new h happens = once_in h s (begun new) happens
 
   pub ended_stays : {s : S} {room : Room}
-      → IsNew entry_of live_of counter_of room_of (Some 2) room s → (h k : List (Step T × S))
+      → IsNew entry_of live_of counter_of room_of (Some 2) room s → (h k : History S T)
       → Happens entry_of live_of counter_of room_of listed (Some greatest) s h
       → Happens entry_of live_of counter_of room_of listed (Some greatest) (reached s h) k
       → (p : ℕ × ℕ) → IsOneOf (all_given listed h) p
@@ -614,7 +614,7 @@ module _ {S T : Type 0} (entry_of : S → ℕ → Option (ℕ × T)) (live_of : 
       (carried k (reached s h) known.counted more p known.past).gone none
 
   pub first_finds_none : {s : S} {room : Room}
-      → IsNew entry_of live_of counter_of room_of (Some 2) room s → (h : List (Step T × S))
+      → IsNew entry_of live_of counter_of room_of (Some 2) room s → (h : History S T)
       → Happens entry_of live_of counter_of room_of listed (Some greatest) s h → (i : ℕ)
       → Finds entry_of (reached s h) (i, 1) → ⊥
   first_finds_none {s} new h happens i f =

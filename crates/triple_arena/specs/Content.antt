@@ -1,10 +1,11 @@
 -- What a contract sees of an `Arena`.
-use Rattle.std.specs.Prelude.{◌≡◌, ◌≢◌, ℕ, zero, suc, ◌+◌, ◌-◌, ◌<◌, ◌≤◌, ◌==◌, List, [], ◌∷◌, ◌++◌}
+use Rattle.std.specs.Prelude.{◌≡◌, ℕ, zero, suc, ◌+◌, ◌-◌, ◌<◌, ◌≤◌, ◌==◌, List, [], ◌∷◌, ◌++◌}
 use Rattle.std.specs.Prelude.{length, take, Option, Some, None, is_some, count_by, filter}
 use Rattle.std.specs.Prelude.{slice_index_or, slice_set, nat_lt, nat_le, min, if◌then◌else◌, refl}
 use Rattle.std.specs.List.{suffix_len}
 use Rattle.std.specs.Option.{is_none}
 use Rattle.std.specs.Coded.{Coded, code_by, coded×, coded_ℕ, coded_list, coded_option}
+use Rattle.linked_lists.specs.LinkedLists.{Off}
 use Rattle.triple_arena_ptr.specs.Generation.{next_generation}
 use Rattle.triple_arena_ptr.specs.Index.{max_index_of}
 use Rattle.triple_arena_stack.specs.Room.{Room, capacity, room_after, limited}
@@ -35,11 +36,6 @@ content_code {T} code =
       room = record { reserved = p.1.1.1.0; limit = p.1.1.1.1 };
     })
     (λ _. refl)
-
--- an index is not on a list
-abbrev pub Lacks : List ℕ → ℕ → Type 0
-Lacks [] i = Unit {0}
-Lacks (j ∷ l) i = (j ≢ i) × Lacks l i
 
 module _ {T : Type 0} where
   -- no entry and no slot, with this counter and in this room
@@ -195,7 +191,7 @@ module _ {T : Type 0} where
   -- each of these is a free index, and none comes twice
   abbrev pub AllVacant : Content T → List ℕ → Type 0
   AllVacant c [] = Unit {0}
-  AllVacant c (index ∷ rest) = IsVacant c index × (Lacks rest index × AllVacant c rest)
+  AllVacant c (index ∷ rest) = IsVacant c index × (Off rest index × AllVacant c rest)
 
   -- the free indexes are those of the slots that are not live, each once, and the slots are within
   -- the capacity

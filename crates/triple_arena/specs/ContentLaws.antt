@@ -10,8 +10,9 @@ use Rattle.std.proofs.lemmas.List.Sums.{sum_by-set}
 use Rattle.std.specs.Option.{option_map}
 use Rattle.triple_arena.specs.Entries.{generation_at, value_if, with_value_at}
 use Rattle.triple_arena_stack.specs.Room.{capacity}
+use Rattle.linked_lists.specs.LinkedLists.{Off}
 use Rattle.triple_arena.specs.Content.{Content, entry_at, live_count, arena_capacity, next_index}
-use Rattle.triple_arena.specs.Content.{with_value, Lacks, AllVacant, IsWellFormed}
+use Rattle.triple_arena.specs.Content.{with_value, AllVacant, IsWellFormed}
 
 module _ {T : Type 0} where
   -- the entry at an index from 1 on
@@ -115,14 +116,14 @@ module _ {T : Type 0} where
       omega (arith, l.positive, l.within, formed.fits)
 
   -- a live index is not a free one
-  pub live-lacks : (c : Content T) (i : ℕ) → IsSome (entry_at c i) → (l : List ℕ)
-      → AllVacant c l → Lacks l i
-  live-lacks c i some [] all = tt
-  live-lacks c i some (j ∷ l) all =
+  pub live-off : (c : Content T) (i : ℕ) → IsSome (entry_at c i) → (l : List ℕ)
+      → AllVacant c l → Off l i
+  live-off c i some [] all = tt
+  live-off c i some (j ∷ l) all =
       let differs : j ≢ i =
       λ same. let none : entry_at c i ≡ None = subst (λ n. entry_at c n ≡ None) same all.0.vacant in
       absurd (true≢false (sym (subst IsSome none some))) in
-      (differs, live-lacks c i some l all.1.1)
+      (differs, live-off c i some l all.1.1)
 
   -- free indexes stay free where the slots are no fewer and no entry comes
   pub vacant-kept : (c d : Content T) → length c.slots ≤ length d.slots
@@ -143,16 +144,16 @@ module _ {T : Type 0} where
   pub vacant-others : (c d : Content T) (i : ℕ)
       → ((j : ℕ) → j ≢ i → j ≤ length c.slots → j ≤ length d.slots)
       → ((j : ℕ) → j ≢ i → entry_at c j ≡ None → entry_at d j ≡ None)
-      → (l : List ℕ) → Lacks l i → AllVacant c l → AllVacant d l
-  vacant-others c d i within none [] lacks all = tt
-  vacant-others c d i within none (j ∷ l) lacks all =
+      → (l : List ℕ) → Off l i → AllVacant c l → AllVacant d l
+  vacant-others c d i within none [] off all = tt
+  vacant-others c d i within none (j ∷ l) off all =
       let first = all.0 in (
         record {
           positive = first.positive;
-          within = within j lacks.0 first.within;
-          vacant = none j lacks.0 first.vacant;
+          within = within j off.0 first.within;
+          vacant = none j off.0 first.vacant;
         },
-        (all.1.0, vacant-others c d i within none l lacks.1 all.1.1),
+        (all.1.0, vacant-others c d i within none l off.1 all.1.1),
       )
 
   -- a write of a value changes the entry at its index alone

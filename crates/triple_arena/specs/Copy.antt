@@ -109,6 +109,20 @@ module _ {S T U : Type 0} (entry_of : S → ℕ → Option (ℕ × T)) (live_of 
     pub counter : counter_of new ≡ option_map (λ own. unwrap_or source_counter own) (counter_of old)
     pub room : room_of new ≡ room_with last (room_of old)
 
+module _ {S R T U : Type 0} (entry_of : S → ℕ → Option (ℕ × T)) (live_of : S → ℕ)
+    (counter_of : S → Option ℕ) (room_of : S → Room) (source_entry_of : R → ℕ → Option (ℕ × U))
+    (source_live_of : R → ℕ) (source_counter_of : R → Option ℕ)
+    (source_listed : R → List (ℕ × (ℕ × U))) where
+  -- a copy of this source
+  abbrev pub IsCopyOf : R → S → S → Type 0
+  IsCopyOf source old new = IsCopy entry_of live_of counter_of room_of (source_entry_of source)
+      (source_live_of source) (last_listed (source_listed source)) (source_counter_of source)
+      old new
+
+-- so many slots are more than there are, and the memory for them may be refused
+abbrev pub NeedsMemory : Bool → Room → ℕ → Type 0
+NeedsMemory takes_memory room n = IsTrue takes_memory × (capacity room < n)
+
 module _ {S T : Type 0} (entry_of : S → ℕ → Option (ℕ × T)) (live_of : S → ℕ)
     (counter_of : S → Option ℕ) (room_of : S → Room) where
   -- why no copy was made where no capacity forbids one: the growth to the last index was refused,

@@ -20,7 +20,15 @@ abbrev pub IsOneOf : List (ℕ × ℕ) → ℕ × ℕ → Type 0
 IsOneOf [] p = ⊥
 IsOneOf (q ∷ l) p = (q ≡ p) ⊎ IsOneOf l p
 
+-- the index and the generation of a pointer, if there is one
+abbrev pub pointer_by : {P : Type 0} → (P → ℕ) → (P → ℕ) → Option P → Option (ℕ × ℕ)
+pointer_by index generation = option_map (λ p. (index p, generation p))
+
 module _ {T : Type 0} where
+  -- the value of an entry, if there is one
+  abbrev pub value_in : Option (ℕ × T) → Option T
+  value_in = option_map (λ (e : ℕ × T). e.1)
+
   -- the value of an entry that has this generation
   abbrev pub value_if : ℕ → Option (ℕ × T) → Option T
   value_if g None = None

@@ -11,22 +11,23 @@ use Rattle.std.proofs.lemmas.List.Sums.{sum_by-cons, suffix_len_is}
 use Rattle.std.proofs.lemmas.List.Filters.{length-filter_both}
 use Rattle.std.proofs.lemmas.Map.Made.{length-le_from_is_member}
 use Rattle.std.specs.Cmp.{nat_eq_equiv}
+use Rattle.linked_lists.specs.LinkedLists.{Off}
 use Rattle.triple_arena.specs.Content.{Content, entry_at, live_count, last_index, without_free_end}
-use Rattle.triple_arena.specs.Content.{vacant_from, canonicalized, Lacks, IsVacant, AllVacant}
+use Rattle.triple_arena.specs.Content.{vacant_from, canonicalized, IsVacant, AllVacant}
 use Rattle.triple_arena.specs.Content.{IsWellFormed}
 use Rattle.triple_arena.specs.ContentLaws.{entry_at_slot, entry-same_slots}
 
--- an index that a list lacks is none of its items
-apart_of : (i : ℕ) (l : List ℕ) → Lacks l i → AllByRecursion (λ j. eqb i j ≡ false) l
-apart_of i [] lacks = tt
-apart_of i (j ∷ l) lacks = (ne_eqb i j (λ same. lacks.0 (sym same)), apart_of i l lacks.1)
+-- an index that is off a list is none of its items
+apart_of : (i : ℕ) (l : List ℕ) → Off l i → AllByRecursion (λ j. eqb i j ≡ false) l
+apart_of i [] off = tt
+apart_of i (j ∷ l) off = (ne_eqb i j (λ same. off.0 (sym same)), apart_of i l off.1)
 
-filter_lacks : (p : ℕ → Bool) (l : List ℕ) (i : ℕ) → Lacks l i → Lacks (filter p l) i
-filter_lacks p [] i lacks = tt
-filter_lacks p (j ∷ l) i lacks = by_test (p j) refl (filter_lacks p l i lacks.1)
+Off-filter : (p : ℕ → Bool) (l : List ℕ) (i : ℕ) → Off l i → Off (filter p l) i
+Off-filter p [] i off = tt
+Off-filter p (j ∷ l) i off = by_test (p j) refl (Off-filter p l i off.1)
   where
-    by_test : (b : Bool) → p j ≡ b → Lacks (filter p l) i → Lacks (filter p (j ∷ l)) i
-    by_test true e rest = rw e (lacks.0, rest)
+    by_test : (b : Bool) → p j ≡ b → Off (filter p l) i → Off (filter p (j ∷ l)) i
+    by_test true e rest = rw e (off.0, rest)
     by_test false e rest = rw e rest
 
 filter_passed : (p : ℕ → Bool) (l : List ℕ) (i : ℕ) → list_any (eqb i) (filter p l) ≡ true
@@ -280,13 +281,13 @@ module _ {T : Type 0} where
       → ((i : ℕ) → p i ≡ true → IsVacant c i → IsVacant d i) → (l : List ℕ) → AllVacant c l
       → AllVacant d (filter p l)
   filter_vacant c d p each [] all = tt
-  filter_vacant c d p each (j ∷ l) all = by_test (p j) refl (filter_lacks p l j all.1.0)
+  filter_vacant c d p each (j ∷ l) all = by_test (p j) refl (Off-filter p l j all.1.0)
       (filter_vacant c d p each l all.1.1)
     where
-      by_test : (b : Bool) → p j ≡ b → Lacks (filter p l) j → AllVacant d (filter p l)
+      by_test : (b : Bool) → p j ≡ b → Off (filter p l) j → AllVacant d (filter p l)
           → AllVacant d (filter p (j ∷ l))
-      by_test true e lacks rest = rw e (each j e all.0, (lacks, rest))
-      by_test false e lacks rest = rw e rest
+      by_test true e off rest = rw e (each j e all.0, (off, rest))
+      by_test false e off rest = rw e rest
 
   -- the free indexes up to the last live one are as many as the slots up to there that are not live
   end_counted : (c : Content T) → IsWellFormed c
@@ -387,11 +388,11 @@ module _ {T : Type 0} where
   pub free-canonicalized : (c : Content T) → (canonicalized c).free ≡ vacant_from 1 c.slots
   free-canonicalized c = refl
 
-  pub vacant-lacks : (n i : ℕ) (xs : List (Option (ℕ × T))) → i < n → Lacks (vacant_from n xs) i
-  vacant-lacks n i [] below = tt
-  vacant-lacks n i (None ∷ xs) below
-      = (λ same. omega (arith, below, same), vacant-lacks (n + 1) i xs (omega (arith, below)))
-  vacant-lacks n i (Some e ∷ xs) below = vacant-lacks (n + 1) i xs (omega (arith, below))
+  pub vacant-off : (n i : ℕ) (xs : List (Option (ℕ × T))) → i < n → Off (vacant_from n xs) i
+  vacant-off n i [] below = tt
+  vacant-off n i (None ∷ xs) below
+      = (λ same. omega (arith, below, same), vacant-off (n + 1) i xs (omega (arith, below)))
+  vacant-off n i (Some e ∷ xs) below = vacant-off (n + 1) i xs (omega (arith, below))
 
   pub all_vacant_from : (c : Content T) (n : ℕ) (xs : List (Option (ℕ × T))) → 0 < n
       → n + length xs ≡ 1 + length c.slots
@@ -405,7 +406,7 @@ module _ {T : Type 0} where
           vacant = ap (entry_at c) (sym here) ∙ sym (same 0);
         },
         (
-          vacant-lacks (n + 1) n xs (omega arith),
+          vacant-off (n + 1) n xs (omega arith),
           all_vacant_from c (n + 1) xs (omega arith) (omega (arith, sizes)) (λ k.
               let next : n + suc k ≡ (n + 1) + k =
               omega arith in same (suc k) ∙ ap (entry_at c) next),

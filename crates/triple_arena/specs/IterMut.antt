@@ -1,5 +1,5 @@
 -- What an iterator that lends values for writing has left, and what is left of the arena.
-use Rattle.std.specs.Prelude.{◌≡◌, ℕ, List, [], ◌∷◌, map, Option, Some, None}
+use Rattle.std.specs.Prelude.{ℕ, List, map, Option, Some, None}
 use Rattle.std.specs.Option.{option_map}
 use base.Fml.{Fml, GName}
 use denote.Follow.{follows}
@@ -7,13 +7,10 @@ use denote.RattleType.{RattleType}
 use Rattle.triple_arena.specs.LentSlots.{refilled}
 use Rattle.triple_arena.specs.Content.{Content}
 use Rattle.triple_arena.specs.DirectContent.{DirectContent}
+use Rattle.triple_arena.specs.Entries.{value_in}
 use Rattle.triple_arena.specs.LiveEntries.{listed_from}
 
 module _ {T : Type 0} where
-  -- the value of an entry
-  abbrev pub value_in : Option (ℕ × T) → Option T
-  value_in = option_map (λ (e : ℕ × T). e.1)
-
   -- the entry, if it is one, with another value
   abbrev pub with_entry_value : Option (ℕ × T) → T → Option (ℕ × T)
   with_entry_value entry t = option_map (λ (e : ℕ × T). (e.0, t)) entry

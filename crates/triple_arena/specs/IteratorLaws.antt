@@ -104,8 +104,8 @@ module _ {T : Type 0} (answers : T → Bool → Type 0) where
         before = earlier s;
       }
     where
-      earlier : IsFirstToAnswer 1 c.slots i g t → (j h : ℕ) (u : T) → j < i → entry_at c j ≡ Some (h, u)
-          → answers u false
+      earlier : IsFirstToAnswer 1 c.slots i g t → (j h : ℕ) (u : T) → j < i
+          → entry_at c j ≡ Some (h, u) → answers u false
       earlier s zero h u below read = absurd (cc)
       earlier s (suc k) h u below read = s.before k h u (omega (arith, below)) read
 

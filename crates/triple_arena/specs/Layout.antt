@@ -2,7 +2,7 @@
 use Rattle.std.specs.Prelude.{◌≡◌, ℕ, zero, suc, ◌+◌, ◌-◌, ◌≤◌, List, [], ◌∷◌, map, length, Option}
 use Rattle.std.specs.Prelude.{Some, None, is_some, count_by, slice_index_or, take, filter, nat_lt}
 use Rattle.triple_arena_stack.specs.Room.{Room, capacity}
-use Rattle.triple_arena.specs.FreeLinks.{Ends, first_or, IsSegment}
+use Rattle.linked_lists.specs.LinkedLists.{Ends, first_or, IsLinear}
 use Rattle.triple_arena.specs.Slot.{Slot, free, entry_of, links_of, next_of}
 use Rattle.triple_arena.specs.Content.{Content}
 
@@ -36,7 +36,7 @@ module _ {T : Type 0} where
   -- the free slots with these indexes are linked both ways in this order, from the head on
   pub record IsFreeList (es : List (Slot T)) (head : Option ℕ) (l : List ℕ) : Type 0 where
     pub first : head ≡ first_or l None
-    pub stands : IsSegment (links_at es) None l None
+    pub stands : IsLinear (links_at es) l
 
   -- the content without its last slot, which is free
   abbrev pub without_last : Content T → Content T

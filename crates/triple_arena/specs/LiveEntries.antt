@@ -16,6 +16,10 @@ module _ {T : Type 0} where
   listed_from n slots = filter_map (λ slot. option_map (λ entry. (slot.0, entry)) slot.1)
       (enumerate_from n slots)
 
+  -- the index, generation and value of each entry that these slots show, from index 1 on
+  abbrev pub listed_by : {X : Type 0} → (X → Option (ℕ × T)) → List X → List (ℕ × (ℕ × T))
+  listed_by shown slots = listed_from 1 (map shown slots)
+
   -- the index, generation and value of each live entry, in the order of the indexes
   abbrev pub live_entries : Content T → List (ℕ × (ℕ × T))
   live_entries c = listed_from 1 c.slots

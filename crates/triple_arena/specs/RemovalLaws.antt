@@ -13,7 +13,7 @@ use Rattle.triple_arena_stack.specs.Room.{capacity}
 use Rattle.triple_arena.specs.Content.{Content, entry_at, live_count, next_index, vacated, removed}
 use Rattle.triple_arena.specs.Content.{stepped, cleared, AllVacant, IsWellFormed}
 use Rattle.triple_arena.specs.ContentLaws.{live_entry, entry-set, entry-same_slots, entry-no_slots}
-use Rattle.triple_arena.specs.ContentLaws.{live-lacks, vacant-kept, vacant-others}
+use Rattle.triple_arena.specs.ContentLaws.{live-off, vacant-kept, vacant-others}
 
 module _ {T : Type 0} where
   take_here : (xs : List (Option (ℕ × T))) (n : ℕ) → n + 1 ≡ length xs
@@ -130,7 +130,7 @@ module _ {T : Type 0} where
       let l = live_entry c i some in
       let positive = l.positive in
       let below = l.within in
-      let lacks = live-lacks c i some c.free all in
+      let off = live-off c i some c.free all in
       elim (eqb_tells i (length c.slots)) [
         | inl last ↦
             let shorter : length (vacated c i).slots ≡ i - 1 = slots-vacated c i ∙ rw last.0 refl in
@@ -138,7 +138,7 @@ module _ {T : Type 0} where
             let within : (j : ℕ) → j ≢ i → j ≤ length c.slots → j ≤ length (vacated c i).slots =
             λ j differs h. omega (arith, shorter, last.1, differs, h, positive) in
             subst (AllVacant (vacated c i)) (sym free)
-            (vacant-others c (vacated c i) i within (none-vacated c i some) c.free lacks all)
+            (vacant-others c (vacated c i) i within (none-vacated c i some) c.free off all)
         | inr inner ↦
             let same : length (vacated c i).slots ≡ length c.slots =
             slots-vacated c i ∙ rw inner.0 refl in
@@ -148,9 +148,9 @@ module _ {T : Type 0} where
             subst (AllVacant (vacated c i)) (sym free) (
               record { positive = positive; within = omega (arith, same, below); vacant = here },
               (
-                lacks,
+                off,
                 vacant-others c (vacated c i) i (λ j differs h. omega (arith, same, h))
-                    (none-vacated c i some) c.free lacks all,
+                    (none-vacated c i some) c.free off all,
               ),
             )
       ]

@@ -1,7 +1,7 @@
 -- What a contract sees of a slot.
 use Rattle.std.specs.Prelude.{ℕ, Option, Some, None, nat_le, if◌then◌else◌}
 use Rattle.std.specs.Option.{option_map}
-use Rattle.triple_arena.specs.FreeLinks.{Ends}
+use Rattle.linked_lists.specs.LinkedLists.{Ends}
 
 -- a free slot, with the free index before it in the order in which free slots are taken, and the
 -- one after it, or an allocated slot with its generation and value

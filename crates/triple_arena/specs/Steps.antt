@@ -46,6 +46,10 @@ counts compress live = 1
 counts (give_up_copy n) live = 1
 counts _ live = 0
 
+-- steps, each with what it left, in their order
+abbrev pub History : Type 0 → Type 0 → Type 0
+History S T = List (Step T × S)
+
 -- none of these comes twice
 abbrev pub AreNew : List (ℕ × ℕ) → Type 0
 AreNew [] = Unit {0}
@@ -64,13 +68,13 @@ module _ {S T : Type 0} (listed : S → List (ℕ × (ℕ × T))) where
   given compress new = map pointer_of (listed new)
   given _ new = []
 
-  -- those of a history, which has each step with what it left, in the order of the steps
-  abbrev pub all_given : List (Step T × S) → List (ℕ × ℕ)
+  -- those of a history, in the order of the steps
+  abbrev pub all_given : History S T → List (ℕ × ℕ)
   all_given [] = []
   all_given (moment ∷ later) = given moment.0 moment.1 ++ all_given later
 
 -- what a history leaves
-abbrev pub reached : {S T : Type 0} → S → List (Step T × S) → S
+abbrev pub reached : {S T : Type 0} → S → History S T → S
 reached s [] = s
 reached s (moment ∷ later) = reached moment.1 later
 
@@ -102,13 +106,22 @@ module _ {S T : Type 0} (entry_of : S → ℕ → Option (ℕ × T)) (live_of : 
       × (counter_of new ≡ counter_of old)
 
   -- the steps of a history are taken one after another, and none starts the generations again
-  abbrev pub Happens : S → List (Step T × S) → Type 0
+  abbrev pub Happens : S → History S T → Type 0
   Happens s [] = Unit {0}
   Happens s (moment ∷ later) =
       Takes moment.0 s moment.1
       × (steps_wrap last (counts moment.0 (live_of s)) (counter_of s)
       ≡ replicate (counts moment.0 (live_of s)) false)
       × Happens moment.1 later
+
+  -- generations are counted, and this history leads here from a new arena
+  pub record IsReached (history : History S T) (s : S) : Type 0 where
+    pub greatest : ℕ
+    pub counts : last ≡ Some greatest
+    pub made : S
+    pub new : IsNew entry_of live_of counter_of room_of (Some 2) (room_of made) made
+    pub happens : Happens made history
+    pub leads : reached made history ≡ s
 
 -- what the calls say of a step of an `Arena`
 abbrev pub IsStep : {T : Type 0} → Option ℕ → Step T → Content T → Content T → Type 0

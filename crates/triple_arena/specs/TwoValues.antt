@@ -1,7 +1,28 @@
--- Two values of an arena that are written.
-use Rattle.std.specs.Prelude.{ℕ, zero, suc, List, [], ◌∷◌}
+-- Two entries of an arena, and two values that are written.
+use Rattle.std.specs.Prelude.{◌≡◌, ◌≢◌, ℕ, zero, suc, List, [], ◌∷◌, Option, IsSome}
 use Rattle.triple_arena.specs.Content.{Content, with_value}
 use Rattle.triple_arena.specs.DirectContent.{DirectContent, with_value as with_direct_value}
+use Rattle.triple_arena.specs.Entries.{value_if}
+
+module _ {T : Type 0} where
+  -- both indexes are live, and they are two
+  abbrev pub AreTwo : (ℕ → Option (ℕ × T)) → ℕ → ℕ → Type 0
+  AreTwo entries i j = IsSome (entries i) × IsSome (entries j) × (i ≢ j)
+
+  -- both indexes are live, and they are one
+  abbrev pub AreOne : (ℕ → Option (ℕ × T)) → ℕ → ℕ → Type 0
+  AreOne entries i j = IsSome (entries i) × IsSome (entries j) × (i ≡ j)
+
+module _ {P T : Type 0} (index generation : P → ℕ) where
+  -- both pointers find an entry, and these are two
+  abbrev pub FindTwo : (ℕ → Option (ℕ × T)) → P → P → Type 0
+  FindTwo entries p q = IsSome (value_if (generation p) (entries (index p)))
+      × IsSome (value_if (generation q) (entries (index q))) × (index p ≢ index q)
+
+  -- both pointers find an entry, and it is one
+  abbrev pub FindOne : (ℕ → Option (ℕ × T)) → P → P → Type 0
+  FindOne entries p q = IsSome (value_if (generation p) (entries (index p)))
+      × IsSome (value_if (generation q) (entries (index q))) × (index p ≡ index q)
 
 module _ {X : Type 0} where
   -- the list with another item where so many come before it

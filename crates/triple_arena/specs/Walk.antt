@@ -12,6 +12,10 @@ pub record Walk : Type 0 where
   pub high : ℕ
   pub falls : Bool
 
+-- the walk over the indexes from one past the first of these up to the second
+abbrev pub walk_over : ℕ → ℕ → Bool → Walk
+walk_over start end falls = record { low = start + 1; high = end; falls = falls }
+
 -- an index is left to look at
 abbrev pub IsAhead : Walk → ℕ → Type 0
 IsAhead w j = (w.low ≤ j) × (j ≤ w.high)

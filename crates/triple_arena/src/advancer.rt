@@ -1,12 +1,12 @@
 //! Going over the pointers of an arena, by their indexes.
-ghost use Rattle.std.specs.Prelude.{◌≡◌, ℕ, ◌+◌, ◌-◌, ◌^◌, ◌<◌, min, if◌then◌else◌, true, false};
+ghost use Rattle.std.specs.Prelude.{◌≡◌, ℕ, ◌-◌, ◌^◌, ◌<◌, min, if◌then◌else◌, true, false};
 ghost use Rattle.std.specs.Prelude.{length, Option, Some, None, IfSome, IfNone, ⊤};
 ghost use Rattle.std.specs.Int.NonZero.{non_zero_usize_get as at};
 ghost use Rattle.std.specs.Option.{option_map};
-ghost use Rattle.triple_arena.specs.Entries.{pointer_at, generation_at};
+ghost use Rattle.triple_arena.specs.Entries.{pointer_at, generation_at, pointer_by};
 ghost use Rattle.triple_arena.specs.Content.{Content, entry_at, last_index as last_index_of};
 ghost use Rattle.triple_arena.specs.DirectContent.{entry_at as entry_of, as_content};
-ghost use Rattle.triple_arena.specs.Walk.{past, to_come, Finds, IsOver, Steps};
+ghost use Rattle.triple_arena.specs.Walk.{past, to_come, walk_over, Finds, IsOver, Steps};
 
 use crate::{Arena, ArenaSlots, DirectArena, DirectSlots};
 use proof_marks::unreached;
@@ -30,12 +30,12 @@ pub struct PtrAdvancer<P: PtrCore> {
 }
 
 impl<P: PtrCore> Model for PtrAdvancer<P> {
-    ghost use Rattle.std.specs.Prelude.{◌+◌, ◌-◌};
-    ghost use Rattle.triple_arena.specs.Walk.{Walk};
+    ghost use Rattle.std.specs.Prelude.{◌-◌};
+    ghost use Rattle.triple_arena.specs.Walk.{Walk, walk_over};
 
     ghost Value = { Walk };
 
-    ghost view = { λ a. record { low = a.start + 1; high = a.end; falls = a.rev } };
+    ghost view = { λ a. walk_over a.start a.end a.rev };
 
     ghost inverse = { λ w. record
         { start = w.low - 1; end = w.high; rev = w.falls; pointers = record {} } };
@@ -56,7 +56,7 @@ impl<P: PtrCore> Copy for PtrAdvancer<P> {}
 impl<P: PtrCore> PtrAdvancer<P> {
     // Over the indexes after `start`, up to `end`.
     pub(crate) fn over(start: usize, end: usize, rev: bool) -> Self
-        ensures { result ≡ record { low = start + 1; high = end; falls = rev } }
+        ensures { result ≡ walk_over start end rev }
     {
         PtrAdvancer {
             start,
@@ -124,14 +124,13 @@ pub(crate) trait LivePointers<P: PtrCore, T> {
 
     // The pointer to the entry at `i`, if it is live.
     fn pointer_of(&self, i: NonZeroUsize) -> Option<P>
-        ensures { option_map (λ p. (P.index p, P.generation p)) result
+        ensures { pointer_by P.index P.generation result
             ≡ pointer_at (entry_at (content self.now)) (at i) };
 
     // The pointer to the first live entry at the indexes after `start`, up to `end`.
     final fn first_live(&self, start: usize, end: usize) -> Option<P>
-        ensures found { Finds (entry_at (content self.now))
-            (record { low = start + 1; high = end; falls = false })
-            (option_map (λ p. (P.index p, P.generation p)) result) }
+        ensures found { Finds (entry_at (content self.now)) (walk_over start end false)
+            (pointer_by P.index P.generation result) }
         ensures number { IfSome result (λ p. P.index p < 2 ^ 64) }
     {
         let last = end.min(self.slots_len());
@@ -148,9 +147,8 @@ pub(crate) trait LivePointers<P: PtrCore, T> {
 
     // The pointer to the last live entry at the indexes after `start`, up to `end`.
     final fn last_live(&self, start: usize, end: usize) -> Option<P>
-        ensures found { Finds (entry_at (content self.now))
-            (record { low = start + 1; high = end; falls = true })
-            (option_map (λ p. (P.index p, P.generation p)) result) }
+        ensures found { Finds (entry_at (content self.now)) (walk_over start end true)
+            (pointer_by P.index P.generation result) }
         ensures number { IfSome result (λ p. P.index p < 2 ^ 64) }
     {
         let mut last = end.min(self.slots_len());
@@ -204,7 +202,7 @@ pub(crate) trait LivePointers<P: PtrCore, T> {
     // What the next step of an advancer gives.
     final fn next_live(&self, advancer: &PtrAdvancer<P>) -> Option<P>
         ensures found { Finds (entry_at (content self.now)) advancer.now
-            (option_map (λ p. (P.index p, P.generation p)) result) }
+            (pointer_by P.index P.generation result) }
         ensures number { IfSome result (λ p. P.index p < 2 ^ 64) }
     {
         if advancer.rev {

@@ -1,10 +1,11 @@
 //! What every arena does.
 ghost use Rattle.std.specs.Prelude.{◌≡◌, ℕ, ◌+◌, ◌-◌, ◌*◌, ◌^◌, ◌<◌, ◌≤◌, ◌↔◌, Bool, Some};
 ghost use Rattle.std.specs.Prelude.{None, IsTrue, IsOk, IsSome, IfSome, IfNone, IfOk, OnSome, OnOk};
-ghost use Rattle.std.specs.Prelude.{OnErr, IsErrOf, Option, is_some, option_copied, unwrap_or};
+ghost use Rattle.std.specs.Prelude.{OnErr, Option, is_some, option_copied, unwrap_or};
 ghost use Rattle.std.specs.Prelude.{true, false, min, if◌then◌else◌, List, map as list_map, length};
 ghost use Rattle.std.specs.Borrow.{sem, Lends, LendsIf};
 ghost use Rattle.std.specs.Option.{option_map, option_copied_mut};
+ghost use Rattle.triple_arena_ptr.specs.Errors.{IsBeyondMaxCapacity, IsAllocError};
 ghost use Rattle.triple_arena_ptr.specs.Generation.{IsGeneration, second_generation};
 ghost use Rattle.triple_arena_ptr.specs.Generation.{next_generation, next_wraps};
 ghost use Rattle.triple_arena_ptr.specs.Index.{max_index_of};
@@ -16,7 +17,7 @@ ghost use Rattle.triple_arena.specs.Changes.{IsCleared, IsCompressed};
 ghost use Rattle.triple_arena.specs.Drains.{drain_arena, drain_lender, DrainCanStep};
 ghost use Rattle.triple_arena.specs.Drains.{DrainKeepsAlong, LeavesGivenUp};
 ghost use Rattle.triple_arena.specs.Entries.{number_if, value_if, counter_wraps, with_value_at};
-ghost use Rattle.triple_arena.specs.Entries.{generation_at, look_up};
+ghost use Rattle.triple_arena.specs.Entries.{generation_at, look_up, value_in};
 ghost use Rattle.triple_arena.specs.Transfer.{IsGivenUp};
 ghost use Rattle.triple_arena.specs.Walk.{Walk, Steps};
 ghost use Rattle.std.specs.List.Sorted.{IsStrictlyIncreasing};
@@ -116,9 +117,8 @@ pub trait ArenaTrait<P: PtrCore, T: Drop> {
 
         // No memory is asked for if a new arena has the room already.
         ensures succeeds { min ≤ capacity_of (room_at 0) → IsOk result }
-        ensures beyond { IsErrOf result ReallocationError.BeyondMaxCapacity
-            ↔ IsBeyond (room_at min).limit min }
-        ensures memory { IsErrOf result ReallocationError.AllocError → IsTrue takes_memory };
+        ensures beyond { IsBeyondMaxCapacity result ↔ IsBeyond (room_at min).limit min }
+        ensures memory { IsAllocError result → IsTrue takes_memory };
 
     /// How many entries fit with no growth.
     fn capacity(&self) -> usize
@@ -144,9 +144,8 @@ pub trait ArenaTrait<P: PtrCore, T: Drop> {
         ensures formed { is_formed self.new }
         ensures fits { OnOk result (min ≤ capacity_of (room self.new)) }
         ensures succeeds { min ≤ capacity_of (room self.old) → IsOk result }
-        ensures beyond { IsErrOf result ReallocationError.BeyondMaxCapacity
-            ↔ IsBeyond (room self.old).limit min }
-        ensures memory { IsErrOf result ReallocationError.AllocError → IsTrue takes_memory }
+        ensures beyond { IsBeyondMaxCapacity result ↔ IsBeyond (room self.old).limit min }
+        ensures memory { IsAllocError result → IsTrue takes_memory }
         ensures err { OnErr result (self.new ≡ self.old) };
 
     /// How many entries are live.
@@ -176,8 +175,7 @@ pub trait ArenaTrait<P: PtrCore, T: Drop> {
         requires { IsSome (entry_at self.old (P.Inx.number i)) }
         ensures* writes_back { sem 𝓛 (Lends Self.row T.row self.entry result
             (with_value self.old (P.Inx.number i))) }
-        ensures value { option_map (λ e. e.1) (entry_at self.old (P.Inx.number i))
-            ≡ Some result.now };
+        ensures value { value_in (entry_at self.old (P.Inx.number i)) ≡ Some result.now };
 
     /// The pointer to the entry with the least index, or `None` if no index is live. It looks at
     /// each slot up to that one.
@@ -448,7 +446,7 @@ pub trait ArenaTrait<P: PtrCore, T: Drop> {
     /// The value at an index that is live.
     final fn get_inx_unwrap(&self, i: P::Inx) -> &T
         requires { IsSome (entry_at self.now (P.Inx.number i)) }
-        ensures { option_map (λ e. e.1) (entry_at self.now (P.Inx.number i)) ≡ Some result.now }
+        ensures { value_in (entry_at self.now (P.Inx.number i)) ≡ Some result.now }
     {
         match self.get_inx(i) {
             Some((_, value)) => value,
@@ -460,8 +458,7 @@ pub trait ArenaTrait<P: PtrCore, T: Drop> {
     final fn get_inx_mut(&mut self, i: P::Inx) -> Option<&mut T>
         ensures* writes_back { sem 𝓛 (LendsIf Self.row T.row self.entry result
             (with_value self.old (P.Inx.number i)) self.old) }
-        ensures value { option_copied_mut result
-            ≡ option_map (λ e. e.1) (entry_at self.old (P.Inx.number i)) }
+        ensures value { option_copied_mut result ≡ value_in (entry_at self.old (P.Inx.number i)) }
     {
         if self.get_inx(i).is_some() {
             Some(self.get_inx_mut_unwrap(i))

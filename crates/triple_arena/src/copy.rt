@@ -1,12 +1,13 @@
 //! Copies of arenas: the same pointers, with the values that a map gives.
 ghost use Rattle.std.specs.Prelude.{◌≡◌, ◌<◌, ◌≤◌, ◌↔◌, ℕ, ◌∷◌, ◌++◌, Option, [], IsOk, IsErr};
-ghost use Rattle.std.specs.Prelude.{IfOk, OnOk, IsErrOf, List, length, is_some, count_by};
+ghost use Rattle.std.specs.Prelude.{IfOk, OnOk, List, length, is_some, count_by};
 ghost use Rattle.std.specs.Prelude.{map as list_map, ⊤};
+ghost use Rattle.triple_arena_ptr.specs.Errors.{IsBeyondMaxCapacity, IsAllocError};
 ghost use Rattle.triple_arena_ptr.specs.Index.{max_index_of};
 ghost use Rattle.triple_arena_stack.specs.Room.{capacity as capacity_of, IsBeyond};
-ghost use Rattle.triple_arena.specs.LiveEntries.{listed_from};
 ghost use Rattle.triple_arena.specs.Copy.{last_listed, IsMappedCopy, IsRefusedCopy, NeverRefuses};
-ghost use Rattle.triple_arena.specs.Copy.{IsCopy, IsUnmadeCopy};
+ghost use Rattle.triple_arena.specs.Copy.{IsCopyOf, IsUnmadeCopy};
+ghost use Rattle.triple_arena.specs.LiveEntries.{listed_by};
 
 use crate::ArenaTrait;
 use crate::arena::pointer_at;
@@ -24,8 +25,7 @@ pub trait ArenaCloneSource<P: PtrCore, U: Drop>: ArenaTrait<P, U> {
 
     /// The slots, from index 1 on.
     fn lent_slots(&self) -> &[Self::Slot]
-        ensures entries { listed_from 1 (list_map Self.Slot.shown result.now)
-            ≡ Self.live_entries self.now }
+        ensures entries { listed_by Self.Slot.shown result.now ≡ Self.live_entries self.now }
         ensures indexes { length result.now ≤ max_index_of P.Inx.greatest };
 }
 
@@ -59,18 +59,17 @@ pub trait ArenaCloneFromWith<P: PtrCore, T: Drop>: ArenaTrait<P, T> {
         requires { F.IsAlwaysCallable map }
         ensures mapped { OnOk result (IsMappedCopy P.index P.generation F.step map
             (A.live_entries source.now) (Self.live_entries self.new)) }
-        ensures copied { OnOk result (IsCopy Self.entry_at Self.live_count Self.counter Self.room
-            (A.entry_at source.now) (A.live_count source.now)
-            (last_listed (A.live_entries source.now)) (A.counter source.now) self.old self.new) }
+        ensures copied { OnOk result (IsCopyOf Self.entry_at Self.live_count Self.counter Self.room
+            A.entry_at A.live_count A.counter A.live_entries source.now self.old self.new) }
         ensures exact { OnOk result (self.new
             ≡ copied self.old (A.counter source.now) (Self.live_entries self.new)) }
         ensures succeeds { last_listed (A.live_entries source.now)
             ≤ capacity_of (Self.room self.old)
             → NeverRefuses F.step → IsOk result }
-        ensures beyond { IsErrOf result ReallocationError.BeyondMaxCapacity
+        ensures beyond { IsBeyondMaxCapacity result
             ↔ IsBeyond (Self.room self.old).limit (last_listed (A.live_entries source.now)) }
-        ensures kept { IsErrOf result ReallocationError.BeyondMaxCapacity → self.new ≡ self.old }
-        ensures unmade { IsErrOf result ReallocationError.AllocError
+        ensures kept { IsBeyondMaxCapacity result → self.new ≡ self.old }
+        ensures unmade { IsAllocError result
             → IsUnmadeCopy Self.entry_at Self.live_count Self.counter Self.room Self.takes_memory
             P.Gen.last (last_listed (A.live_entries source.now))
             (λ s. Self.cleared (Self.reallocated s (last_listed (A.live_entries source.now))))
@@ -81,9 +80,8 @@ pub trait ArenaCloneFromWith<P: PtrCore, T: Drop>: ArenaTrait<P, T> {
 
 // The slots up to the last one that is allocated.
 pub(crate) fn up_to_last<P: PtrCore, U, E: LentEntry<P, U>>(slots: &[E]) -> &[E]
-    ensures entries { listed_from 1 (list_map E.shown result.now)
-        ≡ listed_from 1 (list_map E.shown slots.now) }
-    ensures last { length result.now ≡ last_listed (listed_from 1 (list_map E.shown slots.now)) }
+    ensures entries { listed_by E.shown result.now ≡ listed_by E.shown slots.now }
+    ensures last { length result.now ≡ last_listed (listed_by E.shown slots.now) }
     ensures fewer { length result.now ≤ length slots.now }
 {
     let mut left = slots;
@@ -115,12 +113,11 @@ where
     requires indexes { length source.now ≤ max_index_of P.Inx.greatest }
     requires callable { F.IsAlwaysCallable map }
     ensures mapped { OnOk result (IsMappedCopy P.index P.generation F.step map
-        (listed_from 1 (list_map E.shown source.now))
-        (listed_from 1 (list_map L.entry (S.items slots.new)))) }
+        (listed_by E.shown source.now) (listed_by L.entry (S.items slots.new))) }
     ensures slots { OnOk result (length (S.items slots.new) ≡ length source.now) }
     ensures live { IfOk result (λ n. n ≡ count_by is_some (list_map L.entry (S.items slots.new))) }
     ensures refused { IsErr result → IsRefusedCopy P.index P.generation F.step map
-        (listed_from 1 (list_map E.shown source.now)) }
+        (listed_by E.shown source.now) }
     ensures room { S.room slots.new ≡ S.room slots.old }
 {
     let mut live = 0;

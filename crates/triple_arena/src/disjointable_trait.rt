@@ -2,9 +2,9 @@
 ghost use Rattle.std.specs.Prelude.{◌≡◌, ◌≢◌, ◌↔◌, ℕ, [], ◌∷◌, length, map, Some, IsSome, IfSome};
 ghost use Rattle.std.specs.Prelude.{IsOk, OnOk, OnErr, IsErrOf};
 ghost use Rattle.std.specs.Borrow.{sem, LendsBoth, LendsBothIf, Array};
-ghost use Rattle.std.specs.Option.{option_map};
 ghost use Rattle.triple_arena.specs.Changes.{IsExchanged};
-ghost use Rattle.triple_arena.specs.Entries.{value_if};
+ghost use Rattle.triple_arena.specs.Entries.{value_if, value_in};
+ghost use Rattle.triple_arena.specs.TwoValues.{AreTwo, AreOne, FindTwo, FindOne};
 
 use crate::ArenaTrait;
 use proof_marks::recall;
@@ -40,20 +40,15 @@ pub trait DisjointableArenaTrait<P: PtrCore, T: Drop>: ArenaTrait<P, T> {
             (λ x y. map (λ a. Self.with_value (Self.with_value a (P.Inx.number i) x)
             (P.Inx.number j) y) these.old)) }
         ensures values { (a : Self) → these.old ≡ a ∷ []
-            → (option_map (λ e. e.1) (Self.entry_at a (P.Inx.number i)) ≡ Some result.0.now)
-            × (option_map (λ e. e.1) (Self.entry_at a (P.Inx.number j)) ≡ Some result.1.now) };
+            → (value_in (Self.entry_at a (P.Inx.number i)) ≡ Some result.0.now)
+            × (value_in (Self.entry_at a (P.Inx.number j)) ≡ Some result.1.now) };
 
     /// Whether `p` and `q` point to two entries. It returns `IndexOutOfBounds` if one of them
     /// points to none, and else `OverlappingIndices` if they are one.
     final fn check_disjoint(&self, p: P, q: P) -> Result<(), GetDisjointMutError>
-        ensures variant { IsOk result
-            ↔ (IsSome (value_if (P.generation p) (Self.entry_at self.now (P.index p)))
-            × IsSome (value_if (P.generation q) (Self.entry_at self.now (P.index q)))
-            × (P.index p ≢ P.index q)) }
+        ensures variant { IsOk result ↔ FindTwo P.index P.generation (Self.entry_at self.now) p q }
         ensures overlapping { IsErrOf result GetDisjointMutError.OverlappingIndices
-            ↔ (IsSome (value_if (P.generation p) (Self.entry_at self.now (P.index p)))
-            × IsSome (value_if (P.generation q) (Self.entry_at self.now (P.index q)))
-            × (P.index p ≡ P.index q)) }
+            ↔ FindOne P.index P.generation (Self.entry_at self.now) p q }
     {
         if !self.contains(p) || !self.contains(q) {
             return Err(GetDisjointMutError::IndexOutOfBounds);
@@ -68,13 +63,9 @@ pub trait DisjointableArenaTrait<P: PtrCore, T: Drop>: ArenaTrait<P, T> {
     /// live, and else `OverlappingIndices` if they are one.
     final fn check_disjoint_inx(&self, i: P::Inx, j: P::Inx) -> Result<(), GetDisjointMutError>
         ensures variant { IsOk result
-            ↔ (IsSome (Self.entry_at self.now (P.Inx.number i))
-            × IsSome (Self.entry_at self.now (P.Inx.number j))
-            × (P.Inx.number i ≢ P.Inx.number j)) }
+            ↔ AreTwo (Self.entry_at self.now) (P.Inx.number i) (P.Inx.number j) }
         ensures overlapping { IsErrOf result GetDisjointMutError.OverlappingIndices
-            ↔ (IsSome (Self.entry_at self.now (P.Inx.number i))
-            × IsSome (Self.entry_at self.now (P.Inx.number j))
-            × (P.Inx.number i ≡ P.Inx.number j)) }
+            ↔ AreOne (Self.entry_at self.now) (P.Inx.number i) (P.Inx.number j) }
     {
         if self.get_inx(i).is_none() || self.get_inx(j).is_none() {
             return Err(GetDisjointMutError::IndexOutOfBounds);
@@ -89,14 +80,9 @@ pub trait DisjointableArenaTrait<P: PtrCore, T: Drop>: ArenaTrait<P, T> {
     /// `IndexOutOfBounds` if one of them points to none, and else `OverlappingIndices` if they are
     /// one. Either leaves the arena as it was.
     final fn swap(&mut self, p: P, q: P) -> Result<(), GetDisjointMutError>
-        ensures variant { IsOk result
-            ↔ (IsSome (value_if (P.generation p) (Self.entry_at self.old (P.index p)))
-            × IsSome (value_if (P.generation q) (Self.entry_at self.old (P.index q)))
-            × (P.index p ≢ P.index q)) }
+        ensures variant { IsOk result ↔ FindTwo P.index P.generation (Self.entry_at self.old) p q }
         ensures overlapping { IsErrOf result GetDisjointMutError.OverlappingIndices
-            ↔ (IsSome (value_if (P.generation p) (Self.entry_at self.old (P.index p)))
-            × IsSome (value_if (P.generation q) (Self.entry_at self.old (P.index q)))
-            × (P.index p ≡ P.index q)) }
+            ↔ FindOne P.index P.generation (Self.entry_at self.old) p q }
         ensures exchanged { OnOk result (IsExchanged Self.entry_at Self.live_count Self.counter
             Self.room (P.index p) (P.index q) self.old self.new) }
         ensures exact { OnOk result (self.new ≡ exchanged self.old (P.index p) (P.index q)) }
@@ -126,9 +112,7 @@ pub fn get_disjoint_mut<P: PtrCore, T: Drop, A: DisjointableArenaTrait<P, T>>(
         (λ x y. map (λ a. A.with_value (A.with_value a (P.index p) x) (P.index q) y) these.old)
         these.old) }
     ensures variant { (a : A) → these.old ≡ a ∷ [] → IsSome result
-        ↔ (IsSome (value_if (P.generation p) (A.entry_at a (P.index p)))
-        × IsSome (value_if (P.generation q) (A.entry_at a (P.index q)))
-        × (P.index p ≢ P.index q)) }
+        ↔ FindTwo P.index P.generation (A.entry_at a) p q }
     ensures values { (a : A) → these.old ≡ a ∷ [] → IfSome result (λ r.
         (value_if (P.generation p) (A.entry_at a (P.index p)) ≡ Some r.0.now)
         × (value_if (P.generation q) (A.entry_at a (P.index q)) ≡ Some r.1.now)) }
@@ -154,11 +138,10 @@ pub fn get_disjoint_inx_mut<P: PtrCore, T: Drop, A: DisjointableArenaTrait<P, T>
         (λ x y. map (λ a. A.with_value (A.with_value a (P.Inx.number i) x) (P.Inx.number j) y)
         these.old) these.old) }
     ensures variant { (a : A) → these.old ≡ a ∷ [] → IsSome result
-        ↔ (IsSome (A.entry_at a (P.Inx.number i)) × IsSome (A.entry_at a (P.Inx.number j))
-        × (P.Inx.number i ≢ P.Inx.number j)) }
+        ↔ AreTwo (A.entry_at a) (P.Inx.number i) (P.Inx.number j) }
     ensures values { (a : A) → these.old ≡ a ∷ [] → IfSome result (λ r.
-        (option_map (λ e. e.1) (A.entry_at a (P.Inx.number i)) ≡ Some r.0.now)
-        × (option_map (λ e. e.1) (A.entry_at a (P.Inx.number j)) ≡ Some r.1.now)) }
+        (value_in (A.entry_at a (P.Inx.number i)) ≡ Some r.0.now)
+        × (value_in (A.entry_at a (P.Inx.number j)) ≡ Some r.1.now)) }
 {
     match these[0].check_disjoint_inx(i, j) {
         Ok(()) => Some(A::lend_two(these, i, j)),

@@ -6,8 +6,8 @@ ghost use Rattle.std.specs.Option.{option_map};
 ghost use Rattle.triple_arena_ptr.specs.Index.{max_index_of};
 ghost use Rattle.triple_arena.specs.Compression.{value_of};
 ghost use Rattle.triple_arena.specs.Iterators.{IsCursor, IsExact, pointer_of, with_part};
-ghost use Rattle.triple_arena.specs.LiveEntries.{listed_from};
 ghost use Rattle.triple_arena.specs.Slot.{entry_of};
+ghost use Rattle.triple_arena.specs.LiveEntries.{listed_by};
 
 use crate::arena::pointer_at;
 use crate::{ArenaSlot, DirectSlot, Part, Whole};
@@ -74,7 +74,7 @@ impl<'a, P: PtrCore, T, E: LentEntry<P, T>> Iter<'a, P, T, T, E, Whole> {
     pub(crate) fn over(slots: &'a [E], left: usize) -> Self
         requires cursor { IsCursor E.shown slots.now 0 left (max_index_of P.Inx.greatest) }
         requires no_more { ⊤ }
-        ensures { result ≡ listed_from 1 (list_map E.shown slots.now) }
+        ensures { result ≡ listed_by E.shown slots.now }
     {
         Iter {
             slots,

@@ -10,11 +10,10 @@
 ghost use Rattle.std.specs.Prelude.{◌≡◌, ◌≤◌, ◌↔◌, ℕ, List, length, map as list_map, Option, Some};
 ghost use Rattle.std.specs.Prelude.{IsSome, false};
 ghost use Rattle.std.specs.List.{FoldsTo};
-ghost use Rattle.std.specs.Option.{option_map};
-ghost use Rattle.triple_arena.specs.Changes.{IsNew};
-ghost use Rattle.triple_arena.specs.Entries.{generation_at, IsOneOf};
+ghost use Rattle.triple_arena.specs.Entries.{generation_at, pointer_by, IsOneOf};
 ghost use Rattle.triple_arena.specs.Steps.{Step, drain, write, give_up_copy, keep, AreNew, Finds};
-ghost use Rattle.triple_arena.specs.Steps.{Takes, IsStep, Happens, all_given, reached};
+ghost use Rattle.triple_arena.specs.Steps.{Takes, IsStep, Happens, History, IsReached, all_given};
+ghost use Rattle.triple_arena.specs.Steps.{reached};
 ghost use Rattle.triple_arena.specs.Walk.{Walk, IsAhead, GoInOrder, given_by, pointers_ahead};
 ghost use Rattle.triple_arena.specs.Compression.{live_values, pointer_of, IsCompact};
 ghost use Rattle.triple_arena.specs.Content.{Content, without_free_end, canonicalized};
@@ -33,33 +32,26 @@ use triple_arena_ptr::PtrCore;
 /// From a new arena on, each pointer that an insertion, an `invalidate` or a compression gives is
 /// one that no earlier step gave.
 pub fn pointers_are_given_once<P: PtrCore, T: Drop, A: ArenaTrait<P, T>>()
-    ensures { (greatest : ℕ) (made : A) (history : List (Step T × A)) → P.Gen.last ≡ Some greatest
-        → IsNew A.entry_at A.live_count A.counter A.room (Some 2) (A.room made) made
-        → Happens A.entry_at A.live_count A.counter A.room A.live_entries P.Gen.last made history
+    ensures { (history : History A T) (arena : A)
+        → IsReached A.entry_at A.live_count A.counter A.room A.live_entries P.Gen.last history arena
         → AreNew (all_given A.live_entries history) }
 {}
 
 /// A pointer that was given and has ended finds nothing ever after.
 pub fn ended_pointers_find_nothing<P: PtrCore, T: Drop, A: ArenaTrait<P, T>>()
-    ensures { (greatest : ℕ) (made : A) (before after : List (Step T × A)) (p : ℕ × ℕ)
-        → P.Gen.last ≡ Some greatest
-        → IsNew A.entry_at A.live_count A.counter A.room (Some 2) (A.room made) made
-        → Happens A.entry_at A.live_count A.counter A.room A.live_entries P.Gen.last made before
-        → Happens A.entry_at A.live_count A.counter A.room A.live_entries P.Gen.last
-        (reached made before) after
-        → IsOneOf (all_given A.live_entries before) p
-        → (Finds A.entry_at (reached made before) p → ⊥)
-        → Finds A.entry_at (reached (reached made before) after) p → ⊥ }
+    ensures { (before after : History A T) (arena : A) (p : ℕ × ℕ)
+        → IsReached A.entry_at A.live_count A.counter A.room A.live_entries P.Gen.last before arena
+        → Happens A.entry_at A.live_count A.counter A.room A.live_entries P.Gen.last arena after
+        → IsOneOf (all_given A.live_entries before) p → (Finds A.entry_at arena p → ⊥)
+        → Finds A.entry_at (reached arena after) p → ⊥ }
 {}
 
 /// A pointer with the first generation, as `invalid()` has, finds nothing after any history of a
 /// new arena's calls.
 pub fn invalid_pointers_find_nothing<P: PtrCore, T: Drop, A: ArenaTrait<P, T>>()
-    ensures { (greatest : ℕ) (made : A) (history : List (Step T × A)) (index : ℕ)
-        → P.Gen.last ≡ Some greatest
-        → IsNew A.entry_at A.live_count A.counter A.room (Some 2) (A.room made) made
-        → Happens A.entry_at A.live_count A.counter A.room A.live_entries P.Gen.last made history
-        → Finds A.entry_at (reached made history) (index, 1) → ⊥ }
+    ensures { (history : History A T) (arena : A) (index : ℕ)
+        → IsReached A.entry_at A.live_count A.counter A.room A.live_entries P.Gen.last history arena
+        → Finds A.entry_at arena (index, 1) → ⊥ }
 {}
 
 /// A write of a value through a borrow is a step of a history.
@@ -99,8 +91,7 @@ pub fn what_takes_all_is_a_step<P: PtrCore, T: Drop>()
 pub fn advancers_give_each_entry_once<P: PtrCore, T: Drop, A: ArenaTrait<P, T>>()
     ensures given { (arena : A) (advancer left : A.PtrAdvancer) (given : List (Option P))
         → FoldsTo (λ before p after. A.PtrAdvancer.advance_gives before arena p after)
-        advancer given left
-        → list_map (option_map (λ p. (P.index p, P.generation p))) given
+        advancer given left → list_map (pointer_by P.index P.generation) given
         ≡ given_by (length given) (pointers_ahead (A.walk advancer) (A.live_entries arena)) }
     ensures live { (arena : A) (walk : Walk) (p : ℕ × ℕ)
         → IsOneOf (pointers_ahead walk (A.live_entries arena)) p

@@ -1,6 +1,7 @@
 //! The room of an arena, in that of its stack.
-ghost use Rattle.std.specs.Prelude.{◌≡◌, ◌^◌, ◌<◌, ◌≤◌, ◌↔◌, None, IsOk, OnOk, OnErr, IsErrOf};
+ghost use Rattle.std.specs.Prelude.{◌≡◌, ◌^◌, ◌<◌, ◌≤◌, ◌↔◌, None, IsOk, OnOk, OnErr};
 ghost use Rattle.std.specs.Prelude.{IsTrue};
+ghost use Rattle.triple_arena_ptr.specs.Errors.{IsBeyondMaxCapacity, IsAllocError};
 ghost use Rattle.triple_arena_ptr.specs.Index.{max_index_of};
 ghost use Rattle.triple_arena_stack.specs.Room.{capacity, IsBeyond};
 ghost use Rattle.triple_arena.specs.ArenaRoom.{room_of, room_with};
@@ -47,9 +48,9 @@ pub(crate) fn reallocate_over<P: PtrCore, X: Drop, S: NonZeroInxGenericStack<Ite
     ensures succeeds { min ≤ capacity (room_of P.Inx.greatest (S.room slots.old)) → IsOk result }
     ensures kept { min ≤ capacity (room_of P.Inx.greatest (S.room slots.old))
         → slots.new ≡ slots.old }
-    ensures beyond { IsErrOf result ReallocationError.BeyondMaxCapacity
+    ensures beyond { IsBeyondMaxCapacity result
         ↔ IsBeyond (room_of P.Inx.greatest (S.room slots.old)).limit min }
-    ensures memory { IsErrOf result ReallocationError.AllocError → IsTrue S.takes_memory }
+    ensures memory { IsAllocError result → IsTrue S.takes_memory }
     ensures err { OnErr result (slots.new ≡ slots.old) }
 {
     if min <= capacity_over::<P, X, S>(slots) {

@@ -1,18 +1,19 @@
 //! The entries of one arena moved to another.
 ghost use Rattle.std.specs.Prelude.{◌≡◌, ℕ, ◌+◌, ◌∷◌, ◌++◌, ◌<◌, ◌≤◌, ◌↔◌, List, [], Some, None};
-ghost use Rattle.std.specs.Prelude.{IsOk, OnOk, OnErr, IsErrOf, IsTrue, Option, length};
+ghost use Rattle.std.specs.Prelude.{IsOk, OnOk, OnErr, IsTrue, Option, length};
 ghost use Rattle.std.specs.Prelude.{map as list_map, is_some, count_by};
 ghost use Rattle.std.specs.Fn.{iterate};
 ghost use Rattle.std.specs.Option.{option_map};
+ghost use Rattle.triple_arena_ptr.specs.Errors.{IsBeyondMaxCapacity, IsAllocError};
 ghost use Rattle.triple_arena_ptr.specs.Generation.{next_generation};
 ghost use Rattle.triple_arena_ptr.specs.InvalidationOption.{value_of, overflowed};
 ghost use Rattle.triple_arena_stack.specs.Room.{capacity as capacity_of, IsBeyond};
 ghost use Rattle.triple_arena.specs.ArenaRoom.{room_with};
 ghost use Rattle.triple_arena.specs.Compression.{value_of as value_of_entry};
 ghost use Rattle.triple_arena.specs.Entries.{counter_wraps};
-ghost use Rattle.triple_arena.specs.LiveEntries.{listed_from};
 ghost use Rattle.triple_arena.specs.SlotTransfer.{MovesOut};
 ghost use Rattle.triple_arena.specs.Transfer.{IsTransferred, IsGivenUp, IsFilled};
+ghost use Rattle.triple_arena.specs.LiveEntries.{listed_by};
 
 use crate::ArenaTrait;
 use crate::answers::answer;
@@ -102,9 +103,9 @@ pub trait ArenaTransferTrait<P: PtrCore, T: Drop>: ArenaTrait<P, T> {
         // No memory is asked for if the entries fit.
         ensures succeeds { Source.live_count source.old ≤ capacity_of (Self.room self.old)
             → IsOk result }
-        ensures beyond { IsErrOf result ReallocationError.BeyondMaxCapacity
+        ensures beyond { IsBeyondMaxCapacity result
             ↔ IsBeyond (Self.room self.old).limit (Source.live_count source.old) }
-        ensures memory { IsErrOf result ReallocationError.AllocError → IsTrue Self.takes_memory }
+        ensures memory { IsAllocError result → IsTrue Self.takes_memory }
         ensures err { OnErr result (self.new ≡ self.old) }
         ensures source_err { OnErr result (source.new ≡ source.old) };
 }
@@ -168,8 +169,7 @@ where
     requires indexes { count_by is_some (list_map K.entry (R.items from.old)) ≤ P.Inx.greatest }
     ensures moved { MovesOut Q.index Q.generation P.index P.generation F.step map Q.Gen.last
         (option_map Q.Gen.number counter) (P.Gen.number generation)
-        (listed_from 1 (list_map K.entry (R.items from.old)))
-        (list_map L.entry (S.items to.new)) }
+        (listed_by K.entry (R.items from.old)) (list_map L.entry (S.items to.new)) }
     ensures counter { option_map Q.Gen.number result
         ≡ option_map (iterate (next_generation Q.Gen.last)
         (count_by is_some (list_map K.entry (R.items from.old))))

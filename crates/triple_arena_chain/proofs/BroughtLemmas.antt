@@ -5,7 +5,7 @@ use Rattle.triple_arena.specs.Entries.{with_values_exchanged}
 use Rattle.triple_arena.specs.Content.{Content, entry_at, with_exchange, IsWellFormed}
 use Rattle.triple_arena.specs.ExchangeLaws.{formed-with_exchange}
 use Rattle.triple_arena_chain.specs.LinkShape.{IndexLink}
-use Rattle.triple_arena_chain.specs.Chains.{with_next_if}
+use Rattle.linked_lists.specs.LinkedLists.{with_next_if}
 use Rattle.triple_arena_chain.specs.Links.{valued, values_in, entry_ends, ends_in, with_next_of}
 use Rattle.triple_arena_chain.specs.Links.{with_prev_of, IsKept}
 use Rattle.triple_arena_chain.specs.LinkLaws.{kept_on, ends-with_next_of, ends-with_prev_of}

@@ -8,9 +8,9 @@ use Rattle.triple_arena.specs.Compression.{renewed, value_of}
 use Rattle.triple_arena.specs.Content.{Content, live_count}
 use Rattle.triple_arena.specs.LiveEntries.{live_entries}
 use Rattle.triple_arena_chain.specs.LinkShape.{IndexLink}
-use Rattle.triple_arena_chain.specs.Chains.{Ends, next_in, prev_in, IsAgreed, On}
-use Rattle.triple_arena_chain.specs.AllChainsLaws.{all_live}
-use Rattle.triple_arena_chain.specs.ListLaws.{live_next_in, live_prev_in}
+use Rattle.linked_lists.specs.LinkedLists.{Ends, next_in, prev_in, IsAgreed, On}
+use Rattle.linked_lists.specs.AllChainsLaws.{all_live}
+use Rattle.linked_lists.specs.ChainLaws.{live_next_in, live_prev_in}
 use Rattle.triple_arena_chain.specs.Links.{valued, values_in, entry_ends, ends_in, IsChained}
 use Rattle.triple_arena_chain.specs.Listed.{listed_value, listed_values}
 use Rattle.triple_arena_chain.specs.Renaming.{live_below, new_index, ends_renamed, FollowsRenaming}

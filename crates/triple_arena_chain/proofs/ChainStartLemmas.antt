@@ -2,14 +2,14 @@
 use Rattle.std.proofs.Common.{◌≡◌, ◌≢◌, ℕ, suc, ◌+◌, ◌<◌, ◌≤◌, List, [], ◌∷◌, ◌++◌, length, Option}
 use Rattle.std.proofs.Common.{Some, None, IsSome, is_some, true≢false, refl, sym, ap, subst, ◌∙◌}
 use Rattle.std.proofs.Common.{arith, inl, inr}
-use Rattle.triple_arena_chain.specs.Chains.{Ends, next_in, prev_in, next_at, prev_at, IsAgreed}
-use Rattle.triple_arena_chain.specs.Chains.{first_or, last_or, IsSegment, Off, On, Apart, IsRing}
-use Rattle.triple_arena_chain.specs.ChainLaws.{segment-back, few, Below}
-use Rattle.triple_arena_chain.specs.UniquenessLaws.{ended, Ended, none, some_last}
-use Rattle.triple_arena_chain.specs.ListLaws.{On-first, On-back, off_or_not, on_differs, of_live}
-use Rattle.triple_arena_chain.specs.ListLaws.{live_next_in, live_on, holds_prev, turned}
-use Rattle.triple_arena_chain.specs.ChainLaws.{last_or-append}
-use Rattle.triple_arena_chain.specs.Lists.{Chain, Cyclic, members, IsChainOf}
+use Rattle.linked_lists.specs.LinkedLists.{Ends, next_in, prev_in, next_at, prev_at, IsAgreed}
+use Rattle.linked_lists.specs.LinkedLists.{first_or, last_or, IsSegment, Off, On, Apart, IsRing}
+use Rattle.linked_lists.specs.LinkedListLaws.{segment-back, few, Below}
+use Rattle.linked_lists.specs.UniquenessLaws.{ended, Ended, none, some_last}
+use Rattle.linked_lists.specs.ChainLaws.{On-first, On-back, off_or_not, on_differs, of_live}
+use Rattle.linked_lists.specs.ChainLaws.{live_next_in, live_on, holds_prev, turned}
+use Rattle.linked_lists.specs.LinkedListLaws.{last_or-append}
+use Rattle.linked_lists.specs.Chains.{Chain, Cyclic, members, IsChainOf}
 use Rattle.triple_arena_chain.specs.CanonicalLayout.{IsHead, IsClosed}
 
 module _ (e : ℕ → Option Ends) where

@@ -14,8 +14,8 @@ use Rattle.triple_arena.specs.Compression.{index_of, entry_of_listed, compacted}
 use Rattle.triple_arena.specs.Content.{Content, entry_at, live_count, some_counter}
 use Rattle.triple_arena.specs.LiveEntries.{live_entries, live_entries-length}
 use Rattle.triple_arena_chain.specs.LinkShape.{IndexLink}
-use Rattle.triple_arena_chain.specs.Chains.{Ends, next_in, prev_in, next_at, prev_at, IsAgreed}
-use Rattle.triple_arena_chain.specs.ListLaws.{live_prev_in}
+use Rattle.linked_lists.specs.LinkedLists.{Ends, next_in, prev_in, next_at, prev_at, IsAgreed}
+use Rattle.linked_lists.specs.ChainLaws.{live_prev_in}
 use Rattle.triple_arena_chain.specs.Links.{valued, values_in, entry_ends, ends_in, IsKept}
 use Rattle.triple_arena_chain.specs.Links.{IsChained, IsRelinked}
 use Rattle.triple_arena_chain.specs.Listed.{listed_value, listed_values}

@@ -4,9 +4,9 @@ use Rattle.std.proofs.Common.{◌∙◌, inl, inr}
 use Rattle.std.proofs.lemmas.Bool.Decides.{eqb_tells}
 use Rattle.triple_arena.specs.Content.{Content, entry_at, IsWellFormed}
 use Rattle.triple_arena_chain.specs.LinkShape.{IndexLink}
-use Rattle.triple_arena_chain.specs.Chains.{Ends, with_next, with_next_if, with_prev_if, linked}
-use Rattle.triple_arena_chain.specs.Chains.{unlinked, exchanged, IsAgreed, next_at, prev_at}
-use Rattle.triple_arena_chain.specs.Chains.{next_in, prev_in}
+use Rattle.linked_lists.specs.LinkedLists.{Ends, with_next, with_next_if, with_prev_if, linked}
+use Rattle.linked_lists.specs.LinkedLists.{unlinked, exchanged, IsAgreed, next_at, prev_at}
+use Rattle.linked_lists.specs.LinkedLists.{next_in, prev_in}
 use Rattle.triple_arena_chain.specs.declared.gap.Gap.{Gap}
 use Rattle.triple_arena_chain.specs.Kinds.{at_bridge}
 use Rattle.triple_arena_chain.specs.KindLaws.{found}
@@ -16,11 +16,11 @@ use Rattle.triple_arena_chain.specs.LinkLaws.{ends-with_next_of, ends-with_prev_
 use Rattle.triple_arena_chain.specs.LinkLaws.{values-with_next_of, values-with_prev_of}
 use Rattle.triple_arena_chain.specs.LinkLaws.{kept-with_next_of, kept-with_prev_of, kept_on}
 use Rattle.triple_arena_chain.specs.LinkLaws.{formed-with_next_of, formed-with_prev_of}
-use Rattle.triple_arena_chain.proofs.AgreedLemmas.{IsAgreed-linked, IsAgreed-unlinked, valid_next}
-use Rattle.triple_arena_chain.proofs.AgreedLemmas.{valid_prev}
-use Rattle.triple_arena_chain.proofs.ExchangeLemmas.{exchanged_is, exchanged_self, linked_twice}
-use Rattle.triple_arena_chain.proofs.ExchangeLemmas.{IsAgreed-exchanged}
-use Rattle.triple_arena_chain.specs.ChainLaws.{IsAgreed-same}
+use Rattle.linked_lists.specs.AgreedLaws.{IsAgreed-linked, IsAgreed-unlinked, valid_next}
+use Rattle.linked_lists.specs.AgreedLaws.{valid_prev}
+use Rattle.linked_lists.specs.ExchangeLaws.{exchanged_is, exchanged_self, linked_twice}
+use Rattle.linked_lists.specs.ExchangeLaws.{IsAgreed-exchanged}
+use Rattle.linked_lists.specs.LinkedListLaws.{IsAgreed-same}
 use Rattle.triple_arena_chain.proofs.InsertionLemmas.{with_next_if-same, with_prev_if-same}
 use Rattle.triple_arena_chain.proofs.PassLemmas.{live_as}
 
@@ -47,6 +47,13 @@ pub next_read : {I : Type 0} (number : I → ℕ) (o : Option Ends) (b n : Optio
     → n ≡ Some m → o ≡ Some (option_map number b, Some (number m))
 next_read number o b n m read is = sym read
     ∙ ap (λ x. Some (option_map number b, option_map number x)) is
+
+-- the ends that were read, where there is a previous one
+pub prev_read : {I : Type 0} (number : I → ℕ) (o : Option Ends) (b n : Option I) (m : I)
+    → Some (option_map number b, option_map number n) ≡ o
+    → b ≡ Some m → o ≡ Some (Some (number m), option_map number n)
+prev_read number o b n m read is = sym read
+    ∙ ap (λ x. Some (option_map number x, option_map number n)) is
 
 module _ {T : Type 0} where
   live_ends : (c : Content (IndexLink T)) (k : ℕ) (v : Ends) → ends_in c k ≡ Some v

@@ -11,10 +11,10 @@ use Rattle.triple_arena.specs.Entries.{without, value_if}
 use Rattle.triple_arena.specs.Content.{Content, entry_at, get, removed}
 use Rattle.triple_arena.specs.RemovalLaws.{free-removed, slots-removed}
 use Rattle.triple_arena_chain.specs.LinkShape.{IndexLink}
-use Rattle.triple_arena_chain.specs.Chains.{Ends, taken_out, first_or, last_or, On}
-use Rattle.triple_arena_chain.specs.ChainLaws.{segment-back}
-use Rattle.triple_arena_chain.specs.ListLaws.{segment-where, chain_where, live_in, off_or_not}
-use Rattle.triple_arena_chain.specs.Lists.{members}
+use Rattle.linked_lists.specs.LinkedLists.{Ends, taken_out, first_or, last_or, On}
+use Rattle.linked_lists.specs.LinkedListLaws.{segment-back}
+use Rattle.linked_lists.specs.ChainLaws.{segment-where, chain_where, live_in, off_or_not}
+use Rattle.linked_lists.specs.Chains.{members}
 use Rattle.triple_arena_chain.specs.Links.{values_in, link_ends, entry_ends, ends_in, IsChained}
 use Rattle.triple_arena_chain.specs.Links.{IsTakenOut}
 use Rattle.triple_arena_chain.specs.Drains.{IsWalk, dropped_all, next_or_prev, without_all}

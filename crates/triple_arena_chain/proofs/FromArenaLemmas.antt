@@ -2,7 +2,7 @@
 use Rattle.std.proofs.Common.{◌≡◌, ℕ, Some, option_map, ap, ◌∙◌}
 use Rattle.triple_arena.specs.Content.{Content, get}
 use Rattle.triple_arena_chain.specs.LinkShape.{IndexLink}
-use Rattle.triple_arena_chain.specs.Chains.{IsAgreed, next_at, prev_at, next_in, prev_in}
+use Rattle.linked_lists.specs.LinkedLists.{IsAgreed, next_at, prev_at, next_in, prev_in}
 use Rattle.triple_arena_chain.specs.KindLaws.{found}
 use Rattle.triple_arena_chain.specs.Links.{link_ends, ends_in}
 

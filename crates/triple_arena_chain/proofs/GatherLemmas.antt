@@ -4,12 +4,12 @@ use Rattle.std.proofs.Common.{Option, Some, None, IsSome, is_some, option_map, t
 use Rattle.std.proofs.Common.{sym, ap, subst, ◌∙◌, arith, inl, inr}
 use Rattle.std.specs.List.{range_with_len}
 use Rattle.std.proofs.lemmas.Bool.Decides.{eqb_tells, leb_tells}
-use Rattle.triple_arena_chain.specs.Chains.{Ends, next_in, prev_in, next_at, prev_at, IsAgreed}
-use Rattle.triple_arena_chain.specs.Chains.{first_or, On, IsRing}
-use Rattle.triple_arena_chain.specs.ListLaws.{On-first, On-back, Follows, Follows-append}
-use Rattle.triple_arena_chain.specs.ListLaws.{Follows-live, live_next_in, live_prev_in, linear_by}
-use Rattle.triple_arena_chain.specs.ListLaws.{ring_by, holds_next, holds_prev, turned}
-use Rattle.triple_arena_chain.specs.Lists.{Chain, Linear, Cyclic, members, IsChainOf}
+use Rattle.linked_lists.specs.LinkedLists.{Ends, next_in, prev_in, next_at, prev_at, IsAgreed}
+use Rattle.linked_lists.specs.LinkedLists.{first_or, On, IsRing}
+use Rattle.linked_lists.specs.ChainLaws.{On-first, On-back, Follows, Follows-append}
+use Rattle.linked_lists.specs.ChainLaws.{Follows-live, live_next_in, live_prev_in, linear_by}
+use Rattle.linked_lists.specs.ChainLaws.{ring_by, holds_next, holds_prev, turned}
+use Rattle.linked_lists.specs.Chains.{Chain, Linear, Cyclic, members, IsChainOf}
 use Rattle.triple_arena_chain.specs.Renaming.{ends_renamed, FollowsRenaming}
 use Rattle.triple_arena_chain.specs.CanonicalLayout.{IsHead, IsClosed}
 use Rattle.triple_arena_chain.proofs.RunLemmas.{run-append, run-on, run-off, run-within}

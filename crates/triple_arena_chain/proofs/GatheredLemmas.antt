@@ -11,11 +11,11 @@ use Rattle.std.proofs.lemmas.Bool.Decides.{eqb_tells}
 use Rattle.std.proofs.lemmas.List.FromFn.{length-range_with_len}
 use Rattle.triple_arena.specs.Content.{Content, IsWellFormed}
 use Rattle.triple_arena_chain.specs.LinkShape.{IndexLink}
-use Rattle.triple_arena_chain.specs.Chains.{Ends, next_in, next_at, IsAgreed, first_or, On, Apart}
-use Rattle.triple_arena_chain.specs.ListLaws.{On-first, On-front, On-back, live_next_in}
-use Rattle.triple_arena_chain.specs.ListLaws.{live_prev_in}
-use Rattle.triple_arena_chain.specs.Lists.{Chain, Linear, Cyclic, members, all_members, IsChainOf}
-use Rattle.triple_arena_chain.specs.Lists.{IsWritten, AreAllChainsOf}
+use Rattle.linked_lists.specs.LinkedLists.{Ends, next_in, next_at, IsAgreed, first_or, On, Apart}
+use Rattle.linked_lists.specs.ChainLaws.{On-first, On-front, On-back, live_next_in}
+use Rattle.linked_lists.specs.ChainLaws.{live_prev_in}
+use Rattle.linked_lists.specs.Chains.{Chain, Linear, Cyclic, members, all_members, IsChainOf}
+use Rattle.linked_lists.specs.Chains.{IsWritten, AreAllChainsOf}
 use Rattle.triple_arena_chain.specs.Links.{ends_in}
 use Rattle.triple_arena_chain.specs.Renaming.{renamed, ends_renamed, FollowsRenaming}
 use Rattle.triple_arena_chain.specs.CanonicalLayoutLaws.{laid_same}

@@ -4,8 +4,8 @@ use Rattle.std.proofs.Common.{is_some, option_map, refl, sym, ap, subst, ◌∙�
 use Rattle.std.proofs.lemmas.Bool.Decides.{eqb_tells, leb_tells}
 use Rattle.triple_arena.specs.Content.{Content, entry_at, IsWellFormed}
 use Rattle.triple_arena_chain.specs.LinkShape.{IndexLink}
-use Rattle.triple_arena_chain.specs.Chains.{Ends, next_at, prev_at, with_next, IsAgreed}
-use Rattle.triple_arena_chain.specs.ListLaws.{live_prev_in}
+use Rattle.linked_lists.specs.LinkedLists.{Ends, next_at, prev_at, with_next, IsAgreed}
+use Rattle.linked_lists.specs.ChainLaws.{live_prev_in}
 use Rattle.triple_arena_chain.specs.Links.{values_in, ends_in, with_next_of, IsKept}
 use Rattle.triple_arena_chain.specs.LinkLaws.{ends-with_next_of, kept-with_next_of}
 use Rattle.triple_arena_chain.specs.LinkLaws.{formed-with_next_of}

@@ -6,7 +6,7 @@ use Rattle.triple_arena.specs.InsertionLaws.{formed-grown, entry-in_room}
 use Rattle.triple_arena_chain.specs.LinkShape.{IndexLink}
 use Rattle.triple_arena_chain.specs.declared.gap.Gap.{Gap}
 use Rattle.triple_arena_chain.specs.Links.{entry_ends, ends_in, IsChained, IsLinkInserted}
-use Rattle.triple_arena_chain.specs.ChainLaws.{IsAgreed-same}
+use Rattle.linked_lists.specs.LinkedListLaws.{IsAgreed-same}
 
 module _ {T : Type 0} where
   pub chained-grown : (c d : Content (IndexLink T)) → IsChained c → d ≡ grown_if_full c

@@ -5,8 +5,8 @@ use Rattle.std.proofs.Common.{ap, subst, ◌∙◌, arith, inl, inr}
 use Rattle.std.proofs.lemmas.Bool.Decides.{leb_tells}
 use Rattle.triple_arena.specs.Content.{Content}
 use Rattle.triple_arena_chain.specs.LinkShape.{IndexLink}
-use Rattle.triple_arena_chain.specs.Chains.{Ends, prev_in, next_at, prev_at}
-use Rattle.triple_arena_chain.specs.ListLaws.{live_next_in}
+use Rattle.linked_lists.specs.LinkedLists.{Ends, prev_in, next_at, prev_at}
+use Rattle.linked_lists.specs.ChainLaws.{live_next_in}
 use Rattle.triple_arena_chain.specs.Links.{ends_in}
 use Rattle.triple_arena_chain.specs.CanonicalLayout.{IsHead}
 use Rattle.triple_arena_chain.specs.Notes.{IsLed, AreLaid, IsStart}

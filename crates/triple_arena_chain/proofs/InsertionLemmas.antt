@@ -12,8 +12,8 @@ use Rattle.triple_arena.specs.InsertionLaws.{slots-inserted, formed-inserted}
 use Rattle.triple_arena_chain.specs.LinkShape.{IndexLink}
 use Rattle.triple_arena_chain.specs.declared.gap.Gap.{Gap}
 use Rattle.triple_arena_chain.specs.declared.gap.Gap.TheVariants.{Between, OwnRing}
-use Rattle.triple_arena_chain.specs.Chains.{Ends, with_next_if, with_prev_if, added, put_in}
-use Rattle.triple_arena_chain.specs.Chains.{IsGap, IsAgreed, next_at, prev_at, next_in, prev_in}
+use Rattle.linked_lists.specs.LinkedLists.{Ends, with_next_if, with_prev_if, added}
+use Rattle.linked_lists.specs.LinkedLists.{IsAgreed, next_at, prev_at, next_in, prev_in}
 use Rattle.triple_arena_chain.specs.Links.{valued, values_in, entry_ends, ends_in, link_ends}
 use Rattle.triple_arena_chain.specs.Links.{link_for, joined_to, with_next_of, IsKept, IsChained}
 use Rattle.triple_arena_chain.specs.Links.{IsLinkInserted}
@@ -21,10 +21,10 @@ use Rattle.triple_arena_chain.specs.LinkLaws.{ends-with_next_of, ends-with_prev_
 use Rattle.triple_arena_chain.specs.LinkLaws.{values-with_next_of, values-with_prev_of}
 use Rattle.triple_arena_chain.specs.LinkLaws.{kept-with_next_of, kept-with_prev_of, kept_on}
 use Rattle.triple_arena_chain.specs.LinkLaws.{formed-with_next_of, formed-with_prev_of}
-use Rattle.triple_arena_chain.specs.ChainLaws.{IsAgreed-same}
-use Rattle.triple_arena_chain.specs.Lists.{IsPutAt}
-use Rattle.triple_arena_chain.proofs.GapLemmas.{IsAgreed-put_between}
-use Rattle.triple_arena_chain.proofs.PutInLemmas.{is_put_in, is_own_ring}
+use Rattle.linked_lists.specs.LinkedListLaws.{IsAgreed-same}
+use Rattle.triple_arena_chain.specs.Gaps.{IsGap, put_in, IsPutAt}
+use Rattle.linked_lists.specs.GapLaws.{IsAgreed-put_between}
+use Rattle.linked_lists.specs.PutInLaws.{is_put_in, is_own_ring}
 
 pub with_next_if-same : (e f : ℕ → Option Ends) (o n : Option ℕ) → ((j : ℕ) → f j ≡ e j) → (i : ℕ)
     → with_next_if f o n i ≡ with_next_if e o n i

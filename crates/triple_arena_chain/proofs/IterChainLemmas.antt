@@ -2,7 +2,7 @@
 use Rattle.std.proofs.Common.{◌≡◌, ℕ, suc, zero, ◌+◌, Bool, true, false, List, [], ◌∷◌, length}
 use Rattle.std.proofs.Common.{Option, Some, None, refl, sym, ap, subst, ◌∙◌}
 use Rattle.triple_arena.specs.Content.{Content, entry_at}
-use Rattle.triple_arena_chain.specs.Chains.{Ends, prev_at}
+use Rattle.linked_lists.specs.LinkedLists.{Ends, prev_at}
 use Rattle.triple_arena_chain.specs.LinkShape.{IndexLink}
 use Rattle.triple_arena_chain.specs.IterChains.{link_and, links_along, backwards_at, lent_walk}
 use Rattle.triple_arena_chain.specs.IterChains.{settled}

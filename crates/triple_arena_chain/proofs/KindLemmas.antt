@@ -16,8 +16,9 @@ use Rattle.triple_arena_chain.specs.declared.kind.InsertKind.TheVariants.{AtInte
 use Rattle.triple_arena_chain.specs.declared.kind.InsertKind.TheVariants.{BridgeInx}
 use Rattle.triple_arena_chain.specs.declared.gap.Gap.{Gap}
 use Rattle.triple_arena_chain.specs.declared.gap.Gap.TheVariants.{Between, OwnRing}
-use Rattle.triple_arena_chain.specs.Chains.{Ends, IsAgreed, IsBetween, IsGap, next_at, prev_at}
-use Rattle.triple_arena_chain.specs.Chains.{next_in, prev_in}
+use Rattle.linked_lists.specs.LinkedLists.{Ends, IsAgreed, IsBetween, next_at, prev_at}
+use Rattle.triple_arena_chain.specs.Gaps.{IsGap}
+use Rattle.linked_lists.specs.LinkedLists.{next_in, prev_in}
 use Rattle.triple_arena_chain.specs.KindLaws.{found}
 use Rattle.triple_arena_chain.specs.Kinds.{at_end, at_start, after_link, before_link, at_interlink}
 use Rattle.triple_arena_chain.specs.Kinds.{at_bridge, gap_of}

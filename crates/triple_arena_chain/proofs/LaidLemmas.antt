@@ -5,10 +5,10 @@ use Rattle.std.proofs.Common.{inr, ◌⊎◌}
 use Rattle.std.proofs.lemmas.Bool.Decides.{eqb_tells, leb_tells}
 use Rattle.triple_arena.specs.Content.{Content, IsWellFormed}
 use Rattle.triple_arena_chain.specs.LinkShape.{IndexLink}
-use Rattle.triple_arena_chain.specs.Chains.{Ends, next_in, next_at, prev_at, IsAgreed}
+use Rattle.linked_lists.specs.LinkedLists.{Ends, next_in, next_at, prev_at, IsAgreed}
 use Rattle.triple_arena_chain.specs.CanonicalLayoutLaws.{laid_same}
 use Rattle.triple_arena_chain.specs.LinkLaws.{kept_on}
-use Rattle.triple_arena_chain.specs.ListLaws.{chain_where, live_prev_in}
+use Rattle.linked_lists.specs.ChainLaws.{chain_where, live_prev_in}
 use Rattle.triple_arena_chain.specs.Links.{values_in, ends_in, IsKept, IsChained}
 use Rattle.triple_arena_chain.specs.Renaming.{renamed}
 use Rattle.triple_arena_chain.specs.CanonicalLayout.{IsLaidOut, IsAlike, IsAllGathered}

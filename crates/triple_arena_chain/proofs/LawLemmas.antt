@@ -4,22 +4,22 @@ use Rattle.std.proofs.Common.{option_map, true, false, refl, ap, ◌∙◌, arit
 use Rattle.triple_arena.specs.Content.{Content, entry_at}
 use Rattle.triple_arena.specs.ContentLaws.{live_entry}
 use Rattle.triple_arena_chain.specs.LinkShape.{IndexLink}
-use Rattle.triple_arena_chain.specs.Chains.{Ends, with_next, with_prev, linked, unlinked, exchanged}
-use Rattle.triple_arena_chain.specs.Chains.{next_in, prev_in, next_at}
-use Rattle.triple_arena_chain.specs.ChainLaws.{stands}
-use Rattle.triple_arena_chain.specs.AllChainsLaws.{all_chains}
-use Rattle.triple_arena_chain.specs.Lists.{Chain, AreChains}
+use Rattle.linked_lists.specs.LinkedLists.{Ends, with_next, with_prev, linked, unlinked, exchanged}
+use Rattle.linked_lists.specs.LinkedLists.{next_in, prev_in, next_at}
+use Rattle.linked_lists.specs.LinkedListLaws.{stands}
+use Rattle.linked_lists.specs.AllChainsLaws.{all_chains}
+use Rattle.linked_lists.specs.Chains.{Chain, AreChains}
 use Rattle.triple_arena_chain.specs.Kinds.{at_bridge}
 use Rattle.triple_arena_chain.specs.Links.{entry_ends, ends_in, ends_found, IsChained, IsRelinked}
 use Rattle.triple_arena_chain.specs.Links.{ExchangesNexts}
-use Rattle.triple_arena_chain.specs.UniquenessLaws.{IsInOneChain, stands_once}
-use Rattle.triple_arena_chain.proofs.AgreedLemmas.{next_at_p}
+use Rattle.linked_lists.specs.UniquenessLaws.{IsInOneChain, stands_once}
+use Rattle.linked_lists.specs.AgreedLaws.{next_at_p}
 use Rattle.triple_arena_chain.specs.LinkLaws.{kept_on}
 use Rattle.triple_arena_chain.proofs.InsertionLemmas.{with_next_if-same, with_prev_if-same}
 use Rattle.triple_arena_chain.specs.KindLaws.{found}
 use Rattle.triple_arena_chain.proofs.RestoredLemmas.{still_next, found_by_next}
-use Rattle.triple_arena_chain.proofs.ReversalLemmas.{linked_back, unlinked_back, exchanged_back}
-use Rattle.triple_arena_chain.proofs.ReversalLemmas.{next_exchanged}
+use Rattle.linked_lists.specs.ReversalLaws.{linked_back, unlinked_back, exchanged_back}
+use Rattle.linked_lists.specs.ReversalLaws.{next_exchanged}
 
 -- two that have no neighbors to each other's side
 record AreOpen (o o' : Option Ends) : Type 0 where

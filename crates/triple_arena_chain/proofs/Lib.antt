@@ -1,11 +1,4 @@
-pub mod AgreedLemmas
 pub mod FromArenaLemmas
-pub mod GapLemmas
-pub mod TakeOutLemmas
-pub mod ExchangeLemmas
-pub mod ListLemmas
-pub mod PutInLemmas
-pub mod TurnLemmas
 pub mod InsertionLemmas
 pub mod KindLemmas
 pub mod ConnectionLemmas
@@ -13,7 +6,6 @@ pub mod NeighborLemmas
 pub mod GrowthLemmas
 pub mod LendLemmas
 pub mod WalkLemmas
-pub mod ReversalLemmas
 pub mod RestoredLemmas
 pub mod RemovalLemmas
 pub mod MoveLemmas
@@ -36,7 +28,6 @@ pub mod GatherLemmas
 pub mod ChainStartLemmas
 pub mod GatheredLemmas
 pub mod CanonicalLayoutLemmas
-pub mod PositionLemmas
 pub mod MovedLinkLemmas
 pub mod MovedChainLemmas
 pub mod MovingLemmas

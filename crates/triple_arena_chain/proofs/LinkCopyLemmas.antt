@@ -15,8 +15,8 @@ use Rattle.triple_arena.specs.CopyLaws.{entry-copied, live_entries-rise}
 use Rattle.triple_arena.specs.Entries.{look_up}
 use Rattle.triple_arena.specs.LiveEntries.{live_entries, entry-listed}
 use Rattle.triple_arena_chain.specs.LinkShape.{IndexLink}
-use Rattle.triple_arena_chain.specs.Chains.{Ends, IsAgreed}
-use Rattle.triple_arena_chain.specs.ChainLaws.{IsAgreed-same}
+use Rattle.linked_lists.specs.LinkedLists.{Ends, IsAgreed}
+use Rattle.linked_lists.specs.LinkedListLaws.{IsAgreed-same}
 use Rattle.triple_arena_chain.specs.LinkCopies.{IsLinkedCopy, listed_ends}
 use Rattle.triple_arena_chain.specs.Links.{valued, values_in, entry_ends, ends_in, IsChained}
 use Rattle.triple_arena_chain.specs.Listed.{listed_value}

@@ -5,25 +5,25 @@ use Rattle.std.proofs.lemmas.Bool.{eq-eqb, ne_eqb}
 use Rattle.std.proofs.lemmas.Bool.Decides.{eqb_tells}
 use Rattle.triple_arena.specs.Content.{Content, entry_at}
 use Rattle.triple_arena_chain.specs.LinkShape.{IndexLink}
-use Rattle.triple_arena_chain.specs.Chains.{Ends, added, bridged, dropped, taken_from, taken_out}
-use Rattle.triple_arena_chain.specs.Chains.{put_between, next_in, prev_in, next_at, prev_at}
-use Rattle.triple_arena_chain.specs.Chains.{IsAgreed, IsBetween}
+use Rattle.linked_lists.specs.LinkedLists.{Ends, added, bridged, dropped, taken_from, taken_out}
+use Rattle.linked_lists.specs.LinkedLists.{put_between, next_in, prev_in, next_at, prev_at}
+use Rattle.linked_lists.specs.LinkedLists.{IsAgreed, IsBetween}
 use Rattle.triple_arena_chain.specs.declared.gap.Gap.TheVariants.{Between}
 use Rattle.triple_arena_chain.specs.Links.{entry_ends, ends_in, with_next_of, with_prev_of}
 use Rattle.triple_arena_chain.specs.Links.{bridged_over, joined_to, IsChained}
 use Rattle.triple_arena_chain.specs.LinkLaws.{kept_on}
-use Rattle.triple_arena_chain.specs.ChainLaws.{IsAgreed-same}
-use Rattle.triple_arena_chain.specs.TakenLaws.{is_taken}
+use Rattle.linked_lists.specs.LinkedListLaws.{IsAgreed-same}
+use Rattle.linked_lists.specs.TakenLaws.{is_taken}
 use Rattle.triple_arena_chain.specs.Moves.{gap_after, gap_before, IsMoved}
 use Rattle.triple_arena_chain.proofs.ConnectionLemmas.{both_written, both_formed, live_written}
-use Rattle.triple_arena_chain.proofs.GapLemmas.{IsAgreed-put_between}
+use Rattle.linked_lists.specs.GapLaws.{IsAgreed-put_between}
 use Rattle.triple_arena_chain.proofs.InsertionLemmas.{ends-joined, values-joined, kept-joined}
 use Rattle.triple_arena_chain.proofs.InsertionLemmas.{formed-joined}
 use Rattle.triple_arena_chain.proofs.KindLemmas.{gap_after as is_gap_after}
 use Rattle.triple_arena_chain.proofs.KindLemmas.{gap_before as is_gap_before}
-use Rattle.triple_arena_chain.proofs.PutInLemmas.{is_put_in}
+use Rattle.linked_lists.specs.PutInLaws.{is_put_in}
 use Rattle.triple_arena_chain.proofs.RemovalLemmas.{entry-bridged}
-use Rattle.triple_arena_chain.proofs.TakeOutLemmas.{IsAgreed-taken}
+use Rattle.linked_lists.specs.TakeOutLaws.{IsAgreed-taken}
 
 module _ {T : Type 0} where
   -- what was live is so after a write of a next and one of a previous one

@@ -3,17 +3,17 @@ use Rattle.std.proofs.Common.{◌≡◌, ◌≢◌, ℕ, ◌+◌, ◌<◌, ◌�
 use Rattle.std.proofs.Common.{IsSome, is_some, true≢false, refl, sym, ap, subst, ◌∙◌, arith, inl}
 use Rattle.std.proofs.Common.{inr, ◌⊎◌}
 use Rattle.std.proofs.lemmas.Bool.Decides.{eqb_tells, leb_tells}
-use Rattle.triple_arena_chain.specs.Chains.{Ends, next_in, prev_in, next_at, prev_at, IsAgreed}
-use Rattle.triple_arena_chain.specs.Chains.{first_or, last_or, IsSegment, Off, On, Apart, IsLinear}
-use Rattle.triple_arena_chain.specs.Chains.{Standing, linear, ring, reprev, with_prev}
-use Rattle.triple_arena_chain.specs.ChainLaws.{segment-back, last_or-append, stands}
-use Rattle.triple_arena_chain.specs.UniquenessLaws.{linear_apart}
-use Rattle.triple_arena_chain.specs.ListLaws.{On-first, On-front, On-back, On-split, On-either}
-use Rattle.triple_arena_chain.specs.ListLaws.{Apart-split, Apart-append, on_differs, off_or_not}
-use Rattle.triple_arena_chain.specs.ListLaws.{first_on, live_in, live_next_in, live_prev_in}
-use Rattle.triple_arena_chain.specs.ListLaws.{holds_next, holds_prev, ring_or_linear, chain_where}
-use Rattle.triple_arena_chain.specs.Lists.{Chain, Linear, Cyclic, members, all_members, IsChainOf}
-use Rattle.triple_arena_chain.specs.Lists.{IsWritten, AreAllChainsOf}
+use Rattle.linked_lists.specs.LinkedLists.{Ends, next_in, prev_in, next_at, prev_at, IsAgreed}
+use Rattle.linked_lists.specs.LinkedLists.{first_or, last_or, IsSegment, Off, On, Apart, IsLinear}
+use Rattle.linked_lists.specs.LinkedLists.{Standing, linear, ring, reprev, with_prev}
+use Rattle.linked_lists.specs.LinkedListLaws.{segment-back, last_or-append, stands}
+use Rattle.linked_lists.specs.UniquenessLaws.{linear_apart}
+use Rattle.linked_lists.specs.ChainLaws.{On-first, On-front, On-back, On-split, On-either}
+use Rattle.linked_lists.specs.ChainLaws.{Apart-split, Apart-append, on_differs, off_or_not}
+use Rattle.linked_lists.specs.ChainLaws.{first_on, live_in, live_next_in, live_prev_in}
+use Rattle.linked_lists.specs.ChainLaws.{holds_next, holds_prev, ring_or_linear, chain_where}
+use Rattle.linked_lists.specs.Chains.{Chain, Linear, Cyclic, members, all_members, IsChainOf}
+use Rattle.linked_lists.specs.Chains.{IsWritten, AreAllChainsOf}
 use Rattle.triple_arena_chain.specs.CanonicalLayout.{IsHead}
 use Rattle.triple_arena_chain.specs.CanonicalTransfer.{AreRising}
 use Rattle.triple_arena_chain.proofs.GatheredLemmas.{all_append, are_append}

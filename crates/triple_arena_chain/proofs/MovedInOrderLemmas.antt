@@ -16,13 +16,13 @@ use Rattle.triple_arena.specs.Entries.{look_up}
 use Rattle.triple_arena.specs.Transfer.{entry_before, entry_after, wrapped, steps_wrap}
 use Rattle.triple_arena.specs.Transfer.{IsTransferred, IsFilled}
 use Rattle.triple_arena_chain.specs.LinkShape.{IndexLink}
-use Rattle.triple_arena_chain.specs.Chains.{Ends, next_in, prev_in, next_at, prev_at, IsAgreed, On}
-use Rattle.triple_arena_chain.specs.AllChainsLaws.{all_live}
-use Rattle.triple_arena_chain.specs.ChainLaws.{off_or_on}
+use Rattle.linked_lists.specs.LinkedLists.{Ends, next_in, prev_in, next_at, prev_at, IsAgreed, On}
+use Rattle.linked_lists.specs.AllChainsLaws.{all_live}
+use Rattle.linked_lists.specs.LinkedListLaws.{off_or_on}
 use Rattle.triple_arena_chain.specs.CanonicalTransfer.{IsMovedInOrder}
 use Rattle.triple_arena_chain.specs.IterChains.{links_along}
-use Rattle.triple_arena_chain.specs.ListLaws.{live_next_in, live_prev_in}
-use Rattle.triple_arena_chain.specs.Lists.{all_members}
+use Rattle.linked_lists.specs.ChainLaws.{live_next_in, live_prev_in}
+use Rattle.linked_lists.specs.Chains.{all_members}
 use Rattle.triple_arena_chain.specs.Links.{valued, values_in, entry_ends, ends_in, IsChained}
 use Rattle.triple_arena_chain.specs.Listed.{listed_values}
 use Rattle.triple_arena_chain.specs.ListedLaws.{value-listed, listed_values-length}
@@ -31,7 +31,7 @@ use Rattle.triple_arena_chain.specs.Values.{room_in}
 use Rattle.triple_arena_chain.proofs.GatheredLemmas.{within_slots}
 use Rattle.triple_arena_chain.proofs.ListedLemmas.{none_listed}
 use Rattle.triple_arena_chain.proofs.RenamingLemmas.{renamed_by}
-use Rattle.triple_arena_chain.proofs.PositionLemmas.{place_in, place_apart, place_onto, places_run}
+use Rattle.linked_lists.specs.PositionLaws.{place_in, place_apart, place_onto, places_run}
 use Rattle.triple_arena_chain.proofs.MovedChainLemmas.{rising_of}
 use Rattle.triple_arena_chain.proofs.MovingLemmas.{AreChainsMoved}
 
@@ -114,10 +114,10 @@ module _ (to : ℕ → ℕ) (e e' : ℕ → Option Ends) (agreed : IsAgreed e)
       }) apart
       image_agreed
 
-module _ {Q U P T F : Type 0} (old_index old_generation : Q → ℕ) (index generation : P → ℕ)
-    (step : F → Q → InvalidationOption U → P → T → F → Type 0) (f : F) (last : Option ℕ)
-    (old : Content (IndexLink U)) (g : ℕ) (room : Room)
-    (low : ℕ) (f' : F) (from : Content (IndexLink U)) (into : Content (IndexLink T))
+module _ {Q U P T F : Type 0} {old_index old_generation : Q → ℕ} {index generation : P → ℕ}
+    {step : F → Q → InvalidationOption U → P → T → F → Type 0} {f : F} {last : Option ℕ}
+    {old : Content (IndexLink U)} {g : ℕ} {room : Room}
+    {low : ℕ} {f' : F} {from : Content (IndexLink U)} {into : Content (IndexLink T)}
     (chained : IsChained old)
     (m : AreChainsMoved old_index old_generation index generation step f last old
     g room low f' from into)

@@ -23,14 +23,14 @@ use Rattle.triple_arena.specs.InsertionLaws.{room-inserted, formed-inserted}
 use Rattle.triple_arena.specs.LiveEntries.{listed_from}
 use Rattle.triple_arena.specs.Transfer.{Transfer, entry_before, entry_after, wrapped, steps_wrap}
 use Rattle.triple_arena_chain.specs.LinkShape.{IndexLink}
-use Rattle.triple_arena_chain.specs.Chains.{Ends, Off, On, reprev, with_prev}
-use Rattle.triple_arena_chain.specs.ChainLaws.{Off-front, Off-back}
+use Rattle.linked_lists.specs.LinkedLists.{Ends, Off, On, reprev, with_prev}
+use Rattle.linked_lists.specs.LinkedListLaws.{Off-front, Off-back}
 use Rattle.triple_arena_chain.specs.IterChains.{link_and, links_along}
 use Rattle.triple_arena_chain.specs.LinkLaws.{ends-with_prev_of, values-with_prev_of}
 use Rattle.triple_arena_chain.specs.LinkLaws.{kept-with_prev_of, formed-with_prev_of}
 use Rattle.triple_arena_chain.specs.Links.{valued, values_in, IsKept, link_ends, entry_ends}
 use Rattle.triple_arena_chain.specs.Links.{ends_in, with_prev_of}
-use Rattle.triple_arena_chain.specs.ListLaws.{On-either, on_differs}
+use Rattle.linked_lists.specs.ChainLaws.{On-either, on_differs}
 use Rattle.triple_arena_chain.specs.Listed.{listed_value, listed_values}
 use Rattle.triple_arena_chain.specs.ListedLaws.{listed_values-length}
 use Rattle.triple_arena_chain.specs.Renaming.{ends_renamed}

@@ -16,12 +16,12 @@ use Rattle.triple_arena.specs.Walk.{Walk, IsAhead, IsFirstLive}
 use Rattle.triple_arena.specs.Content.{AllVacant, Content, entry_at, live_count, some_counter}
 use Rattle.triple_arena.specs.Content.{arena_capacity, inserted, IsWellFormed}
 use Rattle.triple_arena_chain.specs.LinkShape.{IndexLink}
-use Rattle.triple_arena_chain.specs.Chains.{Ends, next_in, prev_in, next_at, prev_at, IsAgreed}
-use Rattle.triple_arena_chain.specs.Chains.{first_or, last_or, Off, On, Apart, reprev, with_prev}
-use Rattle.triple_arena_chain.specs.ChainLaws.{off_or_on, last_or-append}
-use Rattle.triple_arena_chain.specs.ListLaws.{On-back, On-split, Apart-split, Apart-append}
-use Rattle.triple_arena_chain.specs.ListLaws.{on_differs, off_or_not, of_live, holds_next}
-use Rattle.triple_arena_chain.specs.Lists.{Chain, members, all_members, IsChainOf}
+use Rattle.linked_lists.specs.LinkedLists.{Ends, next_in, prev_in, next_at, prev_at, IsAgreed}
+use Rattle.linked_lists.specs.LinkedLists.{first_or, last_or, Off, On, Apart, reprev, with_prev}
+use Rattle.linked_lists.specs.LinkedListLaws.{off_or_on, last_or-append}
+use Rattle.linked_lists.specs.ChainLaws.{On-back, On-split, Apart-split, Apart-append}
+use Rattle.linked_lists.specs.ChainLaws.{on_differs, off_or_not, of_live, holds_next}
+use Rattle.linked_lists.specs.Chains.{Chain, members, all_members, IsChainOf}
 use Rattle.triple_arena_chain.specs.LinkLaws.{values-with_prev_of}
 use Rattle.triple_arena_chain.specs.Links.{valued, values_in, entry_ends, ends_in, with_prev_of}
 use Rattle.triple_arena_chain.specs.Links.{IsChained}
@@ -33,8 +33,8 @@ use Rattle.triple_arena_chain.proofs.GatheredLemmas.{all_append}
 use Rattle.triple_arena_chain.proofs.ListedLemmas.{values_listed}
 use Rattle.triple_arena_chain.proofs.PassLemmas.{none_of, live_ends}
 use Rattle.triple_arena_chain.proofs.WalkLemmas.{bounded}
-use Rattle.triple_arena_chain.proofs.PositionLemmas.{place_in, place_front, place_here}
-use Rattle.triple_arena_chain.proofs.PositionLemmas.{place_within, place_apart}
+use Rattle.linked_lists.specs.PositionLaws.{place_in, place_front, place_here}
+use Rattle.linked_lists.specs.PositionLaws.{place_within, place_apart}
 use Rattle.triple_arena_chain.proofs.MovedLinkLemmas.{AreTaken, AreCalled, ArePlaced, taken_none}
 use Rattle.triple_arena_chain.proofs.MovedLinkLemmas.{called_none, placed_none, taken_more}
 use Rattle.triple_arena_chain.proofs.MovedLinkLemmas.{called_more, called_same, placed_more}

@@ -3,7 +3,7 @@ use Rattle.std.proofs.Common.{◌≡◌, ℕ, Option, Some, None, IsSome, IfSome
 use Rattle.std.proofs.Common.{true≢false, refl, sym, ap, ◌∙◌}
 use Rattle.triple_arena.specs.Content.{Content, entry_at, get}
 use Rattle.triple_arena_chain.specs.LinkShape.{IndexLink}
-use Rattle.triple_arena_chain.specs.Chains.{Ends, prev_in, next_in}
+use Rattle.linked_lists.specs.LinkedLists.{Ends, prev_in, next_in}
 use Rattle.triple_arena_chain.specs.Links.{link_ends, ends_in, ends_found, IsChained}
 use Rattle.triple_arena_chain.specs.Values.{ptr_to}
 use Rattle.triple_arena_chain.specs.KindLaws.{found}

@@ -7,16 +7,16 @@ use Rattle.std.proofs.lemmas.Bool.Decides.{eqb_tells, leb_tells}
 use Rattle.triple_arena.specs.Content.{Content, entry_at, IsWellFormed}
 use Rattle.triple_arena_chain.specs.LinkLaws.{kept_on}
 use Rattle.triple_arena_chain.specs.LinkShape.{IndexLink}
-use Rattle.triple_arena_chain.specs.Chains.{Ends, next_in, prev_in, next_at, prev_at, renext}
-use Rattle.triple_arena_chain.specs.Chains.{reprev, with_next, with_next_if}
+use Rattle.linked_lists.specs.LinkedLists.{Ends, next_in, prev_in, next_at, prev_at, renext}
+use Rattle.linked_lists.specs.LinkedLists.{reprev, with_next, with_next_if}
 use Rattle.triple_arena_chain.specs.Links.{values_in, ends_in, IsKept}
-use Rattle.triple_arena_chain.specs.ListLaws.{live_next_in, live_prev_in}
+use Rattle.linked_lists.specs.ChainLaws.{live_next_in, live_prev_in}
 use Rattle.triple_arena_chain.specs.Renaming.{ends_renamed}
 use Rattle.triple_arena_chain.specs.CanonicalLayout.{swapped_index, under}
 use Rattle.triple_arena_chain.specs.Notes.{LeadsTo, IsLed, IsBrought, AreNoted}
-use Rattle.triple_arena_chain.proofs.AgreedLemmas.{next_reprev}
+use Rattle.linked_lists.specs.AgreedLaws.{next_reprev}
 use Rattle.triple_arena_chain.proofs.PassLemmas.{live_as, live_ends, some_valued}
-use Rattle.triple_arena_chain.proofs.GapLemmas.{prev-with_next_if}
+use Rattle.linked_lists.specs.GapLaws.{prev-with_next_if}
 use Rattle.triple_arena_chain.proofs.SwapLemmas.{some_under, swap_i, swap_j, swap_other, swap_twice}
 use Rattle.triple_arena_chain.proofs.SwapLemmas.{next-renamed}
 

@@ -9,8 +9,8 @@ use Rattle.triple_arena.specs.Content.{Content, entry_at, IsWellFormed}
 use Rattle.triple_arena.specs.Entries.{generation_at}
 use Rattle.triple_arena.specs.Walk.{Walk, IsFirstLive, past}
 use Rattle.triple_arena_chain.specs.LinkShape.{IndexLink}
-use Rattle.triple_arena_chain.specs.Chains.{Ends, next_in, prev_in, next_at, prev_at, renext}
-use Rattle.triple_arena_chain.specs.Chains.{reprev}
+use Rattle.linked_lists.specs.LinkedLists.{Ends, next_in, prev_in, next_at, prev_at, renext}
+use Rattle.linked_lists.specs.LinkedLists.{reprev}
 use Rattle.triple_arena_chain.specs.LinkLaws.{ends-with_prev_of, ends-with_next_of}
 use Rattle.triple_arena_chain.specs.LinkLaws.{values-with_prev_of, values-with_next_of}
 use Rattle.triple_arena_chain.specs.LinkLaws.{kept-with_prev_of, kept-with_next_of, kept_on}

@@ -6,14 +6,14 @@ use Rattle.std.proofs.lemmas.Bool.Decides.{eqb_tells, leb_tells}
 use Rattle.triple_arena.specs.Content.{Content, entry_at, IsWellFormed}
 use Rattle.triple_arena_chain.specs.LinkLaws.{kept_on}
 use Rattle.triple_arena_chain.specs.LinkShape.{IndexLink}
-use Rattle.triple_arena_chain.specs.Chains.{Ends, next_in, prev_in, next_at, prev_at, with_prev_if}
-use Rattle.triple_arena_chain.specs.Chains.{IsAgreed}
-use Rattle.triple_arena_chain.specs.ListLaws.{live_next_in, live_prev_in}
+use Rattle.linked_lists.specs.LinkedLists.{Ends, next_in, prev_in, next_at, prev_at, with_prev_if}
+use Rattle.linked_lists.specs.LinkedLists.{IsAgreed}
+use Rattle.linked_lists.specs.ChainLaws.{live_next_in, live_prev_in}
 use Rattle.triple_arena_chain.specs.Links.{values_in, ends_in, with_prev_of, IsKept, IsRelinked}
 use Rattle.triple_arena_chain.specs.Notes.{IsRejoinable, up_to, before_past}
 use Rattle.triple_arena_chain.proofs.ConnectionLemmas.{both_written, both_formed}
 use Rattle.triple_arena_chain.proofs.PassLemmas.{live_as, live_ends}
-use Rattle.triple_arena_chain.proofs.GapLemmas.{is_it, next-with_prev_if, prev-hit, prev-miss}
+use Rattle.linked_lists.specs.GapLaws.{is_it, next-with_prev_if, prev-hit, prev-miss}
 
 up_to_is : (n : ℕ) (o : Option ℕ) (q : ℕ) → up_to n o ≡ Some q → (o ≡ Some q) × (q ≤ n)
 up_to_is n None q is = absurd (cc)

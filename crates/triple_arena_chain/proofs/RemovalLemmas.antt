@@ -9,17 +9,17 @@ use Rattle.triple_arena.specs.RemovalLaws.{entry-removed, live-removed, counter-
 use Rattle.triple_arena.specs.RemovalLaws.{free-removed, slots-removed, room-removed}
 use Rattle.triple_arena.specs.RemovalLaws.{formed-removed}
 use Rattle.triple_arena_chain.specs.LinkShape.{IndexLink}
-use Rattle.triple_arena_chain.specs.Chains.{dropped, bridged, taken_from, next_in, prev_in}
+use Rattle.linked_lists.specs.LinkedLists.{dropped, bridged, taken_from, next_in, prev_in}
 use Rattle.triple_arena_chain.specs.declared.gap.Gap.TheVariants.{Between}
 use Rattle.triple_arena_chain.specs.Links.{valued, entry_ends, ends_in, with_next_of, with_prev_of}
 use Rattle.triple_arena_chain.specs.Links.{bridged_over}
 use Rattle.triple_arena_chain.specs.Links.{AreNeighborsLive, IsChained, IsTakenOut}
 use Rattle.triple_arena_chain.specs.LinkLaws.{entry-with_link}
-use Rattle.triple_arena_chain.specs.TakenLaws.{is_taken}
-use Rattle.triple_arena_chain.specs.ChainLaws.{IsAgreed-same}
+use Rattle.linked_lists.specs.TakenLaws.{is_taken}
+use Rattle.linked_lists.specs.LinkedListLaws.{IsAgreed-same}
 use Rattle.triple_arena_chain.proofs.ConnectionLemmas.{both_written, both_formed, live_next}
 use Rattle.triple_arena_chain.proofs.ConnectionLemmas.{live_prev}
-use Rattle.triple_arena_chain.proofs.TakeOutLemmas.{IsAgreed-taken}
+use Rattle.linked_lists.specs.TakeOutLaws.{IsAgreed-taken}
 
 some_is : {A : Type 0} {a b : A} → Some a ≡ Some b → a ≡ b
 some_is h = cc

@@ -7,12 +7,12 @@ use Rattle.std.specs.Prelude.{slice_get}
 use Rattle.std.proofs.lemmas.Bool.Decides.{leb_tells}
 use Rattle.triple_arena.specs.Content.{Content, entry_at}
 use Rattle.triple_arena.specs.LiveEntries.{listed_from}
-use Rattle.triple_arena_chain.specs.Chains.{Ends, next_at, prev_at, IsAgreed, first_or, last_or}
-use Rattle.triple_arena_chain.specs.Chains.{IsSegment, Off, On, Apart}
-use Rattle.triple_arena_chain.specs.ChainLaws.{On-cons}
-use Rattle.triple_arena_chain.specs.ListLaws.{of_live, live_next_in, live_prev_in, live_on}
-use Rattle.triple_arena_chain.specs.ListLaws.{On-first}
-use Rattle.triple_arena_chain.specs.Lists.{Chain, Linear, Cyclic, IsChainOf}
+use Rattle.linked_lists.specs.LinkedLists.{Ends, next_at, prev_at, IsAgreed, first_or, last_or}
+use Rattle.linked_lists.specs.LinkedLists.{IsSegment, Off, On, Apart}
+use Rattle.linked_lists.specs.LinkedListLaws.{On-cons}
+use Rattle.linked_lists.specs.ChainLaws.{of_live, live_next_in, live_prev_in, live_on}
+use Rattle.linked_lists.specs.ChainLaws.{On-first}
+use Rattle.linked_lists.specs.Chains.{Chain, Linear, Cyclic, IsChainOf}
 use Rattle.triple_arena_chain.specs.Renaming.{live_below, renamed, ends_renamed, FollowsRenaming}
 use Rattle.triple_arena_chain.specs.RenamingLaws.{live_below-same}
 

@@ -9,9 +9,9 @@ use Rattle.triple_arena.specs.Compression.{renewed, value_of, entry_of_listed, c
 use Rattle.triple_arena.specs.Content.{Content, entry_at, live_count, some_counter, IsWellFormed}
 use Rattle.triple_arena.specs.LiveEntries.{live_entries}
 use Rattle.triple_arena_chain.specs.LinkShape.{IndexLink}
-use Rattle.triple_arena_chain.specs.Chains.{Ends, next_in, next_at}
-use Rattle.triple_arena_chain.specs.ChainLaws.{IsAgreed-same}
-use Rattle.triple_arena_chain.specs.ListLaws.{live_prev_in}
+use Rattle.linked_lists.specs.LinkedLists.{Ends, next_in, next_at}
+use Rattle.linked_lists.specs.LinkedListLaws.{IsAgreed-same}
+use Rattle.linked_lists.specs.ChainLaws.{live_prev_in}
 use Rattle.triple_arena_chain.specs.Links.{entry_ends, ends_in, IsChained}
 use Rattle.triple_arena_chain.specs.Values.{room_in}
 use Rattle.triple_arena_chain.specs.Renaming.{live_below, new_index, FollowsRenaming, IsLeftInPlace}

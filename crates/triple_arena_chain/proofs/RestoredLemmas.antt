@@ -13,25 +13,25 @@ use Rattle.triple_arena_chain.specs.declared.gap.Gap.TheVariants.{Between}
 use Rattle.triple_arena_chain.specs.declared.kind.InsertKind.TheVariants.{NextTo, PrevTo}
 use Rattle.triple_arena_chain.specs.KindLaws.{found}
 use Rattle.triple_arena_chain.specs.Kinds.{after_link, before_link}
-use Rattle.triple_arena_chain.specs.Chains.{Ends, IsAgreed, next_at, prev_at, next_in, prev_in}
-use Rattle.triple_arena_chain.specs.Chains.{with_next_if, with_prev_if, added, put_between}
-use Rattle.triple_arena_chain.specs.Chains.{bridged}
-use Rattle.triple_arena_chain.specs.Chains.{taken_out, On, Apart}
-use Rattle.triple_arena_chain.specs.ChainLaws.{Apart-both, Apart-last}
+use Rattle.linked_lists.specs.LinkedLists.{Ends, IsAgreed, next_at, prev_at, next_in, prev_in}
+use Rattle.linked_lists.specs.LinkedLists.{with_next_if, with_prev_if, added, put_between}
+use Rattle.linked_lists.specs.LinkedLists.{bridged}
+use Rattle.linked_lists.specs.LinkedLists.{taken_out, On, Apart}
+use Rattle.linked_lists.specs.LinkedListLaws.{Apart-both, Apart-last}
 use Rattle.triple_arena_chain.specs.Links.{valued, values_in, link_ends, entry_ends, ends_in}
 use Rattle.triple_arena_chain.specs.Links.{ends_found, gap_among, IsChained, IsLinkInserted}
 use Rattle.triple_arena_chain.specs.Links.{IsTakenOut}
-use Rattle.triple_arena_chain.specs.Lists.{Chain, members, IsChainOf, Linear, Cyclic}
-use Rattle.triple_arena_chain.specs.ListLaws.{On-front, On-back, On-either, On-first, On-split}
-use Rattle.triple_arena_chain.specs.ListLaws.{Apart-turned, Apart-front, Apart-back, Apart-append}
-use Rattle.triple_arena_chain.specs.ListLaws.{off_or_not, on_differs, live_next_in, live_prev_in}
-use Rattle.triple_arena_chain.specs.ListLaws.{shares}
-use Rattle.triple_arena_chain.specs.TakenLaws.{taken_is}
-use Rattle.triple_arena_chain.specs.UniquenessLaws.{linear_apart}
+use Rattle.linked_lists.specs.Chains.{Chain, members, IsChainOf, Linear, Cyclic}
+use Rattle.linked_lists.specs.ChainLaws.{On-front, On-back, On-either, On-first, On-split}
+use Rattle.linked_lists.specs.ChainLaws.{Apart-turned, Apart-front, Apart-back, Apart-append}
+use Rattle.linked_lists.specs.ChainLaws.{off_or_not, on_differs, live_next_in, live_prev_in}
+use Rattle.linked_lists.specs.ChainLaws.{shares}
+use Rattle.linked_lists.specs.TakenLaws.{taken_is}
+use Rattle.linked_lists.specs.UniquenessLaws.{linear_apart}
 use Rattle.triple_arena_chain.specs.Walks.{IsWalkFrom, along, around}
-use Rattle.triple_arena_chain.proofs.AgreedLemmas.{valid_next}
-use Rattle.triple_arena_chain.proofs.ExchangeLemmas.{next_where, prev_where}
-use Rattle.triple_arena_chain.proofs.ReversalLemmas.{two_back_at}
+use Rattle.linked_lists.specs.AgreedLaws.{valid_next}
+use Rattle.linked_lists.specs.ExchangeLaws.{next_where, prev_where}
+use Rattle.linked_lists.specs.ReversalLaws.{two_back_at}
 
 module _ {T : Type 0} where
   -- a pointer that found a link finds it with the interlinks of now, if the generations stay

@@ -8,13 +8,13 @@ use Rattle.triple_arena.specs.Compression.{renewed}
 use Rattle.triple_arena.specs.Content.{Content, live_count}
 use Rattle.triple_arena_chain.specs.LinkShape.{IndexLink}
 use Rattle.triple_arena_chain.specs.CanonicalLayout.{IsLaidOut, IsCanonical}
-use Rattle.triple_arena_chain.specs.Chains.{Ends, On, IsLinear}
-use Rattle.triple_arena_chain.specs.ChainLaws.{On-cons}
+use Rattle.linked_lists.specs.LinkedLists.{Ends, On, IsLinear}
+use Rattle.linked_lists.specs.LinkedListLaws.{On-cons}
 use Rattle.triple_arena_chain.specs.Links.{ends_in, values_in}
-use Rattle.triple_arena_chain.specs.ListLaws.{On-first, On-either, on_differs, live_in, linear_same}
-use Rattle.triple_arena_chain.specs.ListLaws.{ring_or_linear}
-use Rattle.triple_arena_chain.specs.Lists.{Chain, Linear, Cyclic, all_members, AreAllChainsOf}
-use Rattle.triple_arena_chain.specs.Runs.{value_in, IsRunFrom}
+use Rattle.linked_lists.specs.ChainLaws.{On-first, On-either, on_differs, live_in, linear_same}
+use Rattle.linked_lists.specs.ChainLaws.{ring_or_linear}
+use Rattle.linked_lists.specs.Chains.{Chain, Linear, Cyclic, all_members, AreAllChainsOf}
+use Rattle.triple_arena_chain.specs.Runs.{value_at, IsRunFrom}
 use Rattle.triple_arena_chain.proofs.RunLemmas.{run-split}
 
 not_on_nothing : (k : ℕ) → On [] k → ⊥
@@ -74,8 +74,8 @@ module _ {T : Type 0} where
 
 module _ {T : Type 0} where
   values_kept : (to : ℕ → ℕ) (old new : Content (IndexLink T)) (list : List ℕ)
-      → ((i : ℕ) → On list i → value_in new (to i) ≡ value_in old i)
-      → map (value_in new) (map to list) ≡ map (value_in old) list
+      → ((i : ℕ) → On list i → value_at new (to i) ≡ value_at old i)
+      → map (value_at new) (map to list) ≡ map (value_at old) list
   values_kept to old new [] kept = refl
   values_kept to old new (x ∷ xs) kept =
       let first = kept x (On-first x xs) in
@@ -94,13 +94,13 @@ module _ {T : Type 0} where
       moved in
       let many : map to list ≡ range_with_len run.0 (length list) = run.1
       ∙ ap (range_with_len run.0) (length-map list to) in
-      let kept : (i : ℕ) → On list i → value_in new (to i) ≡ value_in old i = λ i on.
+      let kept : (i : ℕ) → On list i → value_at new (to i) ≡ value_at old i = λ i on.
       ap (option_map (λ e. e.1))
       (canonical.values i (live_in (ends_in old) (Linear list) i linear on))
       ∙ value_kept (renewed last reset old.counter) (values_in old i) in (
         run.0,
         record {
           linear = subst (IsLinear (ends_in new)) many moved;
-          values = ap (map (value_in new)) (sym many) ∙ values_kept to old new list kept;
+          values = ap (map (value_at new)) (sym many) ∙ values_kept to old new list kept;
         },
       )

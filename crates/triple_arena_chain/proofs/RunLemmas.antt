@@ -4,12 +4,12 @@ use Rattle.std.proofs.Common.{length, Option, Some, None, refl, sym, ap, subst, 
 use Rattle.std.proofs.Common.{inr, ◌⊎◌}
 use Rattle.std.specs.List.{range_with_len}
 use Rattle.std.proofs.lemmas.Bool.Decides.{eqb_tells, leb_tells}
-use Rattle.triple_arena_chain.specs.Chains.{Ends, next_in, next_at, prev_at, IsAgreed, last_or}
-use Rattle.triple_arena_chain.specs.Chains.{IsSegment, Off, On, Apart, IsLinear, IsRing}
-use Rattle.triple_arena_chain.specs.ListLaws.{On-first, On-back, On-either, on_differs}
-use Rattle.triple_arena_chain.specs.ListLaws.{live_next_in}
-use Rattle.triple_arena_chain.specs.Lists.{Chain, Linear, Cyclic, members, all_members, IsChainOf}
-use Rattle.triple_arena_chain.specs.Lists.{AreAllChainsOf}
+use Rattle.linked_lists.specs.LinkedLists.{Ends, next_in, next_at, prev_at, IsAgreed, last_or}
+use Rattle.linked_lists.specs.LinkedLists.{IsSegment, Off, On, Apart, IsLinear, IsRing}
+use Rattle.linked_lists.specs.ChainLaws.{On-first, On-back, On-either, on_differs}
+use Rattle.linked_lists.specs.ChainLaws.{live_next_in}
+use Rattle.linked_lists.specs.Chains.{Chain, Linear, Cyclic, members, all_members, IsChainOf}
+use Rattle.linked_lists.specs.Chains.{AreAllChainsOf}
 use Rattle.triple_arena_chain.specs.CanonicalLayout.{IsLaidOut, IsHead, IsClosed}
 
 pub run-append : (u m k : ℕ)

@@ -9,7 +9,7 @@ use Rattle.triple_arena.specs.Recasting.{content_recasted}
 use Rattle.triple_arena_chain.specs.LinkShape.{IndexLink}
 use Rattle.triple_arena_chain.specs.LinkRecasting.{link_items, link_recasted}
 use Rattle.triple_arena_chain.specs.Links.{ends_in, IsChained}
-use Rattle.triple_arena_chain.specs.ChainLaws.{IsAgreed-same}
+use Rattle.linked_lists.specs.LinkedListLaws.{IsAgreed-same}
 use Rattle.triple_arena_chain.specs.SameLinksLaws.{ends-same_slots, ends-regenerated}
 use Rattle.triple_arena_chain.specs.SameLinksLaws.{ends-with_limit, ends-content_recasted}
 

@@ -8,7 +8,7 @@ use Rattle.triple_arena.specs.ExchangeLaws.{live-with_exchange, slots-with_excha
 use Rattle.triple_arena.specs.ExchangeLaws.{counter-with_exchange, free-with_exchange}
 use Rattle.triple_arena.specs.ExchangeLaws.{room-with_exchange}
 use Rattle.triple_arena_chain.specs.LinkShape.{IndexLink}
-use Rattle.triple_arena_chain.specs.Chains.{next_at, prev_at, next_in, prev_in}
+use Rattle.linked_lists.specs.LinkedLists.{next_at, prev_at, next_in, prev_in}
 use Rattle.triple_arena_chain.specs.Links.{valued, values_in, IsKept, link_ends, entry_ends}
 use Rattle.triple_arena_chain.specs.Links.{ends_in}
 use Rattle.triple_arena_chain.specs.CanonicalLayout.{swapped_index, IsAlike}

@@ -4,13 +4,13 @@ use Rattle.std.proofs.Common.{sym, ap, subst, ◌∙◌, inl, inr}
 use Rattle.std.proofs.lemmas.Bool.{eq-eqb, ne_eqb}
 use Rattle.std.proofs.lemmas.Bool.Decides.{eqb_tells}
 use Rattle.std.proofs.lemmas.List.{reverse-append, append-nil}
-use Rattle.triple_arena_chain.specs.Chains.{Ends, next_in, prev_in, IsAgreed, first_or, last_or}
-use Rattle.triple_arena_chain.specs.Chains.{Off, IsLinear, taken_out}
-use Rattle.triple_arena_chain.specs.ChainLaws.{off_or_on, Off-front, Off-back, segment-back}
-use Rattle.triple_arena_chain.specs.ChainLaws.{last_or-append}
-use Rattle.triple_arena_chain.specs.ListLaws.{Apart-split}
-use Rattle.triple_arena_chain.specs.TakenLaws.{linear_taken, ring_taken, taken_is, untouched}
-use Rattle.triple_arena_chain.specs.UniquenessLaws.{Ended, none, some_last, ended, linear_apart}
+use Rattle.linked_lists.specs.LinkedLists.{Ends, next_in, prev_in, IsAgreed, first_or, last_or}
+use Rattle.linked_lists.specs.LinkedLists.{Off, IsLinear, taken_out}
+use Rattle.linked_lists.specs.LinkedListLaws.{off_or_on, Off-front, Off-back, segment-back}
+use Rattle.linked_lists.specs.LinkedListLaws.{last_or-append}
+use Rattle.linked_lists.specs.ChainLaws.{Apart-split}
+use Rattle.linked_lists.specs.TakenLaws.{linear_taken, ring_taken, taken_is, untouched}
+use Rattle.linked_lists.specs.UniquenessLaws.{Ended, none, some_last, ended, linear_apart}
 use Rattle.triple_arena_chain.specs.Drains.{IsWalk, dropped_all, next_or_prev}
 use Rattle.triple_arena_chain.specs.Walks.{IsWalkFrom, along, around}
 

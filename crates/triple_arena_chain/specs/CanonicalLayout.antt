@@ -6,9 +6,9 @@ use Rattle.std.specs.Option.{option_map}
 use Rattle.triple_arena.specs.Compression.{renewed}
 use Rattle.triple_arena.specs.Content.{Content, live_count}
 use Rattle.triple_arena_chain.specs.LinkShape.{IndexLink}
-use Rattle.triple_arena_chain.specs.Chains.{Ends, next_at, prev_at, IsAgreed, IsRing}
+use Rattle.linked_lists.specs.LinkedLists.{Ends, next_at, prev_at, IsAgreed, IsRing}
 use Rattle.triple_arena_chain.specs.Links.{ends_in, values_in, IsKept, IsChained}
-use Rattle.triple_arena_chain.specs.Lists.{Chain, all_members, AreAllChainsOf, AreChains}
+use Rattle.linked_lists.specs.Chains.{Chain, all_members, AreAllChainsOf, AreChains}
 use Rattle.triple_arena_chain.specs.Renaming.{ends_renamed, FollowsRenaming}
 
 -- the chains, one after another, are the indexes from 1 to n

@@ -1,9 +1,9 @@
 -- What has the layout of a canonical renumbering.
 use Rattle.std.proofs.Common.{◌≡◌, ℕ, List, [], ◌∷◌, Option, is_some, sym, ap, ◌∙◌}
 use Rattle.triple_arena_chain.specs.CanonicalLayout.{IsLaidOut}
-use Rattle.triple_arena_chain.specs.Chains.{Ends}
-use Rattle.triple_arena_chain.specs.ListLaws.{chain_where}
-use Rattle.triple_arena_chain.specs.Lists.{Chain, AreAllChainsOf}
+use Rattle.linked_lists.specs.LinkedLists.{Ends}
+use Rattle.linked_lists.specs.ChainLaws.{chain_where}
+use Rattle.linked_lists.specs.Chains.{Chain, AreAllChainsOf}
 
 -- interlinks that are the same have the same layout
 pub laid_same : (e e' : ℕ → Option Ends) (n : ℕ) → ((i : ℕ) → e' i ≡ e i) → IsLaidOut e n

@@ -6,11 +6,11 @@ use Rattle.triple_arena_ptr.specs.declared.invalidation.InvalidationOption.{Inva
 use Rattle.triple_arena.specs.Content.{Content, live_count, some_counter}
 use Rattle.triple_arena.specs.Transfer.{IsTransferred}
 use Rattle.triple_arena_chain.specs.LinkShape.{IndexLink}
-use Rattle.triple_arena_chain.specs.Chains.{Ends, On}
+use Rattle.linked_lists.specs.LinkedLists.{Ends, On}
 use Rattle.triple_arena_chain.specs.IterChains.{links_along}
 use Rattle.triple_arena_chain.specs.Links.{ends_in, values_in}
 use Rattle.triple_arena_chain.specs.Listed.{listed_values}
-use Rattle.triple_arena_chain.specs.Lists.{Chain, members, all_members, AreChains}
+use Rattle.linked_lists.specs.Chains.{Chain, members, all_members, AreChains}
 use Rattle.triple_arena_chain.specs.Renaming.{FollowsRenaming}
 
 -- each chain has an index below all those of the chains behind it

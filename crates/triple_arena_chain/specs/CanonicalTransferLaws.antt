@@ -5,15 +5,15 @@ use Rattle.std.proofs.Common.{sym, ap, subst, ◌∙◌, arith, inl, inr, append
 use Rattle.std.specs.List.{range_with_len}
 use Rattle.triple_arena.specs.Content.{Content, live_count}
 use Rattle.triple_arena_chain.specs.LinkShape.{IndexLink}
-use Rattle.triple_arena_chain.specs.Chains.{Ends, last_or, On, Apart, IsLinear, IsRing}
-use Rattle.triple_arena_chain.specs.ChainLaws.{Apart-both}
-use Rattle.triple_arena_chain.specs.AllChainsLaws.{all_live}
-use Rattle.triple_arena_chain.specs.UniquenessLaws.{same_around}
-use Rattle.triple_arena_chain.specs.ListLaws.{On-first, On-front, On-back, On-either, Apart-back}
-use Rattle.triple_arena_chain.specs.ListLaws.{on_differs, linear_same, ring_or_linear, ring_same}
-use Rattle.triple_arena_chain.specs.ListLaws.{live_in}
-use Rattle.triple_arena_chain.specs.Lists.{Chain, Linear, Cyclic, members, all_members, IsChainOf}
-use Rattle.triple_arena_chain.specs.Lists.{IsWritten, AreAllChainsOf, AreChains}
+use Rattle.linked_lists.specs.LinkedLists.{Ends, last_or, On, Apart, IsLinear, IsRing}
+use Rattle.linked_lists.specs.LinkedListLaws.{Apart-both}
+use Rattle.linked_lists.specs.AllChainsLaws.{all_live}
+use Rattle.linked_lists.specs.UniquenessLaws.{same_around}
+use Rattle.linked_lists.specs.ChainLaws.{On-first, On-front, On-back, On-either, Apart-back}
+use Rattle.linked_lists.specs.ChainLaws.{on_differs, linear_same, ring_or_linear, ring_same}
+use Rattle.linked_lists.specs.ChainLaws.{live_in}
+use Rattle.linked_lists.specs.Chains.{Chain, Linear, Cyclic, members, all_members, IsChainOf}
+use Rattle.linked_lists.specs.Chains.{IsWritten, AreAllChainsOf, AreChains}
 use Rattle.triple_arena_chain.specs.Links.{ends_in}
 use Rattle.triple_arena_chain.specs.CanonicalTransfer.{AreRising, AreInOrder, IsMovedAlong}
 

@@ -1,9 +1,9 @@
 -- A link begins one walk, and the walks of a ring are rotations of one another.
 use Rattle.std.proofs.Common.{◌≡◌, ℕ, List, [], ◌∷◌, ◌++◌, reverse, Option, Some, refl, sym, ap}
 use Rattle.std.proofs.Common.{◌∙◌}
-use Rattle.triple_arena_chain.specs.Chains.{Ends, IsRing, Standing, linear, ring}
-use Rattle.triple_arena_chain.specs.ChainLaws.{Apart-last, segment-append, last_or-append}
-use Rattle.triple_arena_chain.specs.UniquenessLaws.{stands_once}
+use Rattle.linked_lists.specs.LinkedLists.{Ends, IsRing, Standing, linear, ring}
+use Rattle.linked_lists.specs.LinkedListLaws.{Apart-last, segment-append, last_or-append}
+use Rattle.linked_lists.specs.UniquenessLaws.{stands_once}
 use Rattle.triple_arena_chain.specs.Walks.{IsWalkFrom, along, around}
 
 -- an index that stands in a chain begins a walk

@@ -11,9 +11,9 @@ use Rattle.triple_arena_ptr.specs.declared.invalidation.InvalidationOption.{Inva
 use Rattle.triple_arena.specs.Content.{Content, entry_at, live_count, removed}
 use Rattle.triple_arena.specs.Entries.{without}
 use Rattle.triple_arena_chain.specs.LinkShape.{IndexLink}
-use Rattle.triple_arena_chain.specs.Chains.{Ends, Off, On, dropped}
+use Rattle.linked_lists.specs.LinkedLists.{Ends, Off, On, dropped}
 use Rattle.triple_arena_chain.specs.Links.{ends_in, values_in, IsTakenOut}
-use Rattle.triple_arena_chain.specs.Lists.{Chain, members, IsChainOf}
+use Rattle.linked_lists.specs.Chains.{Chain, members, IsChainOf}
 use Rattle.triple_arena_chain.specs.Walks.{IsWalkFrom}
 use Rattle.triple_arena_chain.specs.declared.chain_arena.drain.ChainDrain.{ChainDrain}
 

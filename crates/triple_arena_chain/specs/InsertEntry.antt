@@ -13,7 +13,7 @@ use Rattle.triple_arena_chain.specs.declared.chain_arena.insertion.entry.ChainAr
 use Rattle.triple_arena_chain.specs.LinkShape.{IndexLink}
 use Rattle.triple_arena_chain.specs.declared.kind.InsertKind.{InsertKind}
 use Rattle.triple_arena_chain.specs.declared.gap.Gap.{Gap}
-use Rattle.triple_arena_chain.specs.Chains.{IsGap}
+use Rattle.triple_arena_chain.specs.Gaps.{IsGap}
 use Rattle.triple_arena_chain.specs.Kinds.{gap_by}
 use Rattle.triple_arena_chain.specs.Links.{ends_in, gap_among}
 

@@ -1,6 +1,6 @@
 -- What an iterator over a chain gives.
 use Rattle.std.specs.Prelude.{ℕ, true, false, List, [], ◌∷◌, Option, Some, None, if◌then◌else◌}
-use Rattle.triple_arena_chain.specs.Chains.{Ends, prev_at}
+use Rattle.linked_lists.specs.LinkedLists.{Ends, prev_at}
 use Rattle.triple_arena_chain.specs.Walks.{ChainWalk}
 
 module _ {L : Type 0} where

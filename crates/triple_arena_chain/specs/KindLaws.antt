@@ -10,12 +10,12 @@ use Rattle.triple_arena_chain.specs.declared.kind.InsertKind.TheVariants.{ChainE
 use Rattle.triple_arena_chain.specs.declared.kind.InsertKind.TheVariants.{NextTo, PrevTo}
 use Rattle.triple_arena_chain.specs.declared.kind.InsertKind.TheVariants.{AtInterlink, Bridge}
 use Rattle.triple_arena_chain.specs.LinkShape.{IndexLink}
-use Rattle.triple_arena_chain.specs.Chains.{Ends, next_in, prev_in, next_at, prev_at}
+use Rattle.linked_lists.specs.LinkedLists.{Ends, next_in, prev_in, next_at, prev_at}
 use Rattle.triple_arena_chain.specs.Kinds.{at_end, at_start, after_link, before_link, at_interlink}
 use Rattle.triple_arena_chain.specs.Kinds.{at_bridge}
 use Rattle.triple_arena_chain.specs.Links.{link_ends, ends_in, ends_found, gap_among}
 use Rattle.triple_arena_chain.specs.Links.{IsLinkInserted}
-use Rattle.triple_arena_chain.specs.Lists.{IsPutIn, IsOwnRing}
+use Rattle.linked_lists.specs.Chains.{IsPutIn, IsOwnRing}
 use Rattle.triple_arena_chain.specs.declared.gap.Gap.{Gap}
 use Rattle.triple_arena_chain.specs.declared.gap.Gap.TheVariants.{Between}
 

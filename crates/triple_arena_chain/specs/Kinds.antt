@@ -12,7 +12,7 @@ use Rattle.triple_arena_chain.specs.declared.kind.InsertKind.TheVariants.{AtInte
 use Rattle.triple_arena_chain.specs.declared.kind.InsertKind.TheVariants.{BridgeInx}
 use Rattle.triple_arena_chain.specs.declared.gap.Gap.{Gap}
 use Rattle.triple_arena_chain.specs.declared.gap.Gap.TheVariants.{Between, OwnRing}
-use Rattle.triple_arena_chain.specs.Chains.{Ends}
+use Rattle.linked_lists.specs.LinkedLists.{Ends}
 
 module _ {I : Type 0} (number : I → ℕ) where
   -- the ends of a link by their numbers

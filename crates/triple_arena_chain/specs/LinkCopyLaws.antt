@@ -4,12 +4,12 @@ use Rattle.std.proofs.Common.{◌≡◌, ℕ, Option, sym, ap}
 use Rattle.std.specs.Option.{option_map}
 use Rattle.triple_arena.specs.Content.{Content}
 use Rattle.triple_arena.specs.LiveEntries.{live_entries, entry-listed}
-use Rattle.triple_arena_chain.specs.Chains.{Ends}
+use Rattle.linked_lists.specs.LinkedLists.{Ends}
 use Rattle.triple_arena_chain.specs.LinkShape.{IndexLink}
 use Rattle.triple_arena_chain.specs.LinkCopies.{listed_ends}
 use Rattle.triple_arena_chain.specs.Links.{ends_in, entry_ends, prev_next_of}
-use Rattle.triple_arena_chain.specs.ListLaws.{chain_where}
-use Rattle.triple_arena_chain.specs.Lists.{Chain, IsChainOf}
+use Rattle.linked_lists.specs.ChainLaws.{chain_where}
+use Rattle.linked_lists.specs.Chains.{Chain, IsChainOf}
 
 module _ {T : Type 0} where
   pub listed_ends-is : (c : Content (IndexLink T)) (i : ℕ)

@@ -9,8 +9,8 @@ use Rattle.triple_arena.specs.ContentLaws.{formed-with_value, entry-with_value, 
 use Rattle.triple_arena.specs.ContentLaws.{slots-with_value, counter-with_value, free-with_value}
 use Rattle.triple_arena.specs.ContentLaws.{room-with_value}
 use Rattle.triple_arena_chain.specs.LinkShape.{IndexLink}
-use Rattle.triple_arena_chain.specs.Chains.{Ends, with_next_if, with_prev_if, renext, reprev}
-use Rattle.triple_arena_chain.specs.ChainLaws.{IsAgreed-same}
+use Rattle.linked_lists.specs.LinkedLists.{Ends, with_next_if, with_prev_if, renext, reprev}
+use Rattle.linked_lists.specs.LinkedListLaws.{IsAgreed-same}
 use Rattle.triple_arena_chain.specs.Links.{valued, values_in, with_link, with_link_of}
 use Rattle.triple_arena_chain.specs.Links.{with_value_in, IsKept, IsChained, link_ends, entry_ends}
 use Rattle.triple_arena_chain.specs.Links.{ends_in, with_next_of, with_prev_of}

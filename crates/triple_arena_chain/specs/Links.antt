@@ -11,9 +11,10 @@ use Rattle.triple_arena_chain.specs.Kinds.{gap_of}
 use Rattle.triple_arena_chain.specs.declared.kind.InsertKind.{InsertKind}
 use Rattle.triple_arena_chain.specs.declared.gap.Gap.{Gap}
 use Rattle.triple_arena_chain.specs.declared.gap.Gap.TheVariants.{Between, OwnRing}
-use Rattle.triple_arena_chain.specs.Chains.{Ends, IsAgreed, put_in, taken_out, next_in, prev_in}
-use Rattle.triple_arena_chain.specs.Chains.{next_at, prev_at, linked, unlinked, exchanged}
-use Rattle.triple_arena_chain.specs.Lists.{IsPutAt, IsTaken}
+use Rattle.linked_lists.specs.LinkedLists.{Ends, IsAgreed, taken_out, next_in, prev_in}
+use Rattle.linked_lists.specs.LinkedLists.{next_at, prev_at, linked, unlinked, exchanged}
+use Rattle.linked_lists.specs.Chains.{IsTaken}
+use Rattle.triple_arena_chain.specs.Gaps.{put_in, IsPutAt}
 
 module _ {T : Type 0} where
   -- the previous and the next index of a link
@@ -173,10 +174,26 @@ module _ {P I T : Type 0} (index generation : P → ℕ) (number : I → ℕ) wh
   gap_among c kind = gap_of index number (λ p. ends_found c (index p) (generation p))
       (ends_in c) kind
 
+  -- there is a gap as a kind asks for, and the link is stored there
+  abbrev pub IsStoredAt : InsertKind P I → ℕ → ℕ → T → Content (IndexLink T)
+      → Content (IndexLink T) → Type 0
+  IsStoredAt kind i g t old new = IsSome (gap_among old kind)
+      × IfSome (gap_among old kind) (λ gap. IsLinkInserted gap i g t old new)
+
+module _ {T : Type 0} where
+  -- the interlinks and the value at each index are as they were
+  abbrev pub SameLinks : Content (IndexLink T) → Content (IndexLink T) → Type 0
+  SameLinks old new = (k : ℕ) → (ends_in new k ≡ ends_in old k)
+      × (values_in new k ≡ values_in old k)
+
 module _ {P T : Type 0} (index generation : P → ℕ) where
   -- a pointer finds a link that has a next
   abbrev pub HasNext : Content (IndexLink T) → P → Type 0
   HasNext c p = IsSome (next_in (ends_found c (index p) (generation p)))
+
+  -- two pointers find links that have a next
+  abbrev pub HaveNexts : Content (IndexLink T) → P → P → Type 0
+  HaveNexts c p q = HasNext c p × HasNext c q
 
   -- a pointer finds a link that has a previous one
   abbrev pub HasPrev : Content (IndexLink T) → P → Type 0

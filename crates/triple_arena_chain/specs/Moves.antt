@@ -2,9 +2,9 @@
 use Rattle.std.specs.Prelude.{ℕ, Some}
 use Rattle.triple_arena.specs.Content.{Content}
 use Rattle.triple_arena_chain.specs.LinkShape.{IndexLink}
-use Rattle.triple_arena_chain.specs.Chains.{Ends, next_at, prev_at, taken_out, put_between}
+use Rattle.linked_lists.specs.LinkedLists.{Ends, next_at, prev_at, taken_out, put_between}
 use Rattle.triple_arena_chain.specs.Links.{ends_in, IsRelinked}
-use Rattle.triple_arena_chain.specs.Lists.{IsTaken, IsPutIn}
+use Rattle.linked_lists.specs.Chains.{IsTaken, IsPutIn}
 
 module _ {T : Type 0} where
   -- directly after the link at `j`, once the one at `i` is taken out from between its neighbors

@@ -5,7 +5,7 @@ use Rattle.std.specs.Prelude.{◌≡◌, ◌≢◌, ℕ, zero, suc, ◌+◌, ◌
 use Rattle.std.specs.Prelude.{is_some, IsSome, nat_le, if◌then◌else◌}
 use Rattle.triple_arena.specs.Content.{Content, IsWellFormed}
 use Rattle.triple_arena_chain.specs.LinkShape.{IndexLink}
-use Rattle.triple_arena_chain.specs.Chains.{Ends, next_at, prev_at, with_prev, with_next_if}
+use Rattle.linked_lists.specs.LinkedLists.{Ends, next_at, prev_at, with_prev, with_next_if}
 use Rattle.triple_arena_chain.specs.Links.{ends_in, values_in, IsKept, IsChained}
 use Rattle.triple_arena_chain.specs.CanonicalLayout.{IsHead, IsAlike, AreGathered, swapped_index}
 

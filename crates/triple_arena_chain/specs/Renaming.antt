@@ -6,9 +6,9 @@ use Rattle.std.specs.Option.{option_map}
 use Rattle.triple_arena.specs.Compression.{renewed}
 use Rattle.triple_arena.specs.Content.{Content, live_count}
 use Rattle.triple_arena_chain.specs.LinkShape.{IndexLink}
-use Rattle.triple_arena_chain.specs.Chains.{Ends, prev_at}
+use Rattle.linked_lists.specs.LinkedLists.{Ends, prev_at}
 use Rattle.triple_arena_chain.specs.Links.{ends_in, values_in}
-use Rattle.triple_arena_chain.specs.Lists.{Chain, Linear, Cyclic, IsChainOf}
+use Rattle.linked_lists.specs.Chains.{Chain, Linear, Cyclic, IsChainOf}
 
 module _ {A : Type 0} where
   -- how many indexes below this one are live

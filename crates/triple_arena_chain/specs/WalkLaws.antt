@@ -2,7 +2,7 @@
 use Rattle.std.proofs.Common.{◌≡◌, ℕ, zero, suc, ◌≤◌, List, [], ◌∷◌, length, Option, Some, None}
 use Rattle.std.proofs.Common.{IsSome, true≢false, IfSome, option_map, ◌+◌, refl, sym, ap, subst}
 use Rattle.std.proofs.Common.{◌∙◌, arith}
-use Rattle.triple_arena_chain.specs.Chains.{Ends}
+use Rattle.linked_lists.specs.LinkedLists.{Ends}
 use Rattle.triple_arena_chain.specs.Walks.{ChainWalk, past_index, Leaves, from_index, from_where}
 use Rattle.triple_arena_chain.specs.Walks.{steps_of, IsWalkAlong, ChainSteps, left_over, IsEnding}
 use Rattle.triple_arena.specs.Content.{Content, entry_at}

@@ -3,7 +3,7 @@ use Rattle.std.specs.Prelude.{◌≡◌, ℕ, zero, suc, ◌+◌, ◌==◌, Bool
 use Rattle.std.specs.Prelude.{length, reverse, Option, Some, None, if◌then◌else◌, IsSome, IfSome}
 use Rattle.triple_arena.specs.Content.{Content}
 use Rattle.triple_arena.specs.Entries.{generation_at}
-use Rattle.triple_arena_chain.specs.Chains.{Ends, next_at, prev_at, IsLinear, IsRing}
+use Rattle.linked_lists.specs.LinkedLists.{Ends, next_at, prev_at, IsLinear, IsRing}
 use Rattle.triple_arena_chain.specs.LinkShape.{IndexLink}
 use Rattle.triple_arena_chain.specs.Links.{ends_in}
 

@@ -1,6 +1,5 @@
 //! What follows from the calls of a chain arena.
 ghost use Rattle.std.specs.Prelude.{◌≡◌, ◌↔◌, ℕ, Bool, List, [], ◌∷◌, ◌++◌, Option, Some, IsSome};
-ghost use Rattle.std.specs.Prelude.{IfSome};
 ghost use Rattle.triple_arena.specs.Content.{Content, invalidated, with_limit};
 ghost use Rattle.triple_arena.specs.Recasting.{content_recasted};
 ghost use Rattle.triple_arena_chain.specs.CanonicalLayout.{IsCanonical};
@@ -9,14 +8,15 @@ ghost use Rattle.triple_arena_chain.specs.declared.kind.InsertKind.TheVariants.{
 ghost use Rattle.triple_arena_chain.specs.declared.kind.InsertKind.TheVariants.{PrevTo};
 ghost use Rattle.triple_arena_chain.specs.LinkRecasting.{link_items, link_recasted};
 ghost use Rattle.triple_arena_chain.specs.LinkShape.{IndexLink};
-ghost use Rattle.triple_arena_chain.specs.Chains.{Ends, next_at, IsLinear, IsRing, On, Apart};
-ghost use Rattle.triple_arena_chain.specs.Lists.{Chain, members, IsChainOf, AreChains};
+ghost use Rattle.linked_lists.specs.LinkedLists.{Ends, next_at, IsLinear, IsRing, On, Apart};
+ghost use Rattle.linked_lists.specs.Chains.{Chain, members, IsChainOf, AreChains};
 ghost use Rattle.triple_arena_chain.specs.Runs.{IsRunFrom};
 ghost use Rattle.triple_arena_chain.specs.Walks.{IsWalkFrom};
-ghost use Rattle.triple_arena_chain.specs.Links.{ends_in, values_in, gap_among, with_value_in};
-ghost use Rattle.triple_arena_chain.specs.Links.{IsChained, IsLinkInserted, IsTakenOut, IsRelinked};
+ghost use Rattle.triple_arena_chain.specs.Links.{ends_in, gap_among, with_value_in};
+ghost use Rattle.triple_arena_chain.specs.Links.{IsChained, IsStoredAt, IsTakenOut, IsRelinked};
 ghost use Rattle.triple_arena_chain.specs.Links.{Connects, BreaksNext, ExchangesNexts, HasNext};
-ghost use Rattle.triple_arena_chain.specs.UniquenessLaws.{IsInOneChain};
+ghost use Rattle.triple_arena_chain.specs.Links.{HaveNexts, SameLinks};
+ghost use Rattle.linked_lists.specs.UniquenessLaws.{IsInOneChain};
 
 use triple_arena::{PtrCore, Recast};
 
@@ -106,9 +106,9 @@ pub fn connect_takes_break_next_back<P: PtrCore, T>()
 /// again, restores all interlinks, and leaves all else as it was.
 pub fn exchange_next_takes_itself_back<P: PtrCore, T>()
     ensures answers { (before between : Content (IndexLink T)) (p q : P)
-        → HasNext P.index P.generation before p × HasNext P.index P.generation before q
+        → HaveNexts P.index P.generation before p q
         → ExchangesNexts (P.index p) (P.index q) before between
-        → HasNext P.index P.generation between p × HasNext P.index P.generation between q }
+        → HaveNexts P.index P.generation between p q }
     ensures restored { (before between after : Content (IndexLink T)) (p q s t : ℕ)
         → IsChained before → next_at (ends_in before) p ≡ Some s
         → next_at (ends_in before) q ≡ Some t
@@ -121,20 +121,12 @@ pub fn exchange_next_takes_itself_back<P: PtrCore, T>()
 pub fn removals_take_insertions_back<P: PtrCore, T>()
     ensures after { (before between after : Content (IndexLink T)) (p : P) (i g : ℕ) (t : T)
         → IsChained before → IsChained between
-        → IsSome (gap_among P.index P.generation P.Inx.number before (NextTo p))
-        → IfSome (gap_among P.index P.generation P.Inx.number before (NextTo p))
-        (λ gap. IsLinkInserted gap i g t before between)
-        → IsTakenOut P.Gen.last i between after
-        → (k : ℕ) → (ends_in after k ≡ ends_in before k)
-        × (values_in after k ≡ values_in before k) }
+        → IsStoredAt P.index P.generation P.Inx.number (NextTo p) i g t before between
+        → IsTakenOut P.Gen.last i between after → SameLinks before after }
     ensures before { (before between after : Content (IndexLink T)) (p : P) (i g : ℕ) (t : T)
         → IsChained before → IsChained between
-        → IsSome (gap_among P.index P.generation P.Inx.number before (PrevTo p))
-        → IfSome (gap_among P.index P.generation P.Inx.number before (PrevTo p))
-        (λ gap. IsLinkInserted gap i g t before between)
-        → IsTakenOut P.Gen.last i between after
-        → (k : ℕ) → (ends_in after k ≡ ends_in before k)
-        × (values_in after k ≡ values_in before k) }
+        → IsStoredAt P.index P.generation P.Inx.number (PrevTo p) i g t before between
+        → IsTakenOut P.Gen.last i between after → SameLinks before after }
 {}
 
 /// If a value is written or recast, a pointer is ended or a limit is set, all interlinks stay.

@@ -10,7 +10,7 @@ use Rattle.std.specs.declared.cmp.Ordering.{Ordering}
 use Rattle.std.specs.declared.cmp.Ordering.TheVariants.{Less, Equal, Greater}
 use Rattle.triple_arena.specs.Content.{Content, entry_at}
 use Rattle.triple_arena_chain.specs.LinkShape.{IndexLink}
-use Rattle.triple_arena_chain.specs.Chains.{Ends, IsLinear, first_or, last_or}
+use Rattle.linked_lists.specs.LinkedLists.{Ends, IsLinear, first_or, last_or}
 use Rattle.triple_arena_chain.specs.Links.{ends_in, link_ends, entry_ends, valued}
 use Rattle.triple_arena_ord.specs.NodeShape.{IndexNode}
 use Rattle.triple_arena_ord.specs.Node.{items_in, itemed}

@@ -17,13 +17,14 @@ use Rattle.std.proofs.lemmas.Cmp.{alike_right}
 use Rattle.std.proofs.lemmas.List.Elements.{filter_map-append}
 use Rattle.triple_arena.specs.Entries.{with_entry, without}
 use Rattle.triple_arena_ptr.specs.declared.errors.OrdInsertionError.{OrdInsertionError}
-use Rattle.triple_arena_chain.specs.Chains.{Off, Apart}
-use Rattle.triple_arena_chain.specs.ChainLaws.{Apart-taken, Off-front, Off-back}
+use Rattle.linked_lists.specs.LinkedLists.{Off, Apart}
+use Rattle.linked_lists.specs.LinkedListLaws.{Apart-taken, Off-front, Off-back}
 use Rattle.triple_arena_chain.specs.Links.{ends_in}
-use Rattle.triple_arena_chain.specs.UniquenessLaws.{linear_apart}
+use Rattle.linked_lists.specs.UniquenessLaws.{linear_apart}
 use Rattle.triple_arena_ord.specs.Ordered.{Ordered, IsOrdered, IsAscending, order_in, entry_in}
-use Rattle.triple_arena_ord.specs.Ordered.{asked_of}
+use Rattle.triple_arena_ord.specs.Ordered.{StaysAscending, SameKeys, asked_of}
 use Rattle.triple_arena_ord.specs.Inserted.{StandsAt, IsReplaced, IsAdded, IsInsertedAt}
+use Rattle.triple_arena_ord.specs.Inserted.{IsPlacedBetween}
 use Rattle.triple_arena_ord.specs.Removal.{IsEntryRemoved}
 use Rattle.triple_arena_ord.proofs.SortedLemmas.{parts}
 
@@ -123,17 +124,6 @@ module _ {X : Type 0} (R : X → X → Ordering) where
       let h : R a x ≡ R b y = p.1.0.left x ∙ p.0.right b in
       cons y b ys (ap is_lt (sym h) ∙ first x a xs s)
       (carried (a ∷ xs) (b ∷ ys) p.1 (tail x (a ∷ xs) s))
-
--- one more index in the list, between entries whose keys are not greater and entries whose keys are
--- not less
-pub record IsBetween {K T : Type 0} (R : K → K → Ordering) (key : T → K) (k : K)
-    (entry : ℕ → Option (ℕ × T)) (i : ℕ) (old new : List ℕ) : Type 0 where
-  pub before : List ℕ
-  pub after : List ℕ
-  pub was : old ≡ before ++ after
-  pub is : new ≡ before ++ i ∷ after
-  pub low : AllByRecursion (λ j. asked_of R key k (entry j) ≢ Less) before
-  pub high : AllByRecursion (λ j. asked_of R key k (entry j) ≢ Greater) after
 
 module _ {K T : Type 0} (R : K → K → Ordering) (key : T → K) (total : IsTotalOrder R) where
   abbrev below : ℕ × (ℕ × T) → ℕ × (ℕ × T) → Ordering
@@ -330,7 +320,7 @@ module _ {K T : Type 0} (R : K → K → Ordering) (key : T → K) (total : IsTo
       by Greater e = ap is_lt e
 
   pub removed_ascending : (last : Option ℕ) (h : ℕ) (o p : Ordered T)
-      → IsEntryRemoved last h o p → IsAscending R key o → IsAscending R key p
+      → IsEntryRemoved last h o p → StaysAscending R key o p
   removed_ascending last h o p s ascending =
       let w = order_in o in
       let f : ℕ → Option (ℕ × (ℕ × T)) = λ i. option_map (λ e. (i, e)) (entry_in p i) in
@@ -354,9 +344,8 @@ module _ {K T : Type 0} (R : K → K → Ordering) (key : T → K) (total : IsTo
 
   pub keyed_ascending : (o p : Ordered T)
       → order_in p ≡ order_in o
-      → ((k : ℕ) → option_map (λ e. key e.1) (entry_in p k)
-      ≡ option_map (λ e. key e.1) (entry_in o k))
-      → IsAscending R key o → IsAscending R key p
+      → SameKeys key o p
+      → StaysAscending R key o p
   keyed_ascending o p order keys ascending =
       subst (λ w. IsSorted below (listed_of (entry_in p) w)) (sym order)
       (carried below (listed_of (entry_in o) (order_in o))
@@ -365,7 +354,7 @@ module _ {K T : Type 0} (R : K → K → Ordering) (key : T → K) (total : IsTo
 
   module _ (o p : Ordered T) (i g : ℕ) (t : T) where
     pub replaced_ascending : (u : T) → R (key t) (key u) ≡ Equal → IsReplaced i g t u o p
-        → IsAscending R key o → IsAscending R key p
+        → StaysAscending R key o p
     replaced_ascending u equal r ascending =
         let entries = listed-same (entry_in p) (with_entry (entry_in o) i (g, t)) r.entries
         (order_in o) in
@@ -376,15 +365,16 @@ module _ {K T : Type 0} (R : K → K → Ordering) (key : T → K) (total : IsTo
         (subst (IsSorted below) (sym entries) sorted)
 
     pub added_ascending : IsOrdered p
-        → IsBetween R key (key t) (entry_in o) i (order_in o) (order_in p)
+        → IsPlacedBetween R key (key t) i o p
         → IsAdded i g t o p
-        → IsAscending R key o → IsAscending R key p
+        → StaysAscending R key o p
     added_ascending new_is s r ascending =
         let apart : Apart (order_in p) =
         linear_apart (ends_in p.chains) None (order_in p) new_is.linear in
         let sorted = added (entry_in o) (entry_in p) i g t s.before s.after r.entries
         (subst Apart s.is apart)
-        (subst (λ w. IsSorted below (listed_of (entry_in o) w)) s.was ascending) s.low s.high in
+        (subst (λ w. IsSorted below (listed_of (entry_in o) w)) s.was ascending) s.none_greater
+        s.none_less in
         subst (λ w. IsSorted below (listed_of (entry_in p) w)) (sym s.is) sorted
 
   module _ {P : Type 0} (index generation : P → ℕ)
@@ -395,9 +385,9 @@ module _ {K T : Type 0} (R : K → K → Ordering) (key : T → K) (total : IsTo
         → ((i g : ℕ) (u : T) → place ≡ Some (i, Equal) → entry_in o i ≡ Some (g, u)
         → R (key t) (key u) ≡ Equal)
         → ((n : ℕ) → StandsAt place (order_in o) (order_in p) n
-        → IsBetween R key (key t) (entry_in o) n (order_in o) (order_in p))
+        → IsPlacedBetween R key (key t) n o p)
         → IsInsertedAt index generation allows place t result o p
-        → IsAscending R key o → IsAscending R key p
+        → StaysAscending R key o p
     inserted_ascending o p t place result new_is equal between put ascending = by result refl
       where
         by : (r : Result (P × Option T) OrdInsertionError) → result ≡ r → IsAscending R key p

@@ -7,8 +7,8 @@ use Rattle.std.specs.List.{AllByRecursion}
 use Rattle.std.specs.declared.cmp.Ordering.{Ordering}
 use Rattle.std.specs.declared.cmp.Ordering.TheVariants.{Less, Equal, Greater}
 use Rattle.triple_arena.specs.Entries.{generation_at}
-use Rattle.triple_arena_chain.specs.Chains.{IsLinear, On, first_or, next_in, next_at}
-use Rattle.triple_arena_chain.specs.ListLaws.{On-back, On-first}
+use Rattle.linked_lists.specs.LinkedLists.{IsLinear, On, first_or, next_in, next_at}
+use Rattle.linked_lists.specs.ChainLaws.{On-back, On-first}
 use Rattle.triple_arena_chain.specs.Links.{ends_in}
 use Rattle.rank_tree.specs.Tree.{Tree, leaf, node, walk}
 use Rattle.rank_tree.specs.Shape.{root_of}

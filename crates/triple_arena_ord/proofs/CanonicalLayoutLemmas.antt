@@ -8,9 +8,9 @@ use Rattle.std.proofs.lemmas.List.FromFn.{length-range_with_len}
 use Rattle.triple_arena.specs.Compression.{renewed}
 use Rattle.triple_arena.specs.Content.{Content, live_count}
 use Rattle.triple_arena_chain.specs.LinkShape.{IndexLink}
-use Rattle.triple_arena_chain.specs.Chains.{Ends, first_or, last_or, On, IsLinear, IsRing}
-use Rattle.triple_arena_chain.specs.ListLaws.{On-first, linear_same, ring_or_linear, live_on}
-use Rattle.triple_arena_chain.specs.Lists.{Chain, Linear, Cyclic, all_members, AreAllChainsOf}
+use Rattle.linked_lists.specs.LinkedLists.{Ends, first_or, last_or, On, IsLinear, IsRing}
+use Rattle.linked_lists.specs.ChainLaws.{On-first, linear_same, ring_or_linear, live_on}
+use Rattle.linked_lists.specs.Chains.{Chain, Linear, Cyclic, all_members, AreAllChainsOf}
 use Rattle.triple_arena_chain.specs.Links.{ends_in, values_in}
 use Rattle.triple_arena_chain.specs.CanonicalLayout.{IsLaidOut, IsCanonical}
 use Rattle.rank_tree.specs.Halving.{IsHalvingOf}

@@ -12,7 +12,7 @@ use Rattle.triple_arena.specs.Transfer.{IsTransferred, IsFilled}
 use Rattle.triple_arena_chain.specs.CanonicalTransfer.{IsMovedAlong}
 use Rattle.triple_arena_chain.specs.CanonicalTransferLaws.{linear_order, linear_run, linear_moved}
 use Rattle.triple_arena_chain.specs.LinkShape.{IndexLink}
-use Rattle.triple_arena_chain.specs.Chains.{On, IsLinear}
+use Rattle.linked_lists.specs.LinkedLists.{On, IsLinear}
 use Rattle.triple_arena_chain.specs.IterChains.{links_along}
 use Rattle.triple_arena_chain.specs.Links.{ends_in, values_in}
 use Rattle.triple_arena_chain.specs.Listed.{listed_values}

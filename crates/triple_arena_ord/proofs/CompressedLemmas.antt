@@ -8,7 +8,7 @@ use Rattle.triple_arena.specs.Compression.{renewed, generation_given, generation
 use Rattle.triple_arena.specs.Compression.{index_of, entry_of_listed, IsMapped}
 use Rattle.triple_arena.specs.Content.{Content, entry_at, live_count, some_counter}
 use Rattle.triple_arena_chain.specs.LinkShape.{IndexLink}
-use Rattle.triple_arena_chain.specs.Chains.{IsLinear, On}
+use Rattle.linked_lists.specs.LinkedLists.{IsLinear, On}
 use Rattle.triple_arena_chain.specs.Links.{ends_in, entry_ends, values_in, valued}
 use Rattle.triple_arena_chain.specs.Listed.{listed_values}
 use Rattle.triple_arena_chain.specs.Renaming.{new_index, IsCompacted}

@@ -2,10 +2,10 @@
 use Rattle.std.proofs.Common.{◌≡◌, ◌≢◌, ℕ, List, [], ◌∷◌, ◌++◌, Option, Some, None, refl, sym, ap}
 use Rattle.std.proofs.Common.{◌∙◌, subst}
 use Rattle.std.proofs.lemmas.Bool.{eq-eqb, ne_eqb}
-use Rattle.triple_arena_chain.specs.Chains.{Off, Apart, first_or, last_or}
-use Rattle.triple_arena_chain.specs.ChainLaws.{Off-not_on, last_or-append}
+use Rattle.linked_lists.specs.LinkedLists.{Off, Apart, first_or, last_or}
+use Rattle.linked_lists.specs.LinkedListLaws.{Off-not_on, last_or-append}
 use Rattle.triple_arena_chain.specs.Links.{ends_in}
-use Rattle.triple_arena_chain.specs.UniquenessLaws.{linear_apart}
+use Rattle.linked_lists.specs.UniquenessLaws.{linear_apart}
 use Rattle.rank_tree.specs.declared.side.Side.{Side}
 use Rattle.rank_tree.specs.declared.side.Side.TheVariants.{Left, Right}
 use Rattle.triple_arena_ord.specs.Ordered.{Ordered, IsOrdered, StandsBeside, beside, moved}

@@ -1,16 +1,16 @@
 -- The first entry of an ordered arena.
-use Rattle.std.proofs.Common.{◌≡◌, ◌==◌, ℕ, ◌<◌, ◌≤◌, List, [], ◌∷◌, length, Option, Some, None}
+use Rattle.std.proofs.Common.{◌≡◌, ◌==◌, ℕ, ◌<◌, ◌≤◌, [], ◌∷◌, length, Some, None}
 use Rattle.std.proofs.Common.{IsSome, if◌then◌else◌, refl, sym, ap, ◌∙◌, subst, arith, inl, inr}
 use Rattle.std.specs.Option.{option_map}
 use Rattle.std.proofs.lemmas.Bool.{cases_eq, eq-eqb, ne_eqb}
 use Rattle.triple_arena.specs.Content.{Content}
 use Rattle.triple_arena_chain.specs.LinkShape.{IndexLink}
 use Rattle.triple_arena_chain.specs.declared.gap.Gap.TheVariants.{Between}
-use Rattle.triple_arena_chain.specs.Chains.{IsLinear}
+use Rattle.linked_lists.specs.LinkedLists.{IsLinear}
 use Rattle.triple_arena_chain.specs.Links.{ends_in, values_in, valued, IsLinkInserted}
 use Rattle.rank_tree.specs.declared.side.Side.TheVariants.{Left}
 use Rattle.rank_tree.specs.Tree.{Tree, leaf, node, walk, IsRanked}
-use Rattle.rank_tree.specs.Shape.{node_view, RepresentsTree, IsDistinct, one, count}
+use Rattle.rank_tree.specs.Shape.{node_view, RepresentsTree, one, count}
 use Rattle.rank_tree.specs.Whole.{tree_of}
 use Rattle.rank_tree.specs.FrameLaws.{one-same, one-other, IsDistinct-walk}
 use Rattle.rank_tree.specs.UniqueLaws.{tree_is}

@@ -1,9 +1,9 @@
 -- Where a linear chain is cut, and the neighbors of one of its indexes.
 use Rattle.std.proofs.Common.{◌≡◌, ℕ, List, [], ◌∷◌, ◌++◌, Option, Some, None, IsSome, refl, sym}
 use Rattle.std.proofs.Common.{ap, subst, inr, ◌⊎◌}
-use Rattle.triple_arena_chain.specs.Chains.{Ends, IsSegment, IsLinear, first_or, last_or, IsBetween}
-use Rattle.triple_arena_chain.specs.Chains.{next_in, prev_in, prev_at}
-use Rattle.triple_arena_chain.specs.ChainLaws.{segment-front, segment-back, last_or-append}
+use Rattle.linked_lists.specs.LinkedLists.{Ends, IsSegment, IsLinear, first_or, last_or, IsBetween}
+use Rattle.linked_lists.specs.LinkedLists.{next_in, prev_in, prev_at}
+use Rattle.linked_lists.specs.LinkedListLaws.{segment-front, segment-back, last_or-append}
 
 -- the last of a list
 pub record Last (xs : List ℕ) (p : ℕ) : Type 0 where

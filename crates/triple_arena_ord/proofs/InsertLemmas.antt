@@ -11,12 +11,12 @@ use Rattle.std.specs.declared.cmp.Ordering.TheVariants.{Less, Equal, Greater}
 use Rattle.triple_arena.specs.Content.{Content}
 use Rattle.triple_arena_ptr.specs.declared.errors.OrdInsertionError.{OrdInsertionError}
 use Rattle.triple_arena_chain.specs.LinkShape.{IndexLink}
-use Rattle.triple_arena_chain.specs.Chains.{Off, Apart}
-use Rattle.triple_arena_chain.specs.ChainLaws.{Off-not_on}
+use Rattle.linked_lists.specs.LinkedLists.{Off, Apart}
+use Rattle.linked_lists.specs.LinkedListLaws.{Off-not_on}
 use Rattle.triple_arena_chain.specs.Links.{ends_in, values_in, with_value_in}
 use Rattle.triple_arena_chain.specs.LinkLaws.{values-with_value_in, ends-with_value_in}
 use Rattle.triple_arena_chain.specs.LinkLaws.{kept-with_value_in}
-use Rattle.triple_arena_chain.specs.UniquenessLaws.{linear_apart}
+use Rattle.linked_lists.specs.UniquenessLaws.{linear_apart}
 use Rattle.triple_arena_ord.specs.NodeShape.{IndexNode}
 use Rattle.rank_tree.specs.NodeView.{NodeView}
 use Rattle.triple_arena_ord.specs.Node.{nodes_in, view_of, itemed}

@@ -1,14 +1,13 @@
 -- What laws say of the list.
-use Rattle.std.specs.List.{AllByRecursion}
 use Rattle.std.proofs.Common.{◌≡◌, ◌≢◌, ℕ, List, ◌∷◌, ◌++◌, Some, IsSome, sym, ap, ◌∙◌, subst}
 use Rattle.std.specs.Cmp.{IsTotalOrder}
 use Rattle.std.specs.Ordering.{ordering_reverse}
 use Rattle.std.specs.declared.cmp.Ordering.{Ordering}
 use Rattle.std.specs.declared.cmp.Ordering.TheVariants.{Less, Equal, Greater}
-use Rattle.triple_arena_chain.specs.Chains.{On}
+use Rattle.linked_lists.specs.LinkedLists.{On}
 use Rattle.rank_tree.specs.Search.{Before, IsParted}
 use Rattle.triple_arena_ord.specs.Ordered.{Ordered, IsOrdered, IsAscending, tree_in, order_in}
-use Rattle.triple_arena_ord.specs.Ordered.{entry_in, asked_of, asked_at}
+use Rattle.triple_arena_ord.specs.Ordered.{NoneGreater, NoneLess, entry_in, asked_of, asked_at}
 use Rattle.rank_tree.specs.DescentLaws.{before, after, all-map, parted-after, parted-before}
 use Rattle.rank_tree.specs.DescentLaws.{plug-walk_is}
 use Rattle.triple_arena_ord.proofs.LeafLemmas.{Located, located}
@@ -61,7 +60,7 @@ module _ {T : Type 0} where
     pub not_greater_before : (o : Ordered T) → IsOrdered o → IsAscending cmp key o
         → (front back : List ℕ) (i : ℕ) (entry : ℕ × T)
         → order_in o ≡ front ++ i ∷ back → entry_in o i ≡ Some entry
-        → AllByRecursion (λ j. asked_at cmp key (key entry.1) o j ≢ Less) front
+        → NoneGreater cmp key (key entry.1) o front
     not_greater_before o ordered ascending front back i entry is at =
         let f = asked_at cmp key (key entry.1) o in
         let here : f i ≡ Equal = asked_here o i entry at in
@@ -73,7 +72,7 @@ module _ {T : Type 0} where
     pub not_less_after : (o : Ordered T) → IsOrdered o → IsAscending cmp key o
         → (front back : List ℕ) (i : ℕ) (entry : ℕ × T)
         → order_in o ≡ front ++ i ∷ back → entry_in o i ≡ Some entry
-        → AllByRecursion (λ j. asked_at cmp key (key entry.1) o j ≢ Greater) back
+        → NoneLess cmp key (key entry.1) o back
     not_less_after o ordered ascending front back i entry is at =
         let f = asked_at cmp key (key entry.1) o in
         let here : f i ≡ Equal = asked_here o i entry at in

@@ -7,18 +7,20 @@ use Rattle.std.proofs.lemmas.Bool.{cases_eq, cases_lt, eq-eqb, ne_eqb}
 use Rattle.triple_arena.specs.Content.{Content, entry_at, live_count}
 use Rattle.triple_arena_chain.specs.LinkShape.{IndexLink}
 use Rattle.triple_arena_chain.specs.declared.gap.Gap.TheVariants.{Between}
-use Rattle.triple_arena_chain.specs.Chains.{Ends, IsLinear, IsBetween, first_or, last_or}
+use Rattle.linked_lists.specs.LinkedLists.{Ends, IsLinear, IsBetween, first_or, last_or}
 use Rattle.triple_arena_chain.specs.Links.{ends_in, entry_ends, values_in, valued, IsLinkInserted}
-use Rattle.triple_arena_chain.specs.Lists.{Linear}
-use Rattle.triple_arena_chain.specs.ListLaws.{chain_where}
+use Rattle.linked_lists.specs.Chains.{Linear}
+use Rattle.linked_lists.specs.ChainLaws.{chain_where}
 use Rattle.rank_tree.specs.declared.side.Side.{Side}
 use Rattle.rank_tree.specs.declared.side.Side.TheVariants.{Left, Right}
 use Rattle.triple_arena_ord.specs.NodeShape.{IndexNode}
 use Rattle.rank_tree.specs.NodeView.{NodeView}
 use Rattle.rank_tree.specs.Store.{child_of}
 use Rattle.triple_arena_ord.specs.Node.{nodes_in, view_of, itemed, rest, prev_for, next_for}
+use Rattle.triple_arena_ord.specs.Node.{prev_beside, next_beside}
 use Rattle.rank_tree.specs.Tree.{Tree, leaf, node, walk, IsRanked}
-use Rattle.rank_tree.specs.Shape.{make, node_view, root_of, Context, top, under, plug, holder, RepresentsTree}
+use Rattle.rank_tree.specs.Shape.{make, node_view, root_of, Context, top, under, plug, holder}
+use Rattle.rank_tree.specs.Shape.{RepresentsTree}
 use Rattle.rank_tree.specs.Shape.{IsDistinct, one, count}
 use Rattle.rank_tree.specs.Repair.{FreeSide, new_below, filled, Restored}
 use Rattle.triple_arena_ord.specs.Inserted.{IsAdded}
@@ -181,8 +183,8 @@ module _ {T : Type 0} where
   pub cut_found : (o : Ordered T) → IsOrdered o
       → (h : ℕ) (side : Side) (prev next : Option ℕ)
       → IsSome (nodes_in o.chains h) → IsFree o h side
-      → option_map (λ e. prev_for side e.1 h) (entry_at o.chains h) ≡ Some prev
-      → option_map (λ e. next_for side e.1 h) (entry_at o.chains h) ≡ Some next
+      → prev_beside side o.chains h ≡ Some prev
+      → next_beside side o.chains h ≡ Some next
       → Cut o h side prev next
   cut_found o is h side prev next lives free p q = by (entry_at o.chains h) refl p q
     where

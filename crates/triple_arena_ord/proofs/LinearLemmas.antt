@@ -11,15 +11,17 @@ use Rattle.triple_arena.specs.Entries.{value_if}
 use Rattle.triple_arena_ord.specs.NodeShape.{IndexNode}
 use Rattle.std.specs.List.Sorted.{IsSorted}
 use Rattle.rank_tree.specs.Comparisons.{most_comparisons}
-use Rattle.triple_arena_chain.specs.Chains.{IsLinear, On, first_or}
+use Rattle.linked_lists.specs.LinkedLists.{IsLinear, On, first_or}
 use Rattle.triple_arena_chain.specs.Links.{ends_in, values_in}
-use Rattle.triple_arena_ord.specs.Node.{items_in, itemed}
+use Rattle.triple_arena_ord.specs.Node.{itemed}
 use Rattle.rank_tree.specs.Tree.{rank_of}
 use Rattle.rank_tree.specs.Search.{IsParted, IsAnswer}
 use Rattle.triple_arena_ord.specs.Near.{IsEndNear, IsAtHand, IsStop, IsWalked, IsPlaceCounted}
 use Rattle.triple_arena_ord.specs.Near.{IsKeyCounted, EndsWithin, path_from, asked_in, beyond}
+use Rattle.triple_arena_ord.specs.Near.{IsPartedAtHand}
 use Rattle.triple_arena_ord.specs.Ordered.{Ordered, IsOrdered, IsAscending, tree_in, order_in}
 use Rattle.triple_arena_ord.specs.Ordered.{entry_in, size_in, asked_at}
+use Rattle.triple_arena_ord.specs.Found.{place_by}
 use Rattle.triple_arena_ord.proofs.LiveLemmas.{counted_entry, entry_counted}
 use Rattle.triple_arena_ord.proofs.SeekLemmas.{few, unequal}
 use Rattle.triple_arena_ord.proofs.NearLemmas.{all-at, place_ended, place_passed, key_ended}
@@ -114,7 +116,7 @@ module _ {I T : Type 0} (number : I → ℕ) where
   -- where a search ends there is an entry
   pub places_live : {f : ℕ → Ordering} (o inside : Ordered T) → inside ≡ o → IsOrdered o
       → (r : Option (I × Ordering))
-      → IsAnswer f (tree_in o) (option_map (λ a. (number a.0, a.1)) r)
+      → IsAnswer f (tree_in o) (place_by number r)
       → IfSome r (λ a. IsSome (entry_in inside (number a.0)))
   places_live o inside same is None answer = tt
   places_live o inside same is (Some x) answer =
@@ -126,24 +128,23 @@ module _ {I T : Type 0} (number : I → ℕ) where
         (start : ℕ) (lives : IsSome (entry_in inside start)) (r : Option (I × Ordering)) where
       abbrev Stops : Type 0
       Stops = (w : List ℕ) → IsLinear (ends_in inside.chains) w → On w start
-          → IfSome r (λ a. IsStop (asked_in cmp key k (items_in inside.chains)) w (number a.0) a.1)
+          → IfSome r (λ a. IsStop (asked_in cmp key k inside.chains) w (number a.0) a.1)
 
       abbrev Reaches : ℕ → Type 0
       Reaches num = (w : List ℕ) → IsLinear (ends_in inside.chains) w → On w start
-          → IsParted (asked_in cmp key k (items_in inside.chains)) w
-          → IsAtHand num (asked_in cmp key k (items_in inside.chains)) w start → r ≢ None
+          → IsPartedAtHand num (asked_in cmp key k inside.chains) w start → r ≢ None
 
       abbrev Walks : (num old new : ℕ) → Type 0
       Walks num old new = (w : List ℕ) → IsLinear (ends_in inside.chains) w
           → (on : On w start)
-          → IsWalked num (path_from (asked_in cmp key k (items_in inside.chains)) on)
+          → IsWalked num (path_from (asked_in cmp key k inside.chains) on)
           (option_map (λ a. number a.0) r) old new
 
       on : On (order_in inside) start
       on = counted-walk (tree_in inside) start (entry_counted inside is start lives)
 
       pub linear_answer : Stops → (i : ℕ) (d : Ordering)
-          → option_map {U = ℕ × Ordering} (λ a. (number a.0, a.1)) r ≡ Some (i, d)
+          → place_by number r ≡ Some (i, d)
           → IsAnswer (asked_at cmp key k o) (tree_in o) (Some (i, d))
       linear_answer stops i d e =
           subst (λ z. IsAnswer (asked_at cmp key k z) (tree_in z) (Some (i, d))) same
@@ -151,7 +152,7 @@ module _ {I T : Type 0} (number : I → ℕ) where
           (taken r e (stops (order_in inside) is.linear on)))
         where
           taken : (s : Option (I × Ordering))
-              → option_map {U = ℕ × Ordering} (λ a. (number a.0, a.1)) s ≡ Some (i, d)
+              → place_by number s ≡ Some (i, d)
               → IfSome s (λ a. IsStop (asked_at cmp key k inside) (order_in inside)
               (number a.0) a.1)
               → IsStop (asked_at cmp key k inside) (order_in inside) i d
@@ -178,13 +179,12 @@ module _ {I T : Type 0} (number : I → ℕ) where
           → IsAtHand num (asked_at cmp key k o) (order_in o) start → ⊥
       linear_near num near none parted hand =
           near (order_in inside) is.linear on
-          (subst (λ z. IsParted (asked_at cmp key k z) (order_in z)) (sym same) parted)
-          (subst (λ z. IsAtHand num (asked_at cmp key k z) (order_in z) start) (sym same)
-          hand) none
+          (subst (λ z. IsPartedAtHand num (asked_at cmp key k z) (order_in z) start) (sym same)
+          (parted, hand)) none
 
       -- where no equal key was found, none is near
       pub linear_missed : (num : ℕ) → Stops → Reaches num
-          → ((i : ℕ) → option_map {U = ℕ × Ordering} (λ a. (number a.0, a.1)) r ≢ Some (i, Equal))
+          → ((i : ℕ) → place_by number r ≢ Some (i, Equal))
           → IsParted (asked_at cmp key k o) (order_in o)
           → IsEndNear num (asked_at cmp key k o) (order_in o) start → ⊥
       linear_missed num stops near missed parted end = by r refl
@@ -192,9 +192,7 @@ module _ {I T : Type 0} (number : I → ℕ) where
           by : (s : Option (I × Ordering)) → r ≡ s → ⊥
           by None e = linear_near num near e parted (inl end)
           by (Some x) e =
-              let at : option_map {U = ℕ × Ordering} (λ a. (number a.0, a.1)) r
-              ≡ Some (number x.0, x.1) =
-              ap (option_map {U = ℕ × Ordering} (λ a. (number a.0, a.1))) e in
+              let at : place_by number r ≡ Some (number x.0, x.1) = ap (place_by number) e in
               let answer = linear_answer stops (number x.0) x.1 at in
               let not = unequal (asked_at cmp key k o) (tree_in o) (Some (number x.0, x.1))
               answer (λ i d u v. missed i (at ∙ u ∙ ap (λ d. Some (i, d)) v)) parted in
@@ -214,13 +212,13 @@ module _ {I T : Type 0} (number : I → ℕ) where
       -- where the way ends within `num`, the walk ends there
       pub linear_ends : (num old new : ℕ) → Stops → Walks num old new → (i : ℕ) (d : Ordering)
           → EndsWithin num (asked_at cmp key k o) (order_in o) start i d
-          → option_map {U = ℕ × Ordering} (λ a. (number a.0, a.1)) r ≡ Some (i, d)
+          → place_by number r ≡ Some (i, d)
       linear_ends num old new stops walks i d ends = by r refl (walked num old new walks ends.on)
         where
           by : (s : Option (I × Ordering)) → r ≡ s
               → IsWalked num (path_from (asked_at cmp key k o) ends.on)
               (option_map (λ a. number a.0) r) old new
-              → option_map {U = ℕ × Ordering} (λ a. (number a.0, a.1)) r ≡ Some (i, d)
+              → place_by number r ≡ Some (i, d)
           by None e told =
               let path = path_from (asked_at cmp key k o) ends.on in
               let gone = subst (λ t. IsWalked num path (option_map (λ a. number a.0) t) old new) e
@@ -232,9 +230,7 @@ module _ {I T : Type 0} (number : I → ℕ) where
               let path = path_from (asked_at cmp key k o) ends.on in
               let gone = subst (λ t. IsWalked num path (option_map (λ a. number a.0) t) old new) e
               told in
-              let at : option_map {U = ℕ × Ordering} (λ a. (number a.0, a.1)) r
-              ≡ Some (number x.0, x.1) =
-              ap (option_map {U = ℕ × Ordering} (λ a. (number a.0, a.1))) e in
+              let at : place_by number r ≡ Some (number x.0, x.1) = ap (place_by number) e in
               let way : asked_at cmp key k o (number x.0) ≡ x.1 =
               (linear_answer stops (number x.0) x.1 at).asked (number x.0) x.1 refl in
               let last = gone.0 in
@@ -262,7 +258,7 @@ module _ {I T : Type 0} (number : I → ℕ) where
           (walked num old mid walks on)) ticks
 
       pub linear_key_ended : (num down old new : ℕ) → Stops → Walks num old new → (i : ℕ)
-          → option_map {U = ℕ × Ordering} (λ a. (number a.0, a.1)) r ≡ Some (i, Equal)
+          → place_by number r ≡ Some (i, Equal)
           → (s : ℕ) → start ≡ s → (on : On (order_in o) s)
           → IsKeyCounted num down (asked_at cmp key k o) (path_from (asked_at cmp key k o) on)
           old new
@@ -277,13 +273,13 @@ module _ {I T : Type 0} (number : I → ℕ) where
           ((linear_answer stops i Equal e).asked i Equal refl) refl)
         where
           index_of : (t : Option (I × Ordering))
-              → option_map {U = ℕ × Ordering} (λ a. (number a.0, a.1)) t ≡ Some (i, Equal)
+              → place_by number t ≡ Some (i, Equal)
               → option_map (λ a. number a.0) t ≡ Some i
           index_of None u = absurd (cc)
           index_of (Some y) u = ap (option_map {U = ℕ} (λ (p : ℕ × Ordering). p.0)) u
 
       pub linear_key_passed : (num down old mid new : ℕ) → Stops → Walks num old mid
-          → ((i : ℕ) → option_map {U = ℕ × Ordering} (λ a. (number a.0, a.1)) r ≢ Some (i, Equal))
+          → ((i : ℕ) → place_by number r ≢ Some (i, Equal))
           → new ≡ mid + down → (s : ℕ) → start ≡ s → (on : On (order_in o) s)
           → IsKeyCounted num down (asked_at cmp key k o) (path_from (asked_at cmp key k o) on) old
           new
@@ -305,9 +301,7 @@ module _ {I T : Type 0} (number : I → ℕ) where
               (subst (λ t. IsWalked num path (option_map (λ a. number a.0) t) old mid) e told) ticks
           by on (Some x) e told =
               let path = path_from (asked_at cmp key k o) on in
-              let at : option_map {U = ℕ × Ordering} (λ a. (number a.0, a.1)) r
-              ≡ Some (number x.0, x.1) =
-              ap (option_map {U = ℕ × Ordering} (λ a. (number a.0, a.1))) e in
+              let at : place_by number r ≡ Some (number x.0, x.1) = ap (place_by number) e in
               let way : asked_at cmp key k o (number x.0) ≡ x.1 =
               (linear_answer stops (number x.0) x.1 at).asked (number x.0) x.1 refl in
               key_other num down old mid new (asked_at cmp key k o) (asked_at cmp key k o start)

@@ -6,8 +6,8 @@ use Rattle.std.proofs.lemmas.Bool.Decides.{eqb_tells, leb_tells}
 use Rattle.triple_arena.specs.Content.{Content, entry_at}
 use Rattle.triple_arena.specs.Walk.{Walk, IsAhead, IsFirstLive}
 use Rattle.triple_arena_chain.specs.LinkShape.{IndexLink}
-use Rattle.triple_arena_chain.specs.Chains.{Ends, first_or, last_or, On, IsSegment, IsLinear}
-use Rattle.triple_arena_chain.specs.ListLaws.{On-either, on_differs}
+use Rattle.linked_lists.specs.LinkedLists.{Ends, first_or, last_or, On, IsSegment, IsLinear}
+use Rattle.linked_lists.specs.ChainLaws.{On-either, on_differs}
 use Rattle.triple_arena_chain.specs.Links.{ends_in, entry_ends, values_in, valued}
 use Rattle.triple_arena_ord.specs.Compressed.{end_noted}
 

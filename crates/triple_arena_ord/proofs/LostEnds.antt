@@ -2,10 +2,10 @@
 use Rattle.std.proofs.Common.{◌≡◌, ℕ, List, [], ◌∷◌, ◌++◌, Option, Some, None, refl, sym, ap, ◌∙◌}
 use Rattle.std.proofs.Common.{subst}
 use Rattle.std.proofs.lemmas.Bool.{eq-eqb, ne_eqb}
-use Rattle.triple_arena_chain.specs.Chains.{Ends, Off, Apart, IsLinear, first_or, last_or}
-use Rattle.triple_arena_chain.specs.ChainLaws.{Off-not_on, last_or-append}
+use Rattle.linked_lists.specs.LinkedLists.{Ends, Off, Apart, IsLinear, first_or, last_or}
+use Rattle.linked_lists.specs.LinkedListLaws.{Off-not_on, last_or-append}
 use Rattle.triple_arena_chain.specs.Links.{ends_in}
-use Rattle.triple_arena_chain.specs.UniquenessLaws.{linear_apart}
+use Rattle.linked_lists.specs.UniquenessLaws.{linear_apart}
 use Rattle.triple_arena_ord.specs.Ordered.{Ordered, IsOrdered, order_in}
 use Rattle.triple_arena_ord.specs.Removal.{Loses, ended}
 use Rattle.triple_arena_ord.proofs.EndLemmas.{last_far, last_some, after_off}

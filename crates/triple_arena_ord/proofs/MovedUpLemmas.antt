@@ -5,7 +5,7 @@ use Rattle.std.specs.Option.{option_map}
 use Rattle.rank_tree.specs.NodeView.{NodeView}
 use Rattle.rank_tree.specs.Repair.{Loose}
 use Rattle.triple_arena.specs.Content.{live_count}
-use Rattle.triple_arena_chain.specs.Chains.{next_at}
+use Rattle.linked_lists.specs.LinkedLists.{next_at}
 use Rattle.triple_arena_chain.specs.Links.{ends_in}
 use Rattle.triple_arena_ord.specs.Node.{nodes_in}
 use Rattle.triple_arena_ord.specs.Ordered.{Ordered, IsOrdered}

@@ -8,9 +8,9 @@ use Rattle.std.proofs.lemmas.Bool.{cases_lt}
 use Rattle.std.proofs.lemmas.List.{reverse-append}
 use Rattle.std.specs.declared.cmp.Ordering.{Ordering}
 use Rattle.std.specs.declared.cmp.Ordering.TheVariants.{Less, Equal, Greater}
-use Rattle.triple_arena_chain.specs.Chains.{Ends, IsLinear, first_or, last_or, Off, Apart, On}
-use Rattle.triple_arena_chain.specs.ChainLaws.{Off-not_on}
-use Rattle.triple_arena_chain.specs.UniquenessLaws.{linear_apart}
+use Rattle.linked_lists.specs.LinkedLists.{Ends, IsLinear, first_or, last_or, Off, Apart, On}
+use Rattle.linked_lists.specs.LinkedListLaws.{Off-not_on}
+use Rattle.linked_lists.specs.UniquenessLaws.{linear_apart}
 use Rattle.rank_tree.specs.Search.{Before, IsParted, EndsAt}
 use Rattle.triple_arena_ord.specs.Near.{IsNear, IsEndNear, IsGapNear, HasEnd, IsWalked}
 use Rattle.triple_arena_ord.specs.Near.{IsPlaceCounted, IsKeyCounted, onward, if_onward, up_to}

@@ -1,19 +1,18 @@
 -- The first entry of the list leaves.
 use Rattle.std.proofs.Common.{◌≡◌, ℕ, suc, List, [], ◌∷◌, ◌++◌, length, Option, Some, None, IsSome}
-use Rattle.std.proofs.Common.{append-nil, Bool, refl, sym, ap, subst, ◌∙◌, arith}
-use Rattle.std.specs.Option.{option_map}
+use Rattle.std.proofs.Common.{append-nil, refl, sym, ap, subst, ◌∙◌, arith}
 use Rattle.std.proofs.lemmas.Bool.{ne_eqb}
-use Rattle.triple_arena_ptr.specs.Generation.{next_generation, next_wraps}
-use Rattle.triple_arena_ptr.specs.InvalidationOption.{value_of, overflowed}
+use Rattle.triple_arena_ptr.specs.Generation.{next_generation}
+use Rattle.triple_arena_ptr.specs.InvalidationOption.{value_of}
 use Rattle.triple_arena_ptr.specs.declared.invalidation.InvalidationOption.{InvalidationOption}
 use Rattle.triple_arena.specs.Drains.{removals}
 use Rattle.triple_arena.specs.DrainLaws.{removals-length}
 use Rattle.triple_arena.specs.Entries.{without}
-use Rattle.triple_arena_chain.specs.Chains.{Off, On, Apart, first_or, last_or}
-use Rattle.triple_arena_chain.specs.ChainLaws.{Off-not_on, On-cons}
-use Rattle.triple_arena_chain.specs.ListLaws.{Apart-split, On-first}
+use Rattle.linked_lists.specs.LinkedLists.{Off, On, Apart, first_or, last_or}
+use Rattle.linked_lists.specs.LinkedListLaws.{Off-not_on, On-cons}
+use Rattle.linked_lists.specs.ChainLaws.{Apart-split, On-first}
 use Rattle.triple_arena_chain.specs.Links.{ends_in}
-use Rattle.triple_arena_chain.specs.UniquenessLaws.{linear_apart}
+use Rattle.linked_lists.specs.UniquenessLaws.{linear_apart}
 use Rattle.triple_arena_ord.specs.Ordered.{Ordered, IsOrdered, order_in, entry_in, size_in}
 use Rattle.triple_arena_ord.specs.Ordered.{counter_in, ordered_entries, entries_at}
 use Rattle.triple_arena_ord.specs.OrderedDrains.{emptied_after, IsTaken, IsFirstTaken, IsLastTaken}

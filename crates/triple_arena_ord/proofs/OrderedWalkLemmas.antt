@@ -7,12 +7,12 @@ use Rattle.std.proofs.lemmas.List.{reverse-append, reverse-reverse}
 use Rattle.triple_arena.specs.Content.{entry_at}
 use Rattle.triple_arena.specs.Entries.{generation_at, value_if}
 use Rattle.triple_arena_chain.specs.LinkShape.{IndexLink}
-use Rattle.triple_arena_chain.specs.Chains.{Ends, Off, Apart, On, IsLinear, next_at, prev_at}
-use Rattle.triple_arena_chain.specs.Chains.{next_in, prev_in, first_or, last_or}
-use Rattle.triple_arena_chain.specs.ChainLaws.{Off-append, Apart-last, last_or-append, off_or_on}
-use Rattle.triple_arena_chain.specs.ListLaws.{Apart-split, first_on, last_on_list}
+use Rattle.linked_lists.specs.LinkedLists.{Ends, Off, Apart, On, IsLinear, next_at, prev_at}
+use Rattle.linked_lists.specs.LinkedLists.{next_in, prev_in, first_or, last_or}
+use Rattle.linked_lists.specs.LinkedListLaws.{Off-append, Apart-last, last_or-append, off_or_on}
+use Rattle.linked_lists.specs.ChainLaws.{Apart-split, first_on, last_on_list}
 use Rattle.triple_arena_chain.specs.Links.{ends_in, entry_ends, valued}
-use Rattle.triple_arena_chain.specs.UniquenessLaws.{linear_apart}
+use Rattle.linked_lists.specs.UniquenessLaws.{linear_apart}
 use Rattle.triple_arena_ord.specs.NodeShape.{IndexNode}
 use Rattle.triple_arena_ord.specs.Node.{nodes_in, itemed}
 use Rattle.triple_arena_ord.specs.Ordered.{Ordered, IsOrdered, tree_in, order_in, entry_in}

@@ -10,12 +10,12 @@ use Rattle.triple_arena_ptr.specs.declared.errors.OrdInsertionError.{OrdInsertio
 use Rattle.rank_tree.specs.declared.side.Side.TheVariants.{Left}
 use Rattle.rank_tree.specs.Search.{Before, IsParted}
 use Rattle.triple_arena_ord.specs.Ordered.{Ordered, IsOrdered, IsAscending, StandsBeside, order_in}
-use Rattle.triple_arena_ord.specs.Ordered.{entry_in, asked_of, asked_at}
-use Rattle.triple_arena_ord.specs.Inserted.{StandsAt, IsInsertedAt, IsPlacedByKey}
+use Rattle.triple_arena_ord.specs.Ordered.{StaysAscending, asked_of, asked_at}
+use Rattle.triple_arena_ord.specs.Inserted.{StandsAt, IsInsertedAt, IsPlacedByKey, IsPlacedBetween}
 use Rattle.triple_arena_ord.specs.Placing.{IsPlaceByKey, IsPlaceBeforeEqual, before_equal}
 use Rattle.rank_tree.specs.DescentLaws.{all-map, parted-after, parted-before}
 use Rattle.triple_arena_ord.proofs.SeekLemmas.{parts_at}
-use Rattle.triple_arena_ord.proofs.AscendingLemmas.{IsBetween, inserted_ascending}
+use Rattle.triple_arena_ord.proofs.AscendingLemmas.{inserted_ascending}
 use Rattle.triple_arena_ord.proofs.InsertLemmas.{by_key}
 
 module _ {T K : Type 0} (cmp : K → K → Ordering) (key : T → K)
@@ -26,7 +26,7 @@ module _ {T K : Type 0} (cmp : K → K → Ordering) (key : T → K)
       f = asked_at cmp key k o
 
       abbrev Between : Type 0
-      Between = IsBetween cmp key k (entry_in o) n (order_in o) (order_in p)
+      Between = IsPlacedBetween cmp key k n o p
 
       -- what stands after lesser and before greater keys
       strictly : IsPlacedByKey cmp key k n o p → Between
@@ -35,11 +35,12 @@ module _ {T K : Type 0} (cmp : K → K → Ordering) (key : T → K)
         after = s.after;
         was = s.was;
         is = s.is;
-        low = all-map (λ y. f y ≡ Greater) (λ y. f y ≢ Less)
+        none_greater = all-map (λ y. f y ≡ Greater) (λ y. f y ≢ Less)
             (λ y e d. let z : Greater ≡ Less = sym e ∙ d in absurd (cc)) s.before
             (s.greater ascending);
-        high = all-map (λ y. f y ≡ Less) (λ y. f y ≢ Greater)
-            (λ y e d. let z : Less ≡ Greater = sym e ∙ d in absurd (cc)) s.after (s.less ascending);
+        none_less = all-map (λ y. f y ≡ Less) (λ y. f y ≢ Greater)
+            (λ y e d. let z : Less ≡ Greater = sym e ∙ d in absurd (cc)) s.after
+            (s.less ascending);
       }
 
       directly_before : (h : ℕ) → f h ≡ Equal
@@ -51,10 +52,10 @@ module _ {T K : Type 0} (cmp : K → K → Ordering) (key : T → K)
             after = h ∷ s.after;
             was = s.was;
             is = s.is;
-            low = all-map (λ y. Before (f y) (f h)) (λ y. f y ≢ Less)
+            none_greater = all-map (λ y. Before (f y) (f h)) (λ y. f y ≢ Less)
                 (λ y z d. let e : Equal ≡ Less = sym here ∙ z.less d in absurd (cc)) s.before
                 (parted-before f s.before h s.after parted);
-            high = (
+            none_less = (
               λ d. let e : Equal ≡ Greater = sym here ∙ d in absurd (cc),
               all-map (λ y. Before (f h) (f y)) (λ y. f y ≢ Greater)
                   (λ y z d. let e : Equal ≡ Greater = sym here ∙ z.greater d in absurd (cc)) s.after
@@ -96,7 +97,7 @@ module _ {T K : Type 0} (cmp : K → K → Ordering) (key : T → K)
       (new_is : IsOrdered p) where
     pub placed_ascending : IsPlaceByKey cmp key (key t) o place
         → IsInsertedAt index generation allows place t result o p
-        → IsAscending cmp key o → IsAscending cmp key p
+        → StaysAscending cmp key o p
     placed_ascending at put ascending =
         inserted_ascending cmp key total index generation allows o p t place result new_is
         (λ i g u here was. sym (ap (asked_of cmp key (key t)) was) ∙ at.way i Equal here)
@@ -104,7 +105,7 @@ module _ {T K : Type 0} (cmp : K → K → Ordering) (key : T → K)
 
     pub placed_before_ascending : IsPlaceBeforeEqual cmp key (key t) o place
         → IsInsertedAt index generation allows place t result o p
-        → IsAscending cmp key o → IsAscending cmp key p
+        → StaysAscending cmp key o p
     placed_before_ascending at put ascending =
         inserted_ascending cmp key total index generation allows o p t place result new_is
         (λ i g u here was. absurd (never_equal at.found i (sym at.is ∙ here)))

@@ -1,12 +1,12 @@
 -- The place for a key is where the search for it ends.
 use Rattle.std.proofs.Common.{◌≡◌, ℕ, Option, Some, None, IsSome, IfSome, refl, sym, ap, ◌∙◌}
-use Rattle.std.specs.Option.{option_map}
 use Rattle.std.specs.Cmp.{IsTotalOrder}
 use Rattle.std.specs.declared.cmp.Ordering.{Ordering}
 use Rattle.rank_tree.specs.Tree.{size}
 use Rattle.rank_tree.specs.Search.{IsAnswer}
 use Rattle.triple_arena_ord.specs.Ordered.{Ordered, IsOrdered, tree_in, entry_in, size_in, asked_at}
 use Rattle.triple_arena_ord.specs.Placing.{IsPlaceByKey}
+use Rattle.triple_arena_ord.specs.Found.{place_by}
 use Rattle.rank_tree.specs.ClimbLaws.{size-walk}
 use Rattle.triple_arena_ord.proofs.FoundLemmas.{root_size, none_counted}
 use Rattle.triple_arena_ord.proofs.LiveLemmas.{counted_entry}
@@ -38,10 +38,10 @@ module _ {T K : Type 0} (cmp : K → K → Ordering) (key : T → K) (k : K) (o 
 module _ {I T K : Type 0} (number : I → ℕ) (cmp : K → K → Ordering) (key : T → K) (k : K)
     (o : Ordered T) (r : Option (I × Ordering)) where
   abbrev numbered : Option (ℕ × Ordering)
-  numbered = option_map (λ a. (number a.0, a.1)) r
+  numbered = place_by number r
 
   unplaced : r ≡ None → numbered ≡ None
-  unplaced e = ap (option_map {U = ℕ × Ordering} (λ a. (number a.0, a.1))) e
+  unplaced e = ap (place_by number) e
 
   pub key_live : IsPlaceByKey cmp key k o numbered
       → IfSome r (λ a. IsSome (entry_in o (number a.0)))

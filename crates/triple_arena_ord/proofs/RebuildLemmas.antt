@@ -1,19 +1,18 @@
 -- A tree that is written anew along a list: the parts of the list, and the tree of the whole.
-use Rattle.std.proofs.Common.{◌≡◌, ◌≢◌, ℕ, zero, suc, ◌+◌, ◌-◌, ◌*◌, ◌^◌, ◌/◌, ◌<◌, ◌≤◌, List, []}
+use Rattle.std.proofs.Common.{◌≡◌, ℕ, zero, suc, ◌+◌, ◌-◌, ◌^◌, ◌/◌, ◌<◌, ◌≤◌, List, []}
 use Rattle.std.proofs.Common.{◌∷◌, ◌++◌, length, Option, Some, None, IsSome, IfSome, is_some}
 use Rattle.std.proofs.Common.{true≢false, refl, sym, ap, subst, ◌∙◌, arith, inl, inr, length-append}
 use Rattle.std.specs.Option.{option_map}
 use Rattle.std.specs.Prelude.{min}
-use Rattle.std.proofs.Math.Nat.{pow-succ'}
-use Rattle.std.proofs.lemmas.Bool.Decides.{eqb_tells, leb_tells}
+use Rattle.std.proofs.lemmas.Bool.Decides.{eqb_tells}
 use Rattle.triple_arena.specs.Content.{Content, entry_at}
 use Rattle.triple_arena_chain.specs.LinkShape.{IndexLink}
-use Rattle.triple_arena_chain.specs.Chains.{Ends, next_in, next_at, first_or, IsSegment, Off, Apart}
-use Rattle.triple_arena_chain.specs.Chains.{IsLinear}
-use Rattle.triple_arena_chain.specs.ChainLaws.{first_or-append, segment-front, segment-back}
-use Rattle.triple_arena_chain.specs.ChainLaws.{off_or_on, Off-front, Off-back, Apart-both}
-use Rattle.triple_arena_chain.specs.ListLaws.{Apart-front, Apart-back, Apart-split, segment-where}
-use Rattle.triple_arena_chain.specs.UniquenessLaws.{linear_apart}
+use Rattle.linked_lists.specs.LinkedLists.{Ends, next_in, next_at, first_or, IsSegment, Off, Apart}
+use Rattle.linked_lists.specs.LinkedLists.{IsLinear}
+use Rattle.linked_lists.specs.LinkedListLaws.{first_or-append, segment-front, segment-back}
+use Rattle.linked_lists.specs.LinkedListLaws.{off_or_on, Off-front, Off-back, Apart-both}
+use Rattle.linked_lists.specs.ChainLaws.{Apart-front, Apart-back, Apart-split, segment-where}
+use Rattle.linked_lists.specs.UniquenessLaws.{linear_apart}
 use Rattle.triple_arena_chain.specs.Links.{ends_in, entry_ends, valued}
 use Rattle.rank_tree.specs.Store.{Store, Written, Reparented}
 use Rattle.rank_tree.specs.Tree.{Tree, leaf, node, walk}

@@ -6,9 +6,9 @@ use Rattle.std.specs.List.{range_with_len}
 use Rattle.std.proofs.lemmas.Bool.Decides.{eqb_tells}
 use Rattle.std.proofs.lemmas.List.FromFn.{length-range_with_len}
 use Rattle.triple_arena.specs.Content.{Content}
-use Rattle.triple_arena_chain.specs.Chains.{On, IsLinear}
-use Rattle.triple_arena_chain.specs.ChainLaws.{On-cons}
-use Rattle.triple_arena_chain.specs.ListLaws.{On-first, live_on}
+use Rattle.linked_lists.specs.LinkedLists.{On, IsLinear}
+use Rattle.linked_lists.specs.LinkedListLaws.{On-cons}
+use Rattle.linked_lists.specs.ChainLaws.{On-first, live_on}
 use Rattle.triple_arena_chain.specs.LinkShape.{IndexLink}
 use Rattle.triple_arena_chain.specs.Links.{ends_in}
 use Rattle.rank_tree.specs.Store.{Store, Written}

@@ -5,9 +5,9 @@ use Rattle.std.proofs.lemmas.List.{length-map}
 use Rattle.std.proofs.lemmas.Bool.Decides.{eqb_tells}
 use Rattle.triple_arena.specs.Content.{Content, live_count}
 use Rattle.triple_arena_chain.specs.LinkShape.{IndexLink}
-use Rattle.triple_arena_chain.specs.Chains.{Ends, On, IsLinear}
-use Rattle.triple_arena_chain.specs.ListLaws.{On-first, On-back, On-either, on_differs}
-use Rattle.triple_arena_chain.specs.Lists.{Linear}
+use Rattle.linked_lists.specs.LinkedLists.{Ends, On, IsLinear}
+use Rattle.linked_lists.specs.ChainLaws.{On-first, On-back, On-either, on_differs}
+use Rattle.linked_lists.specs.Chains.{Linear}
 use Rattle.triple_arena_chain.specs.Links.{ends_in}
 use Rattle.triple_arena_chain.specs.Renaming.{FollowsRenaming}
 use Rattle.std.specs.Prelude.{Option}

@@ -2,10 +2,10 @@
 use Rattle.std.proofs.Common.{◌≡◌, ℕ, zero, suc, ◌<◌, length, Option, Some, None, IsSome, refl, sym}
 use Rattle.std.proofs.Common.{ap, ◌∙◌, subst}
 use Rattle.triple_arena.specs.Content.{live_count}
-use Rattle.triple_arena_chain.specs.Chains.{IsLinear}
+use Rattle.linked_lists.specs.LinkedLists.{IsLinear}
 use Rattle.triple_arena_chain.specs.Links.{ends_in}
-use Rattle.triple_arena_chain.specs.Lists.{Linear}
-use Rattle.triple_arena_chain.specs.ListLaws.{chain_where}
+use Rattle.linked_lists.specs.Chains.{Linear}
+use Rattle.linked_lists.specs.ChainLaws.{chain_where}
 use Rattle.triple_arena_ord.specs.Node.{nodes_in}
 use Rattle.rank_tree.specs.NodeView.{NodeView}
 use Rattle.rank_tree.specs.Store.{Store, rank_or_link}

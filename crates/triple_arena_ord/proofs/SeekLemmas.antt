@@ -1,10 +1,12 @@
 -- A search by key over the nodes of an arena.
 use Rattle.std.specs.List.{AllByRecursion}
 use Rattle.std.proofs.Common.{◌≡◌, ◌≢◌, ℕ, ◌+◌, ◌*◌, ◌^◌, ◌<◌, ◌≤◌, ◌∷◌, Option, Some, None, IsSome}
-use Rattle.std.proofs.Common.{IfSome, true, false, refl, sym, ap, ◌∙◌, subst, arith, inl, inr}
+use Rattle.std.proofs.Common.{Bool, true≢false}
+use Rattle.std.proofs.Common.{IfSome, true, refl, sym, ap, ◌∙◌, subst, arith, inl, inr}
 use Rattle.std.specs.Option.{option_map, is_none}
 use Rattle.std.proofs.lemmas.Bool.{cases_eq, cases_lt}
 use Rattle.std.specs.Cmp.{IsTotalOrder}
+use Rattle.std.specs.Ordering.{is_lt}
 use Rattle.std.specs.declared.cmp.Ordering.{Ordering}
 use Rattle.std.specs.declared.cmp.Ordering.TheVariants.{Less, Equal, Greater}
 use Rattle.triple_arena_chain.specs.Links.{values_in}
@@ -19,6 +21,7 @@ use Rattle.rank_tree.specs.Store.{Store}
 use Rattle.rank_tree.specs.Search.{Before, IsParted, IsAnswer, IsFreeAt, asked_down}
 use Rattle.triple_arena_ord.specs.Ordered.{Ordered, IsOrdered, IsAscending, tree_in, order_in}
 use Rattle.triple_arena_ord.specs.Ordered.{entry_in, size_in, asked_of, asked_at}
+use Rattle.triple_arena_ord.specs.Found.{place_by}
 use Rattle.rank_tree.specs.BoundLaws.{size_bound}
 use Rattle.rank_tree.specs.ClimbLaws.{size-walk}
 use Rattle.rank_tree.specs.DescentLaws.{Descent, Here, descent_begins, descent_ends, descent_asked}
@@ -28,6 +31,22 @@ use Rattle.rank_tree.specs.FrameLaws.{one-other, one-same}
 use Rattle.triple_arena_ord.proofs.NameLemmas.{if_answered}
 use Rattle.triple_arena_ord.proofs.LiveLemmas.{counted_entry, entry_counted}
 use Rattle.triple_arena_ord.proofs.SortedLemmas.{parted_from}
+
+pub less_of : (o : Ordering) (is : Bool) → is ≡ is_lt o → is ≡ true → o ≡ Less
+less_of Less is e h = refl
+less_of Equal is e h = absurd (true≢false (sym h ∙ e))
+less_of Greater is e h = absurd (true≢false (sym h ∙ e))
+
+-- an answer by another name
+pub named_so : (n : Store) (f : ℕ → Ordering) (t : Tree) (link : Option ℕ) (i : ℕ) (d e : Ordering)
+    (asked : ℕ)
+    → d ≡ e → Descent n f t link (Some (i, e)) asked → Descent n f t link (Some (i, d)) asked
+named_so n f t link i d e asked same =
+    subst (λ o. Descent n f t link (Some (i, o)) asked) (sym same)
+
+pub some_of : {A B : Type 0} (f : A → B) (v : Option A) → IsSome (option_map f v) → IsSome v
+some_of f None h = absurd (cc)
+some_of f (Some a) h = refl
 
 -- what holds of each index of the walk holds of each that is counted
 pub all-counted : (P : ℕ → Type 0) (t : Tree) → AllByRecursion P (walk t) → (j : ℕ) → 0 < count j t
@@ -207,10 +226,10 @@ module _ {I K T : Type 0} (number : I → ℕ) (cmp : K → K → Ordering) (key
   pub seek_ends : (o inside : Ordered T) → inside ≡ o → IsOrdered inside
       → (r : Option (I × Ordering)) (link : Option ℕ) (asked : ℕ) → link ≡ None
       → Descent (nodes_in o.chains) (asked_at cmp key k o) (tree_in o) link
-      (option_map (λ a. (number a.0, a.1)) r) asked
+      (place_by number r) asked
       → IfSome r (λ a. IsFreeAt a.1 (nodes_in o.chains (number a.0)))
   seek_ends o inside same is r link asked at d =
       let it : IsOrdered o = subst IsOrdered same is in
       if_answered number (λ i d. IsFreeAt d (nodes_in o.chains i)) r
       (descent_free (nodes_in o.chains) (asked_at cmp key k o) o.root (tree_in o) link
-      (option_map (λ a. (number a.0, a.1)) r) asked it.whole.stands at d)
+      (place_by number r) asked it.whole.stands at d)

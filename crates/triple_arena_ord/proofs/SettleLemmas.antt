@@ -8,16 +8,17 @@ use Rattle.std.specs.declared.cmp.Ordering.TheVariants.{Less, Equal, Greater}
 use Rattle.triple_arena_ptr.specs.declared.errors.OrdInsertionError.{OrdInsertionError}
 use Rattle.triple_arena.specs.Content.{entry_at}
 use Rattle.triple_arena_chain.specs.LinkShape.{IndexLink}
-use Rattle.triple_arena_chain.specs.Chains.{IsLinear, Apart, next_in, prev_in, next_at, prev_at}
+use Rattle.linked_lists.specs.LinkedLists.{IsLinear, Apart, next_in, prev_in, next_at, prev_at}
 use Rattle.triple_arena_chain.specs.Links.{ends_in, entry_ends}
-use Rattle.triple_arena_chain.specs.UniquenessLaws.{linear_apart}
+use Rattle.linked_lists.specs.UniquenessLaws.{linear_apart}
 use Rattle.rank_tree.specs.declared.side.Side.{Side}
 use Rattle.rank_tree.specs.declared.side.Side.TheVariants.{Left, Right}
 use Rattle.triple_arena_ord.specs.NodeShape.{IndexNode}
 use Rattle.rank_tree.specs.NodeView.{NodeView}
 use Rattle.triple_arena_ord.specs.Node.{nodes_in, prev_for, next_for}
 use Rattle.rank_tree.specs.Tree.{Tree, leaf, node, walk}
-use Rattle.rank_tree.specs.Shape.{node_view, root_of, Context, top, under, plug, holder, RepresentsTree}
+use Rattle.rank_tree.specs.Shape.{node_view, root_of, Context, top, under, plug, holder}
+use Rattle.rank_tree.specs.Shape.{RepresentsTree}
 use Rattle.rank_tree.specs.Search.{IsFreeAt}
 use Rattle.triple_arena_ord.specs.Ordered.{Ordered, IsOrdered, StandsBeside, tree_in, order_in}
 use Rattle.triple_arena_ord.specs.Ordered.{size_in}

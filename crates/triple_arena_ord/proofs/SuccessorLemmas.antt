@@ -4,18 +4,19 @@ use Rattle.std.proofs.Common.{◌≡◌, ◌≢◌, ℕ, ◌+◌, ◌^◌, ◌<�
 use Rattle.std.proofs.Common.{Option, Some, None, IsSome, sym, ap, ◌∙◌, subst, arith}
 use Rattle.triple_arena.specs.Content.{Content, live_count}
 use Rattle.triple_arena_chain.specs.LinkShape.{IndexLink}
-use Rattle.triple_arena_chain.specs.Chains.{IsLinear, Apart, next_in, next_at}
-use Rattle.triple_arena_chain.specs.ChainLaws.{Apart-taken}
+use Rattle.linked_lists.specs.LinkedLists.{IsLinear, Apart, next_in, next_at}
+use Rattle.linked_lists.specs.LinkedListLaws.{Apart-taken}
 use Rattle.triple_arena_chain.specs.Links.{ends_in}
-use Rattle.triple_arena_chain.specs.UniquenessLaws.{linear_apart}
+use Rattle.linked_lists.specs.UniquenessLaws.{linear_apart}
 use Rattle.rank_tree.specs.declared.side.Side.TheVariants.{Left, Right}
 use Rattle.triple_arena_ord.specs.NodeShape.{IndexNode}
 use Rattle.rank_tree.specs.NodeView.{NodeView}
 use Rattle.triple_arena_ord.specs.Node.{nodes_in, rest}
 use Rattle.rank_tree.specs.Tree.{Tree, leaf, node, walk, IsRanked}
-use Rattle.rank_tree.specs.Shape.{node_view, root_of, Context, top, under, plug, holder, RepresentsTree}
+use Rattle.rank_tree.specs.Shape.{node_view, root_of, Context, top, under, plug, holder}
+use Rattle.rank_tree.specs.Shape.{RepresentsTree}
 use Rattle.rank_tree.specs.Shape.{IsDistinct, one, count}
-use Rattle.rank_tree.specs.Repair.{Loose, Restored, Replacement}
+use Rattle.rank_tree.specs.Repair.{Loose, Restored, Replacement, walk_without}
 use Rattle.triple_arena_ord.specs.Ordered.{Ordered, IsOrdered, tree_in, order_in}
 use Rattle.triple_arena_ord.specs.Removal.{IsUprooted}
 use Rattle.rank_tree.specs.FrameLaws.{one-same, one-other, plug-opens, count_split}
@@ -51,7 +52,7 @@ module _ {T : Type 0} where
     pub front : List ℕ
     pub back : List ℕ
     pub was : order_in o ≡ front ++ h ∷ n ∷ back
-    pub is : walk (plug loose.context loose.sub) ≡ front ++ h ∷ back
+    pub is : walk_without loose ≡ front ++ h ∷ back
 
   pub record Successor (o : Ordered T) (h : ℕ) : Type 0 where
     pub index : ℕ
@@ -127,7 +128,7 @@ module _ {T : Type 0} where
       (lives : IsSome (nodes_in o.chains h)) (over : Over o h n)
       (c1 : Content (IndexLink (IndexNode T))) (root1 : Option ℕ)
       (restored : Restored (nodes_in c1) root1
-      (walk (plug over.loose.context over.loose.sub))) where
+      (walk_without over.loose)) where
     walk_is : walk restored.tree ≡ over.front ++ h ∷ over.back
     walk_is = restored.is_walk ∙ over.is
 

@@ -10,17 +10,18 @@ use Rattle.triple_arena.specs.Content.{Content, entry_at, live_count, removed as
 use Rattle.triple_arena.specs.Entries.{without}
 use Rattle.triple_arena.specs.RemovalLaws.{free-removed, slots-removed}
 use Rattle.triple_arena_chain.specs.LinkShape.{IndexLink}
-use Rattle.triple_arena_chain.specs.Chains.{IsLinear}
+use Rattle.linked_lists.specs.LinkedLists.{IsLinear}
 use Rattle.triple_arena_chain.specs.Links.{ends_in, values_in, valued, IsTakenOut}
-use Rattle.triple_arena_chain.specs.Lists.{Linear}
-use Rattle.triple_arena_chain.specs.ListLaws.{chain_where}
+use Rattle.linked_lists.specs.Chains.{Linear}
+use Rattle.linked_lists.specs.ChainLaws.{chain_where}
 use Rattle.rank_tree.specs.declared.side.Side.TheVariants.{Left}
 use Rattle.triple_arena_ord.specs.NodeShape.{IndexNode}
 use Rattle.rank_tree.specs.NodeView.{NodeView}
 use Rattle.triple_arena_ord.specs.Node.{nodes_in, items_in, view_of, itemed, rest}
 use Rattle.rank_tree.specs.Tree.{leaf, node, walk, IsRanked}
-use Rattle.rank_tree.specs.Shape.{node_view, root_of, top, plug, holder, RepresentsTree, IsDistinct, one, count}
-use Rattle.rank_tree.specs.Repair.{Loose, Restored}
+use Rattle.rank_tree.specs.Shape.{node_view, root_of, top, plug, holder, RepresentsTree, IsDistinct}
+use Rattle.rank_tree.specs.Shape.{one, count}
+use Rattle.rank_tree.specs.Repair.{Loose, Restored, walk_without}
 use Rattle.triple_arena_ord.specs.Ordered.{Ordered, IsOrdered, tree_in, order_in, entry_in}
 use Rattle.triple_arena_ord.specs.Removal.{Loses, IsUprooted, IsEntryRemoved}
 use Rattle.rank_tree.specs.FrameLaws.{one-same, one-other, Represents-keep, plug-opens, count_split}
@@ -44,7 +45,7 @@ module _ {T : Type 0} where
     pub front : List ℕ
     pub back : List ℕ
     pub was : order_in o ≡ front ++ h ∷ back
-    pub is : walk (plug loose.context loose.sub) ≡ front ++ back
+    pub is : walk_without loose ≡ front ++ back
 
   pub out : (o : Ordered T) → IsOrdered o → (h : ℕ) → live_count o.chains < 2 ^ 64
       → IsSome (nodes_in o.chains h)
@@ -87,7 +88,7 @@ module _ {T : Type 0} where
       }
 
   pub uprooted : (o p : Ordered T) (h : ℕ) (out : Out o h)
-      → Restored (nodes_in p.chains) p.root (walk (plug out.loose.context out.loose.sub))
+      → Restored (nodes_in p.chains) p.root (walk_without out.loose)
       → IsUprooted o p h
   uprooted o p h out restored = record {
     before = out.front;

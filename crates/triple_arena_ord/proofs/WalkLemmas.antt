@@ -5,10 +5,10 @@ use Rattle.std.specs.Option.{option_map}
 use Rattle.std.specs.declared.cmp.Ordering.{Ordering}
 use Rattle.triple_arena.specs.Content.{Content, entry_at}
 use Rattle.triple_arena_chain.specs.LinkShape.{IndexLink}
-use Rattle.triple_arena_chain.specs.Chains.{IsLinear, On, last_or}
+use Rattle.linked_lists.specs.LinkedLists.{IsLinear, On, last_or}
 use Rattle.triple_arena_chain.specs.Links.{ends_in, link_ends, entry_ends, valued}
 use Rattle.triple_arena_ord.specs.NodeShape.{IndexNode}
-use Rattle.triple_arena_ord.specs.Node.{items_in, itemed}
+use Rattle.triple_arena_ord.specs.Node.{itemed}
 use Rattle.rank_tree.specs.Search.{IsParted}
 use Rattle.triple_arena_ord.specs.Ordered.{asked_of}
 use Rattle.triple_arena_ord.specs.Near.{IsStop, IsAtHand, asked_in, onward}
@@ -32,7 +32,7 @@ module _ {T : Type 0} where
 module _ {K T : Type 0} (cmp : K → K → Ordering) (key : T → K) (k : K)
     (c : Content (IndexLink (IndexNode T))) where
   abbrev ask : ℕ → Ordering
-  ask = asked_in cmp key k (items_in c)
+  ask = asked_in cmp key k c
 
   ends_seen : (i s : ℕ) (link : IndexLink (IndexNode T)) → entry_at c i ≡ Some (s, link)
       → ends_in c i ≡ Some (link_ends link)

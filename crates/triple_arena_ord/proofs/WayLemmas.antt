@@ -4,7 +4,7 @@ use Rattle.std.proofs.Common.{Some, None, refl, sym, ap, ◌∙◌, subst, arith
 use Rattle.std.specs.List.{AllByRecursion, last_or}
 use Rattle.std.specs.declared.cmp.Ordering.{Ordering}
 use Rattle.std.specs.declared.cmp.Ordering.TheVariants.{Less, Equal, Greater}
-use Rattle.triple_arena_chain.specs.Chains.{On}
+use Rattle.linked_lists.specs.LinkedLists.{On}
 use Rattle.rank_tree.specs.Tree.{Tree, leaf, node, walk}
 use Rattle.rank_tree.specs.Shape.{root_of, count}
 use Rattle.rank_tree.specs.Search.{Before, IsParted, EndsAt, IsAnswer}

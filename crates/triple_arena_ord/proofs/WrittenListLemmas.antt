@@ -5,11 +5,11 @@ use Rattle.std.specs.Option.{option_map}
 use Rattle.std.proofs.lemmas.Bool.Decides.{eqb_tells}
 use Rattle.triple_arena.specs.Content.{Content, entry_at, live_count}
 use Rattle.triple_arena_chain.specs.LinkShape.{IndexLink}
-use Rattle.triple_arena_chain.specs.Chains.{On, IsLinear}
-use Rattle.triple_arena_chain.specs.ChainLaws.{off_or_on}
-use Rattle.triple_arena_chain.specs.ListLaws.{On-either, on_differs, chain_where}
-use Rattle.triple_arena_chain.specs.UniquenessLaws.{linear_apart}
-use Rattle.triple_arena_chain.specs.Lists.{Linear}
+use Rattle.linked_lists.specs.LinkedLists.{On, IsLinear}
+use Rattle.linked_lists.specs.LinkedListLaws.{off_or_on}
+use Rattle.linked_lists.specs.ChainLaws.{On-either, on_differs, chain_where}
+use Rattle.linked_lists.specs.UniquenessLaws.{linear_apart}
+use Rattle.linked_lists.specs.Chains.{Linear}
 use Rattle.triple_arena_chain.specs.Links.{ends_in, entry_ends, valued}
 use Rattle.rank_tree.specs.Tree.{Tree, leaf, node, walk, IsRanked}
 use Rattle.rank_tree.specs.Shape.{RepresentsTree, one, count, IsDistinct}

@@ -1,11 +1,13 @@
 -- What a search asks of a closure, and where.
-use Rattle.std.specs.Prelude.{◌≡◌, ℕ, ◌+◌, List, [], ◌∷◌, length, map, Option, Some, None}
+use Rattle.std.specs.Prelude.{◌≡◌, ℕ, ◌+◌, ◌≤◌, List, [], ◌∷◌, length, map, Option, Some, None}
 use Rattle.std.specs.Borrow.{Bor}
 use Rattle.std.specs.List.{FoldsTo, AllByRecursion, last_or}
 use Rattle.std.specs.declared.cmp.Ordering.{Ordering}
 use Rattle.std.specs.declared.cmp.Ordering.TheVariants.{Less, Equal, Greater}
-use Rattle.triple_arena_chain.specs.Chains.{On}
-use Rattle.triple_arena_ord.specs.Ordered.{Ordered, entry_in}
+use Rattle.linked_lists.specs.LinkedLists.{On}
+use Rattle.rank_tree.specs.Comparisons.{most_comparisons}
+use Rattle.rank_tree.specs.Tree.{rank_of}
+use Rattle.triple_arena_ord.specs.Ordered.{Ordered, entry_in, size_in, tree_in}
 
 -- what an answer leaves of a list, where this stands before and that after the index that was asked
 abbrev pub left_by : Ordering → List ℕ → List ℕ → List ℕ
@@ -51,6 +53,11 @@ module _ {P T F : Type 0} (index generation : P → ℕ) (step : F → P → Bor
   AnswersBy f side = (g : F) → Reaches f g → (p : P) (t : Bor T) (d : Ordering) (h : F)
       → step g p t d h
       → d ≡ side (index p) (generation p, t.now)
+
+-- so many comparisons are within the tree's rank, and within what any search of so many entries
+-- makes at most
+abbrev pub IsWithinBound : {T : Type 0} → ℕ → Ordered T → Type 0
+IsWithinBound ticks o = (ticks ≤ rank_of (tree_in o)) × (ticks ≤ most_comparisons (size_in o))
 
 -- the pointer to the entry that ended the questions
 abbrev pub found_by : {P : Type 0} → Option (P × Ordering) → Option P

@@ -5,8 +5,8 @@ use Rattle.std.specs.Borrow.{Bor}
 use Rattle.std.specs.List.{FoldsTo, AllByRecursion}
 use Rattle.std.specs.declared.cmp.Ordering.{Ordering}
 use Rattle.std.specs.declared.cmp.Ordering.TheVariants.{Less, Equal, Greater}
-use Rattle.triple_arena_chain.specs.Chains.{first_or, last_or}
-use Rattle.triple_arena_chain.specs.ChainLaws.{first_or-append, last_or-append}
+use Rattle.linked_lists.specs.LinkedLists.{first_or, last_or}
+use Rattle.linked_lists.specs.LinkedListLaws.{first_or-append, last_or-append}
 use Rattle.triple_arena_ord.specs.Asked.{left_by, IsWay, Question, Reaches, AnswersBy}
 
 -- the last index that was asked and answered Greater, and the last that answered Less

@@ -1,15 +1,16 @@
 -- Copies of an ordered arena: the entries, the list and the tree of another one.
-use Rattle.std.specs.Prelude.{◌≡◌, ℕ, List, map, Option}
+use Rattle.std.specs.Prelude.{◌≡◌, ℕ, Bool, List, map, Option}
 use Rattle.triple_arena.specs.Content.{Content, live_count, some_counter, reallocated}
-use Rattle.triple_arena.specs.Copy.{last_listed, copied, IsCopy}
+use Rattle.triple_arena.specs.Copy.{last_listed, copied, IsCopy, IsUnmadeCopy}
 use Rattle.triple_arena.specs.LiveEntries.{live_entries}
-use Rattle.triple_arena_chain.specs.Chains.{Ends}
+use Rattle.linked_lists.specs.LinkedLists.{Ends}
 use Rattle.triple_arena_chain.specs.LinkShape.{IndexLink}
 use Rattle.triple_arena_chain.specs.Links.{ends_in, values_in}
 use Rattle.triple_arena_chain.specs.Values.{room_in}
 use Rattle.triple_arena_ord.specs.NodeShape.{IndexNode}
 use Rattle.triple_arena_ord.specs.Node.{nodes_in}
-use Rattle.triple_arena_ord.specs.Ordered.{Ordered, order_in, entry_in, counter_in}
+use Rattle.triple_arena_ord.specs.Ordered.{Ordered, order_in, entry_in, size_in, counter_in}
+use Rattle.triple_arena_ord.specs.Ordered.{room_in as ordered_room}
 use Rattle.triple_arena_ord.specs.States.{cleared_in}
 
 -- listed links with their items alone
@@ -32,6 +33,13 @@ module _ {T : Type 0} where
   -- with at least this capacity, no entry, and the next counter
   abbrev pub emptied_to : Option ℕ → ℕ → Ordered T → Ordered T
   emptied_to last least o = cleared_in last (record o { chains = reallocated o.chains least })
+
+  -- why a copy to an ordered arena was not made, and what it left: the arena as it was, or one that
+  -- was grown to the last index of the source and cleared
+  abbrev pub IsUnmade : Bool → Option ℕ → ℕ → Type 0 → (old new : Ordered T) → Type 0
+  IsUnmade takes_memory last_generation last refused old new =
+      IsUnmadeCopy entry_in size_in counter_in ordered_room takes_memory last_generation last
+      (emptied_to last_generation last) refused old new
 
 module _ {T : Type 0} where
   -- links became a clone of a source: the root is the same, and each index has the same entry and

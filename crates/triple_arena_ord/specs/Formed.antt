@@ -1,5 +1,4 @@
 -- What holds of each ordered arena that a call leaves.
-use Rattle.std.specs.Prelude.{ℕ}
 use Rattle.triple_arena_chain.specs.Links.{IsChained}
 use Rattle.triple_arena_ord.specs.Ordered.{Ordered, IsOrdered}
 

@@ -1,8 +1,7 @@
 -- What a contract sees of an insertion's entry, and what the calls that make one answer.
 use Rattle.std.specs.Prelude.{◌≡◌, ◌≢◌, ◌<◌, ◌↔◌, ℕ, Option, Some, None, IsSome, IfSome, Result, Ok}
 use Rattle.std.specs.Prelude.{Err}
-use Rattle.std.specs.Option.{option_map}
-use Rattle.std.specs.Borrow.{GName}
+use Rattle.std.specs.Borrow.{GName, Bor}
 use Rattle.std.specs.declared.cmp.Ordering.{Ordering}
 use Rattle.std.specs.declared.cmp.Ordering.TheVariants.{Less, Equal, Greater}
 use Rattle.triple_arena_ptr.specs.declared.errors.OrdInsertionError.{OrdInsertionError}
@@ -14,6 +13,9 @@ use Rattle.triple_arena_ord.specs.declared.kind.OrdEntryKind.TheVariants.{New, R
 use Rattle.triple_arena_ord.specs.declared.ord_arena.insertion.entry.SimpleOrdArenaInsertEntry.{SimpleOrdArenaInsertEntry}
 use Rattle.triple_arena_ord.specs.Ordered.{Ordered, entry_in, size_in}
 use Rattle.triple_arena_ord.specs.Inserted.{Replaces}
+use Rattle.triple_arena_ord.specs.declared.kind.InsertKind.{InsertKind}
+use Rattle.triple_arena_ord.specs.Found.{place_by}
+use Rattle.triple_arena_ord.specs.Placing.{Meets, IsPlaceFor}
 
 -- what an insertion at a place is about to do
 abbrev pub kind_at : {P : Type 0} → Option (ℕ × Ordering) → P → OrdEntryKind P
@@ -47,7 +49,7 @@ module _ {P T S Inx Gen Word Alloc : Type 0} where
   -- the place of the item
   abbrev pub entry_place : (Inx → ℕ) → SimpleOrdArenaInsertEntry P T S Inx Gen Word Alloc
       → Option (ℕ × Ordering)
-  entry_place number e = option_map (λ a. (number a.0, a.1)) e.place
+  entry_place number e = place_by number e.place
 
   -- the insertion can be made
   abbrev pub IsReady : (Inx → ℕ) → (P → ℕ) → (P → ℕ)
@@ -67,3 +69,11 @@ pub record IsOrdAnswer {A : Type 0} (meets : Type 0) (is_place : Option (ℕ × 
   pub refused : (error : OrdInsertionError) → result ≡ Err error → error ≢ FailedOrdRequirement
       → (place : Option (ℕ × Ordering)) × is_place place × (Replaces place → ⊥)
       × allows (Some error)
+
+module _ {I T K : Type 0} (number : I → ℕ) (cmp : K → K → Ordering) (key : T → K) where
+  -- what a call that makes an insertion's entry for a kind of insertion answers
+  abbrev pub IsAnswerTo : {P S Gen Word Alloc : Type 0} → InsertKind I (Bor K) → Ordered T
+      → (Option OrdInsertionError → Type 0)
+      → Result (SimpleOrdArenaInsertEntry P T S I Gen Word Alloc) OrdInsertionError → Type 0
+  IsAnswerTo kind o allows result = IsOrdAnswer (Meets number kind o)
+      (IsPlaceFor number cmp key kind o) (entry_place number) allows result

@@ -19,7 +19,8 @@ use Rattle.rank_tree.specs.declared.side.Side.TheVariants.{Left, Right}
 use Rattle.triple_arena_ord.specs.NodeShape.{IndexNode}
 use Rattle.triple_arena_ord.specs.Node.{nodes_in, items_in}
 use Rattle.triple_arena_ord.specs.Ordered.{Ordered, IsOrdered, IsAscending, StandsBeside}
-use Rattle.triple_arena_ord.specs.Ordered.{order_in, entry_in, size_in, asked_at}
+use Rattle.triple_arena_ord.specs.Ordered.{StaysAscending, NoneGreater, NoneLess, order_in}
+use Rattle.triple_arena_ord.specs.Ordered.{entry_in, size_in, asked_at}
 use Rattle.triple_arena_ord.specs.Found.{Answers}
 
 -- one more index stands where a search ended: before or after the index that was asked last, or
@@ -172,6 +173,16 @@ module _ {T : Type 0} where
       pub less : IsAscending cmp key old
           → AllByRecursion (λ j. asked_at cmp key k old j ≡ Less) after
 
+    -- one more index in the list, between entries whose keys are not greater and entries whose keys
+    -- are not less
+    pub record IsPlacedBetween (k : K) (i : ℕ) (old new : Ordered T) : Type 0 where
+      pub before : List ℕ
+      pub after : List ℕ
+      pub was : order_in old ≡ before ++ after
+      pub is : order_in new ≡ before ++ i ∷ after
+      pub none_greater : NoneGreater cmp key k old before
+      pub none_less : NoneLess cmp key k old after
+
     module _ {P : Type 0} (index generation : P → ℕ) (allows : Option OrdInsertionError
         → Type 0) where
       -- an insertion by key: an item with an equal key is replaced, whether or not there is room;
@@ -196,7 +207,7 @@ module _ {T : Type 0} where
           (result : Result (P × Option T) OrdInsertionError) (old new : Ordered T) : Type 0 where
         pub inserted : IsKeyInserted index generation (either_room growth (size_in old)
             old.chains.room) t result old new
-        pub ascending : IsAscending cmp key old → IsAscending cmp key new
+        pub ascending : StaysAscending cmp key old new
         pub counter : new.chains.counter ≡ old.chains.counter
         pub room : new.chains.room ≡ room_left growth result (size_in old) old.chains.room
         pub ordered : IsOrdered new

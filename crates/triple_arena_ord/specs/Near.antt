@@ -4,14 +4,18 @@ use Rattle.std.specs.List.{AllByRecursion}
 use Rattle.std.specs.Prelude.{◌⊎◌, slice_get, Option, Some, None}
 use Rattle.std.specs.declared.cmp.Ordering.{Ordering}
 use Rattle.std.specs.declared.cmp.Ordering.TheVariants.{Less, Equal, Greater}
-use Rattle.triple_arena_chain.specs.Chains.{Ends, On, first_or, last_or}
+use Rattle.linked_lists.specs.LinkedLists.{Ends, On, first_or, last_or}
 use Rattle.rank_tree.specs.Search.{IsParted, EndsAt}
-use Rattle.triple_arena_ord.specs.Ordered.{asked_of}
+use Rattle.triple_arena.specs.Content.{Content}
+use Rattle.triple_arena_chain.specs.LinkShape.{IndexLink}
+use Rattle.triple_arena_ord.specs.NodeShape.{IndexNode}
+use Rattle.triple_arena_ord.specs.Node.{items_in}
+use Rattle.triple_arena_ord.specs.Ordered.{Ordered, order_in, asked_of, asked_at, comparisons}
 
--- how a key compares with that of the entry at an index
-abbrev pub asked_in : {K T : Type 0} → (K → K → Ordering) → (T → K) → K → (ℕ → Option (ℕ × T))
-    → ℕ → Ordering
-asked_in cmp key k entry i = asked_of cmp key k (entry i)
+-- how a key compares with that of the node at an index
+abbrev pub asked_in : {K T : Type 0} → (K → K → Ordering) → (T → K) → K
+    → Content (IndexLink (IndexNode T)) → ℕ → Ordering
+asked_in cmp key k c i = asked_of cmp key k (items_in c i)
 
 -- two indexes stand in the list less than so many places apart
 pub record IsNear (num : ℕ) (w : List ℕ) (i j : ℕ) : Type 0 where
@@ -41,6 +45,10 @@ pub record IsGapNear (num : ℕ) (f : ℕ → Ordering) (w : List ℕ) (i : ℕ)
 -- one of both
 abbrev pub IsAtHand : ℕ → (ℕ → Ordering) → List ℕ → ℕ → Type 0
 IsAtHand num f w i = IsEndNear num f w i ⊎ IsGapNear num f w i
+
+-- the same, in a list that is parted
+abbrev pub IsPartedAtHand : ℕ → (ℕ → Ordering) → List ℕ → ℕ → Type 0
+IsPartedAtHand num f w i = IsParted f w × IsAtHand num f w i
 
 -- an index of the list and the way there; in a list that is parted it ends the search, or is a
 -- neighbor of the gap
@@ -117,3 +125,29 @@ pub record IsKeyCounted (num down : ℕ) (f : ℕ → Ordering) (path : List ℕ
     : Type 0 where
   pub ended : HasEnd f (take num path) → new ≡ old + length (take num path)
   pub passed : (HasEnd f (take num path) → ⊥) → new ≡ old + (length (take num path) + down)
+
+module _ {K T : Type 0} (cmp : K → K → Ordering) (key : T → K) where
+  -- an entry with an equal key is near
+  abbrev pub IsKeyNear : (start num : ℕ) (k : K) → Ordered T → Type 0
+  IsKeyNear start num k o = IsEndNear num (asked_at cmp key k o) (order_in o) start
+
+  -- an entry with an equal key is near, or each entry beside the place of the key
+  abbrev pub IsPlaceNear : (start num : ℕ) (k : K) → Ordered T → Type 0
+  IsPlaceNear start num k o = IsAtHand num (asked_at cmp key k o) (order_in o) start
+
+  -- where the way along the list from an index ends within so many comparisons
+  abbrev pub IsEndOfWay : (start num : ℕ) (k : K) → Ordered T → ℕ × Ordering → Type 0
+  IsEndOfWay start num k o place
+      = EndsWithin num (asked_at cmp key k o) (order_in o) start place.0 place.1
+
+  -- how often a search for the place of a key compares that goes along the list first
+  abbrev pub IsPlaceSearchCounted : (num : ℕ) (k : K) (o : Ordered T) {start : ℕ}
+      → On (order_in o) start → (old new : ℕ) → Type 0
+  IsPlaceSearchCounted num k o on old new
+      = IsPlaceCounted num (comparisons cmp key k o) (path_from (asked_at cmp key k o) on) old new
+
+  -- how often a search for an equal key compares that goes along the list first
+  abbrev pub IsKeySearchCounted : (num : ℕ) (k : K) (o : Ordered T) {start : ℕ}
+      → On (order_in o) start → (old new : ℕ) → Type 0
+  IsKeySearchCounted num k o on old new = IsKeyCounted num (comparisons cmp key k o)
+      (asked_at cmp key k o) (path_from (asked_at cmp key k o) on) old new

@@ -1,7 +1,7 @@
 -- The nodes in the links of a chain arena.
 use Rattle.std.specs.Prelude.{ℕ, map, Option, Some}
 use Rattle.std.specs.Option.{option_map}
-use Rattle.triple_arena.specs.Content.{Content}
+use Rattle.triple_arena.specs.Content.{Content, entry_at}
 use Rattle.triple_arena_chain.specs.LinkShape.{IndexLink}
 use Rattle.triple_arena_chain.specs.Links.{values_in}
 use Rattle.rank_tree.specs.declared.side.Side.{Side}
@@ -34,6 +34,15 @@ prev_for Right l h = Some h
 abbrev pub next_for : {T : Type 0} → Side → IndexLink (IndexNode T) → ℕ → Option ℕ
 next_for Left l h = Some h
 next_for Right l h = l.next
+
+-- the neighbors of one more link directly before or after that at an index, if it is live
+abbrev pub prev_beside : {T : Type 0} → Side → Content (IndexLink (IndexNode T)) → ℕ
+    → Option (Option ℕ)
+prev_beside side c h = option_map (λ e. prev_for side e.1 h) (entry_at c h)
+
+abbrev pub next_beside : {T : Type 0} → Side → Content (IndexLink (IndexNode T)) → ℕ
+    → Option (Option ℕ)
+next_beside side c h = option_map (λ e. next_for side e.1 h) (entry_at c h)
 
 module _ {T : Type 0} where
   -- an entry with its item alone

@@ -1,11 +1,13 @@
 -- What a contract sees of a `SimpleOrdArena`.
 use Rattle.std.specs.Prelude.{◌≡◌, ◌==◌, if◌then◌else◌, ℕ, ◌<◌, List, ◌∷◌, ◌++◌, length, Option}
-use Rattle.std.specs.Prelude.{Some, None, IsSome}
+use Rattle.std.specs.Prelude.{◌≢◌, Some, None, IsSome}
+use Rattle.std.specs.List.{AllByRecursion}
+use Rattle.std.specs.Option.{option_map}
 use Rattle.std.specs.declared.cmp.Ordering.{Ordering}
-use Rattle.std.specs.declared.cmp.Ordering.TheVariants.{Equal}
+use Rattle.std.specs.declared.cmp.Ordering.TheVariants.{Less, Equal, Greater}
 use Rattle.triple_arena_stack.specs.Room.{Room}
 use Rattle.triple_arena.specs.Content.{Content, live_count, some_counter}
-use Rattle.triple_arena_chain.specs.Chains.{IsLinear}
+use Rattle.linked_lists.specs.LinkedLists.{IsLinear}
 use Rattle.triple_arena_chain.specs.Links.{ends_in}
 use Rattle.triple_arena_chain.specs.LinkShape.{IndexLink}
 use Rattle.rank_tree.specs.declared.side.Side.{Side}
@@ -14,6 +16,7 @@ use Rattle.triple_arena_ord.specs.NodeShape.{IndexNode}
 use Rattle.triple_arena_ord.specs.Node.{nodes_in, items_in}
 use Rattle.triple_arena_ord.specs.Ascending.{entries_along, AscendsAlong}
 use Rattle.rank_tree.specs.Tree.{Tree, walk}
+use Rattle.rank_tree.specs.Search.{asked_down}
 use Rattle.rank_tree.specs.Shape.{count}
 use Rattle.rank_tree.specs.Whole.{tree_of, IsWhole}
 
@@ -45,6 +48,11 @@ moved Right Left o h n = o
 pub record Ordered (T : Type 0) : Type 0 where
   pub chains : Content (IndexLink (IndexNode T))
   pub root : Option ℕ
+
+-- these links with their nodes, and the number of this root
+abbrev pub ordered_by : {I T : Type 0} → (I → ℕ) → Content (IndexLink (IndexNode T)) → Option I
+    → Ordered T
+ordered_by number chains root = record { chains = chains; root = option_map number root }
 
 -- how a key compares with that of an entry
 abbrev pub asked_of : {K T : Type 0} → (K → K → Ordering) → (T → K) → K → Option (ℕ × T) → Ordering
@@ -100,3 +108,24 @@ module _ {T : Type 0} where
     -- no key is greater than the next one
     abbrev pub IsAscending : Ordered T → Type 0
     IsAscending o = AscendsAlong cmp key (entry_in o) (order_in o)
+
+    -- if the keys ascended, they still do
+    abbrev pub StaysAscending : (old new : Ordered T) → Type 0
+    StaysAscending old new = IsAscending old → IsAscending new
+
+    -- how often a search for a key from the root compares
+    abbrev pub comparisons : K → Ordered T → ℕ
+    comparisons k o = asked_down (asked_at cmp key k o) (tree_in o)
+
+    -- no entry at these indexes has a key that is greater than this one
+    abbrev pub NoneGreater : K → Ordered T → List ℕ → Type 0
+    NoneGreater k o w = AllByRecursion (λ i. asked_at cmp key k o i ≢ Less) w
+
+    -- no entry at these indexes has a key that is less than this one
+    abbrev pub NoneLess : K → Ordered T → List ℕ → Type 0
+    NoneLess k o w = AllByRecursion (λ i. asked_at cmp key k o i ≢ Greater) w
+
+  -- each index has an entry with the key that it had, or still none
+  abbrev pub SameKeys : {K : Type 0} → (T → K) → (old new : Ordered T) → Type 0
+  SameKeys key old new = (i : ℕ) → option_map (λ e. key e.1) (entry_in new i)
+      ≡ option_map (λ e. key e.1) (entry_in old i)

@@ -4,7 +4,8 @@ use Rattle.std.specs.Prelude.{Option, Some, None, IfSome}
 use Rattle.std.specs.Borrow.{Bor}
 use Rattle.std.specs.Option.{option_map}
 use Rattle.triple_arena.specs.Entries.{generation_at}
-use Rattle.triple_arena_chain.specs.Chains.{first_or}
+use Rattle.triple_arena.specs.Steps.{Finds}
+use Rattle.linked_lists.specs.LinkedLists.{first_or}
 use Rattle.triple_arena_chain.specs.LinkShape.{IndexLink}
 use Rattle.triple_arena_ord.specs.Ordered.{Ordered, order_in, entry_in, entries_at, size_in}
 
@@ -46,7 +47,7 @@ module _ {T : Type 0} where
     -- the pointer to the entry at an end of the list, exactly where there is an entry
     pub record IsEnd (end : Option ℕ) (result : Option P) (o : Ordered T) : Type 0 where
       pub at : option_map index result ≡ end
-      pub live : IfSome result (λ p. generation_at (entry_in o) (index p) ≡ Some (generation p))
+      pub live : IfSome result (λ p. Finds entry_in o (index p, generation p))
       pub none : (result ≡ None) ↔ (size_in o ≡ 0)
 
   -- the indexes that are left to a walk over an arena that stays: a loop over them is measured by

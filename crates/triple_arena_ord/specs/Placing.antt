@@ -9,7 +9,7 @@ use Rattle.triple_arena_ord.specs.declared.kind.InsertKind.TheVariants.{Empty, N
 use Rattle.triple_arena_ord.specs.declared.kind.InsertKind.TheVariants.{Nonhereditary, Linear}
 use Rattle.triple_arena_ord.specs.declared.kind.InsertKind.TheVariants.{NonhereditaryLinear, Manual}
 use Rattle.rank_tree.specs.Search.{EndsAt}
-use Rattle.triple_arena_ord.specs.Near.{EndsWithin}
+use Rattle.triple_arena_ord.specs.Near.{IsEndOfWay}
 use Rattle.triple_arena_ord.specs.Ordered.{Ordered, IsAscending, order_in, entry_in, size_in}
 use Rattle.triple_arena_ord.specs.Ordered.{asked_at}
 
@@ -50,11 +50,6 @@ module _ {T : Type 0} where
       pub found : Option (ℕ × Ordering)
       pub by_key : IsPlaceByKey k o found
       pub is : place ≡ before_equal found
-
-    -- where the way along the list from an index ends within so many comparisons
-    abbrev pub IsEndOfWay : (start num : ℕ) (k : K) → Ordered T → ℕ × Ordering → Type 0
-    IsEndOfWay start num k o place
-        = EndsWithin num (asked_at cmp key k o) (order_in o) start place.0 place.1
 
 module _ {I T : Type 0} (number : I → ℕ) where
   module _ {K : Type 0} (cmp : K → K → Ordering) (key : T → K) where

@@ -2,7 +2,7 @@
 ghost use Rattle.std.specs.Prelude.{◌≡◌, ◌≤◌, ◌↔◌, ℕ, List, Some, None, IsSome, IsTrue, length, ⊤};
 ghost use Rattle.std.specs.Option.{option_map};
 ghost use Rattle.triple_arena.specs.Content.{entry_at};
-ghost use Rattle.triple_arena_chain.specs.Chains.{IsLinear, first_or};
+ghost use Rattle.linked_lists.specs.LinkedLists.{IsLinear, first_or};
 ghost use Rattle.triple_arena_chain.specs.Links.{ends_in};
 ghost use Rattle.triple_arena_ord.specs.Node.{items_in};
 ghost use Rattle.triple_arena_ord.specs.Ascending.{AscendsAlong};

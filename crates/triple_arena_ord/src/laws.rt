@@ -2,22 +2,22 @@
 ghost use Rattle.std.specs.Prelude.{◌≡◌, ◌≢◌, ◌+◌, ◌*◌, ◌^◌, ◌<◌, ◌≤◌, ℕ, Bool, List, ◌∷◌, ◌++◌};
 ghost use Rattle.std.specs.Prelude.{length, Option, Some, None, IsSome, Result};
 ghost use Rattle.std.specs.List.{AllByRecursion, range_with_len};
-ghost use Rattle.std.specs.Option.{option_map};
 ghost use Rattle.std.specs.declared.cmp.Ordering.{Ordering as Way};
 ghost use Rattle.triple_arena_ptr.specs.declared.errors.OrdInsertionError.{OrdInsertionError as Refused};
 ghost use Rattle.triple_arena_stack.specs.Room.{Room};
 ghost use Rattle.triple_arena.specs.Content.{with_limit};
 ghost use Rattle.triple_arena.specs.Transfer.{IsFilled};
-ghost use Rattle.triple_arena_chain.specs.Chains.{On};
+ghost use Rattle.linked_lists.specs.LinkedLists.{On};
 ghost use Rattle.triple_arena_ord.specs.Asked.{IsWay};
 ghost use Rattle.triple_arena_ord.specs.AskedLaws.{IsCutAt, last_greater, last_less};
 ghost use Rattle.triple_arena_ord.specs.CanonicalLayout.{IsLaidInOrder};
 ghost use Rattle.triple_arena_ord.specs.Indexed.{indexed};
-ghost use Rattle.triple_arena_ord.specs.Inserted.{InsertsAt, IsAdded, IsReplaced};
+ghost use Rattle.triple_arena_ord.specs.Inserted.{InsertsAt, IsAdded, IsReplaced, IsPlacedBetween};
 ghost use Rattle.triple_arena_ord.specs.ItemRecasting.{recasted_in};
 ghost use Rattle.triple_arena_ord.specs.Ordered.{Ordered, IsOrdered, IsAscending, tree_in};
 ghost use Rattle.triple_arena_ord.specs.Ordered.{order_in, ordered_entries, entry_in, size_in};
-ghost use Rattle.triple_arena_ord.specs.Ordered.{counter_in, room_in, asked_at};
+ghost use Rattle.triple_arena_ord.specs.Ordered.{counter_in, room_in, NoneGreater, NoneLess};
+ghost use Rattle.triple_arena_ord.specs.Ordered.{StaysAscending, SameKeys};
 ghost use Rattle.triple_arena_ord.specs.Placing.{IsPlaceByKey, IsPlaceBeforeEqual};
 ghost use Rattle.triple_arena_ord.specs.Removal.{IsEntryRemoved};
 ghost use Rattle.triple_arena_ord.specs.States.{invalidated_in, with_item};
@@ -46,44 +46,28 @@ pub fn paths_are_short<P: PtrCore, T>()
 
 /// If the keys ascend, none before an entry is greater than its key, and none after it less.
 pub fn keys_ascend_along_the_list<P: PtrCore, T: SimpleOrdItem>()
-    ensures before { (o : Ordered T) (front back : List ℕ) (i : ℕ) (entry : ℕ × T)
-        → IsOrdered o
-        → IsAscending T.Key.cmp T.key_of o
-        → order_in o ≡ front ++ i ∷ back
-        → entry_in o i ≡ Some entry
-        → AllByRecursion (λ j. asked_at T.Key.cmp T.key_of (T.key_of entry.1) o j ≢ Way.Less)
-        front }
-    ensures after { (o : Ordered T) (front back : List ℕ) (i : ℕ) (entry : ℕ × T)
-        → IsOrdered o
-        → IsAscending T.Key.cmp T.key_of o
-        → order_in o ≡ front ++ i ∷ back
-        → entry_in o i ≡ Some entry
-        → AllByRecursion (λ j. asked_at T.Key.cmp T.key_of (T.key_of entry.1) o j ≢ Way.Greater)
-        back }
+    ensures before { (o : Ordered T) (front back : List ℕ) (i : ℕ) (entry : ℕ × T) → IsOrdered o
+        → IsAscending T.Key.cmp T.key_of o → order_in o ≡ front ++ i ∷ back
+        → entry_in o i ≡ Some entry → NoneGreater T.Key.cmp T.key_of (T.key_of entry.1) o front }
+    ensures after { (o : Ordered T) (front back : List ℕ) (i : ℕ) (entry : ℕ × T) → IsOrdered o
+        → IsAscending T.Key.cmp T.key_of o → order_in o ≡ front ++ i ∷ back
+        → entry_in o i ≡ Some entry → NoneLess T.Key.cmp T.key_of (T.key_of entry.1) o back }
 {}
 
 /// A list whose keys ascend still does if the list and the keys stay, and if an item is replaced by
 /// one with an equal key.
 pub fn keys_that_stay_ascend<P: PtrCore, T: SimpleOrdItem>()
-    ensures same { (old new : Ordered T)
-        → order_in new ≡ order_in old
-        → ((i : ℕ) → option_map (λ e. T.key_of e.1) (entry_in new i)
-        ≡ option_map (λ e. T.key_of e.1) (entry_in old i))
-        → IsAscending T.Key.cmp T.key_of old
-        → IsAscending T.Key.cmp T.key_of new }
-    ensures replaced { (i g : ℕ) (t u : T) (old new : Ordered T)
-        → IsReplaced i g t u old new
+    ensures same { (old new : Ordered T) → order_in new ≡ order_in old → SameKeys T.key_of old new
+        → StaysAscending T.Key.cmp T.key_of old new }
+    ensures replaced { (i g : ℕ) (t u : T) (old new : Ordered T) → IsReplaced i g t u old new
         → T.Key.cmp (T.key_of t) (T.key_of u) ≡ Way.Equal
-        → IsAscending T.Key.cmp T.key_of old
-        → IsAscending T.Key.cmp T.key_of new }
+        → StaysAscending T.Key.cmp T.key_of old new }
 {}
 
 /// A list whose keys ascend still does after a removal.
 pub fn removals_keep_keys_ascending<P: PtrCore, T: SimpleOrdItem>()
-    ensures { (last : Option ℕ) (i : ℕ) (old new : Ordered T)
-        → IsEntryRemoved last i old new
-        → IsAscending T.Key.cmp T.key_of old
-        → IsAscending T.Key.cmp T.key_of new }
+    ensures { (last : Option ℕ) (i : ℕ) (old new : Ordered T) → IsEntryRemoved last i old new
+        → StaysAscending T.Key.cmp T.key_of old new }
 {}
 
 /// If an invalidation ended a pointer, the list stays.
@@ -123,27 +107,18 @@ pub fn limits_keep_the_list<P: PtrCore, T>()
 /// that goes between keys that are not greater and keys that are not less.
 pub fn insertions_keep_keys_ascending<P: PtrCore, T: SimpleOrdItem>()
     ensures by_key { (place : Option (ℕ × Way)) (t : T) (result : Result (P × Option T) Refused)
-        (old new : Ordered T)
-        → (growth : Option Bool) → IsOrdered old
+        (old new : Ordered T) → (growth : Option Bool) → IsOrdered old
         → IsPlaceByKey T.Key.cmp T.key_of (T.key_of t) old place
         → InsertsAt P.index P.generation growth place t result old new
-        → IsAscending T.Key.cmp T.key_of old
-        → IsAscending T.Key.cmp T.key_of new }
+        → StaysAscending T.Key.cmp T.key_of old new }
     ensures before_equal { (place : Option (ℕ × Way)) (t : T)
-        (result : Result (P × Option T) Refused) (old new : Ordered T)
-        → (growth : Option Bool) → IsOrdered old
-        → IsPlaceBeforeEqual T.Key.cmp T.key_of (T.key_of t) old place
+        (result : Result (P × Option T) Refused) (old new : Ordered T) → (growth : Option Bool)
+        → IsOrdered old → IsPlaceBeforeEqual T.Key.cmp T.key_of (T.key_of t) old place
         → InsertsAt P.index P.generation growth place t result old new
-        → IsAscending T.Key.cmp T.key_of old
-        → IsAscending T.Key.cmp T.key_of new }
-    ensures between { (before after : List ℕ) (i g : ℕ) (t : T) (old new : Ordered T)
-        → IsOrdered new → IsAdded i g t old new
-        → order_in old ≡ before ++ after
-        → order_in new ≡ before ++ i ∷ after
-        → AllByRecursion (λ j. asked_at T.Key.cmp T.key_of (T.key_of t) old j ≢ Way.Less) before
-        → AllByRecursion (λ j. asked_at T.Key.cmp T.key_of (T.key_of t) old j ≢ Way.Greater) after
-        → IsAscending T.Key.cmp T.key_of old
-        → IsAscending T.Key.cmp T.key_of new }
+        → StaysAscending T.Key.cmp T.key_of old new }
+    ensures between { (i g : ℕ) (t : T) (old new : Ordered T) → IsOrdered new
+        → IsAdded i g t old new → IsPlacedBetween T.Key.cmp T.key_of (T.key_of t) i old new
+        → StaysAscending T.Key.cmp T.key_of old new }
 {}
 
 /// If no answer of a closure that a search asks is `Equal`, the last entry that answered `Greater`

@@ -1,15 +1,15 @@
 //! A new entry beside another.
 ghost use Rattle.std.specs.Prelude.{◌≡◌, ◌<◌, Some, IsSome};
 ghost use Rattle.std.specs.Option.{option_map};
-ghost use Rattle.triple_arena.specs.Content.{entry_at, live_count, arena_capacity};
+ghost use Rattle.triple_arena.specs.Content.{live_count, arena_capacity};
 ghost use Rattle.rank_tree.specs.Store.{child_of};
-ghost use Rattle.triple_arena_chain.specs.Chains.{IsBetween};
+ghost use Rattle.linked_lists.specs.LinkedLists.{IsBetween};
 ghost use Rattle.triple_arena_chain.specs.Kinds.{ends_by};
 ghost use Rattle.triple_arena_chain.specs.Links.{ends_in};
-ghost use Rattle.triple_arena_ord.specs.Node.{nodes_in, prev_for, next_for};
+ghost use Rattle.triple_arena_ord.specs.Node.{nodes_in, prev_beside, next_beside};
 ghost use Rattle.triple_arena_ord.specs.Inserted.{IsAdded};
 ghost use Rattle.triple_arena_ord.specs.Ordered.{IsOrdered, StandsBeside, order_in, moved};
-ghost use Rattle.triple_arena_ord.specs.Ordered.{replaced};
+ghost use Rattle.triple_arena_ord.specs.Ordered.{replaced, ordered_by};
 
 use crate::{IndexNode, OrdSlots, SimpleOrdArenaNode};
 use proof_marks::unreached;
@@ -26,21 +26,18 @@ pub(crate) fn insert_leaf<P: PtrCore, T: Drop, S: OrdSlots<P, T>>(
     side: Side,
     t: T,
 ) -> P
-    requires ordered { IsOrdered
-        (record { chains = chains.old; root = option_map P.Inx.number root.old }) }
+    requires ordered { IsOrdered (ordered_by P.Inx.number chains.old root.old) }
     requires room { live_count chains.old < arena_capacity chains.old }
     requires lives { IsSome (nodes_in chains.old (P.Inx.number holder)) }
     requires free { option_map (λ v. child_of side v)
         (nodes_in chains.old (P.Inx.number holder)) ≡ Some None }
-    ensures ordered { IsOrdered
-        (record { chains = chains.new; root = option_map P.Inx.number root.new }) }
-    ensures order { StandsBeside side
-        (order_in (record { chains = chains.old; root = option_map P.Inx.number root.old }))
-        (order_in (record { chains = chains.new; root = option_map P.Inx.number root.new }))
-        (P.Inx.number holder) (P.index result) }
+    ensures ordered { IsOrdered (ordered_by P.Inx.number chains.new root.new) }
+    ensures order { StandsBeside side (order_in (ordered_by P.Inx.number chains.old root.old))
+        (order_in (ordered_by P.Inx.number chains.new root.new)) (P.Inx.number holder)
+        (P.index result) }
     ensures added { IsAdded (P.index result) (P.generation result) t
-        (record { chains = chains.old; root = option_map P.Inx.number root.old })
-        (record { chains = chains.new; root = option_map P.Inx.number root.new }) }
+        (ordered_by P.Inx.number chains.old root.old)
+        (ordered_by P.Inx.number chains.new root.new) }
     ensures counter { chains.new.counter ≡ chains.old.counter }
     ensures room { chains.new.room ≡ chains.old.room }
 {
@@ -59,11 +56,9 @@ pub(crate) fn neighbors_beside<P: PtrCore, T: Drop, S: OrdSlots<P, T>>(
     side: Side,
 ) -> (Option<P::Inx>, Option<P::Inx>)
     requires { IsSome (nodes_in chains.now (P.Inx.number holder)) }
-    ensures prev { option_map (λ e. prev_for side e.1 (P.Inx.number holder))
-        (entry_at chains.now (P.Inx.number holder))
+    ensures prev { prev_beside side chains.now (P.Inx.number holder)
         ≡ Some (option_map P.Inx.number result.0) }
-    ensures next { option_map (λ e. next_for side e.1 (P.Inx.number holder))
-        (entry_at chains.now (P.Inx.number holder))
+    ensures next { next_beside side chains.now (P.Inx.number holder)
         ≡ Some (option_map P.Inx.number result.1) }
 {
     match chains.get_inx_link_no_gen(holder) {
@@ -83,16 +78,13 @@ fn gap_beside<P: PtrCore, T: Drop, S: OrdSlots<P, T>>(
     holder: P::Inx,
     side: Side,
 ) -> (Option<P::Inx>, Option<P::Inx>)
-    requires ordered { IsOrdered
-        (record { chains = chains.now; root = option_map P.Inx.number root }) }
+    requires ordered { IsOrdered (ordered_by P.Inx.number chains.now root) }
     requires lives { IsSome (nodes_in chains.now (P.Inx.number holder)) }
     requires free { option_map (λ v. child_of side v)
         (nodes_in chains.now (P.Inx.number holder)) ≡ Some None }
-    ensures prev { option_map (λ e. prev_for side e.1 (P.Inx.number holder))
-        (entry_at chains.now (P.Inx.number holder))
+    ensures prev { prev_beside side chains.now (P.Inx.number holder)
         ≡ Some (option_map P.Inx.number result.0) }
-    ensures next { option_map (λ e. next_for side e.1 (P.Inx.number holder))
-        (entry_at chains.now (P.Inx.number holder))
+    ensures next { next_beside side chains.now (P.Inx.number holder)
         ≡ Some (option_map P.Inx.number result.1) }
     ensures gap { IsBetween (ends_in chains.now) (ends_by P.Inx.number (result.0, result.1)) }
 {

@@ -1,11 +1,10 @@
 //! Searches along the list.
 ghost use Rattle.std.specs.Prelude.{◌≡◌, ◌≢◌, ◌+◌, ◌≤◌, ℕ, List, None, IfSome, ⊤};
 ghost use Rattle.std.specs.Option.{option_map};
-ghost use Rattle.triple_arena_chain.specs.Chains.{IsLinear, On};
+ghost use Rattle.linked_lists.specs.LinkedLists.{IsLinear, On};
 ghost use Rattle.triple_arena_chain.specs.Links.{ends_in, link_ends};
-ghost use Rattle.triple_arena_ord.specs.Node.{items_in};
-ghost use Rattle.rank_tree.specs.Search.{IsParted};
-ghost use Rattle.triple_arena_ord.specs.Near.{IsAtHand, IsStop, IsWalked, path_from, asked_in};
+ghost use Rattle.triple_arena_ord.specs.Near.{IsStop, IsWalked, path_from, asked_in};
+ghost use Rattle.triple_arena_ord.specs.Near.{IsPartedAtHand};
 ghost use Rattle.triple_arena_ord.specs.Near.{onward as onward_of};
 
 use crate::SimpleOrdItem;
@@ -57,19 +56,15 @@ where
     requires no_more { ⊤ }
     ensures stops { (w : List ℕ) → IsLinear (ends_in (A.links arena.now)) w
         → On w (P.Inx.number start)
-        → IfSome result (λ a. IsStop
-        (asked_in T.Key.cmp T.key_of k.now (items_in (A.links arena.now))) w
+        → IfSome result (λ a. IsStop (asked_in T.Key.cmp T.key_of k.now (A.links arena.now)) w
         (P.Inx.number a.0) a.1) }
     ensures near { (w : List ℕ) → IsLinear (ends_in (A.links arena.now)) w
         → On w (P.Inx.number start)
-        → IsParted (asked_in T.Key.cmp T.key_of k.now (items_in (A.links arena.now))) w
-        → IsAtHand num (asked_in T.Key.cmp T.key_of k.now (items_in (A.links arena.now))) w
-        (P.Inx.number start)
-        → result ≢ None }
+        → IsPartedAtHand num (asked_in T.Key.cmp T.key_of k.now (A.links arena.now)) w
+        (P.Inx.number start) → result ≢ None }
     ensures walked { (w : List ℕ) → IsLinear (ends_in (A.links arena.now)) w
         → (on : On w (P.Inx.number start))
-        → IsWalked num (path_from
-        (asked_in T.Key.cmp T.key_of k.now (items_in (A.links arena.now))) on)
+        → IsWalked num (path_from (asked_in T.Key.cmp T.key_of k.now (A.links arena.now)) on)
         (option_map (λ a. P.Inx.number a.0) result) probes.old probes.new }
     ensures rises { probes.old ≤ probes.new }
     ensures ticks { probes.new ≤ probes.old + num }

@@ -88,21 +88,18 @@ pub type ArrayOrdArena<P, T, const LIMIT: usize> = SimpleOrdArena<
 impl<P: PtrCore, T: Drop, S: OrdSlots<P, T>> Model for SimpleOrdArena<P, T, S> {
     ghost use Rattle.std.specs.Prelude.{◌≡◌, None};
     ghost use Rattle.std.specs.Option.{option_map};
-    ghost use Rattle.triple_arena_chain.specs.Chains.{first_or, last_or};
-    ghost use Rattle.triple_arena_ord.specs.Ordered.{Ordered, IsOrdered, order_in};
+    ghost use Rattle.linked_lists.specs.LinkedLists.{first_or, last_or};
+    ghost use Rattle.triple_arena_ord.specs.Ordered.{Ordered, IsOrdered, order_in, ordered_by};
 
     ghost Value = { Ordered T };
 
-    ghost view = { λ a. record { chains = a.chains; root = option_map P.Inx.number a.root } };
+    ghost view = { λ a. ordered_by P.Inx.number a.chains a.root };
 
-    ghost invariant = { λ a. IsOrdered
-        (record { chains = a.chains; root = option_map P.Inx.number a.root })
+    ghost invariant = { λ a. IsOrdered (ordered_by P.Inx.number a.chains a.root)
         × (option_map P.Inx.number a.first
-        ≡ first_or (order_in
-        (record { chains = a.chains; root = option_map P.Inx.number a.root })) None)
+        ≡ first_or (order_in (ordered_by P.Inx.number a.chains a.root)) None)
         × (option_map P.Inx.number a.last
-        ≡ last_or None (order_in
-        (record { chains = a.chains; root = option_map P.Inx.number a.root }))) };
+        ≡ last_or None (order_in (ordered_by P.Inx.number a.chains a.root))) };
 }
 
 impl<P: PtrCore, T: Drop, S: OrdSlots<P, T>> SimpleOrdArena<P, T, S> {

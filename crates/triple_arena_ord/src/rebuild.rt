@@ -2,7 +2,7 @@
 ghost use Rattle.std.specs.Prelude.{◌≡◌, ℕ, ◌+◌, List, length, None};
 ghost use Rattle.std.specs.Option.{option_map};
 ghost use Rattle.triple_arena.specs.Content.{live_count};
-ghost use Rattle.triple_arena_chain.specs.Chains.{IsLinear, next_at, first_or};
+ghost use Rattle.linked_lists.specs.LinkedLists.{IsLinear, next_at, first_or};
 ghost use Rattle.triple_arena_chain.specs.Links.{ends_in};
 ghost use Rattle.triple_arena_ord.specs.Node.{nodes_in, rest};
 ghost use Rattle.triple_arena_ord.specs.Rebuilt.{IsAhead, IsRebuilt};

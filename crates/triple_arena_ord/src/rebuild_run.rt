@@ -4,7 +4,7 @@ ghost use Rattle.std.specs.List.{range_with_len};
 ghost use Rattle.std.specs.Option.{option_map};
 ghost use Rattle.triple_arena_ptr.specs.Index.{max_index_of};
 ghost use Rattle.triple_arena.specs.Content.{live_count};
-ghost use Rattle.triple_arena_chain.specs.Chains.{IsLinear};
+ghost use Rattle.linked_lists.specs.LinkedLists.{IsLinear};
 ghost use Rattle.triple_arena_chain.specs.Links.{ends_in};
 ghost use Rattle.triple_arena_ord.specs.Node.{nodes_in, rest};
 ghost use Rattle.triple_arena_ord.specs.Rebuilt.{IsRebuilt};

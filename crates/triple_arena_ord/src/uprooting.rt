@@ -4,10 +4,10 @@ ghost use Rattle.std.specs.Option.{option_map};
 ghost use Rattle.triple_arena_ptr.specs.Generation.{next_generation, next_wraps};
 ghost use Rattle.triple_arena.specs.Content.{removed};
 ghost use Rattle.triple_arena.specs.Entries.{without};
-ghost use Rattle.triple_arena_chain.specs.Chains.{next_at};
+ghost use Rattle.linked_lists.specs.LinkedLists.{next_at};
 ghost use Rattle.triple_arena_chain.specs.Links.{ends_in};
 ghost use Rattle.triple_arena_ord.specs.Node.{nodes_in, items_in, rest};
-ghost use Rattle.triple_arena_ord.specs.Ordered.{IsOrdered, order_in};
+ghost use Rattle.triple_arena_ord.specs.Ordered.{IsOrdered, order_in, ordered_by};
 ghost use Rattle.triple_arena_ord.specs.Removal.{Loses, IsUprooted};
 
 use crate::{OrdSlots, SimpleOrdArenaNode};
@@ -35,15 +35,12 @@ fn uproot<P: PtrCore, T: Drop, S: OrdSlots<P, T>>(
     gone: P::Inx,
     next: Option<P::Inx>,
 )
-    requires ordered { IsOrdered
-        (record { chains = chains.old; root = option_map P.Inx.number root.old }) }
+    requires ordered { IsOrdered (ordered_by P.Inx.number chains.old root.old) }
     requires lives { IsSome (nodes_in chains.old (P.Inx.number gone)) }
     requires next { next_at (ends_in chains.old) (P.Inx.number gone)
         ≡ option_map P.Inx.number next }
-    ensures uprooted { IsUprooted
-        (record { chains = chains.old; root = option_map P.Inx.number root.old })
-        (record { chains = chains.new; root = option_map P.Inx.number root.new })
-        (P.Inx.number gone) }
+    ensures uprooted { IsUprooted (ordered_by P.Inx.number chains.old root.old)
+        (ordered_by P.Inx.number chains.new root.new) (P.Inx.number gone) }
     ensures keeps { rest chains.new ≡ rest chains.old }
 {
     let _count = chains.len();
@@ -67,17 +64,13 @@ pub(crate) fn take_entry<P: PtrCore, T: Drop, S: OrdSlots<P, T>>(
     gone: P::Inx,
     next: Option<P::Inx>,
 ) -> ((P::Gen, T), bool)
-    requires ordered { IsOrdered
-        (record { chains = chains.old; root = option_map P.Inx.number root.old }) }
+    requires ordered { IsOrdered (ordered_by P.Inx.number chains.old root.old) }
     requires lives { IsSome (nodes_in chains.old (P.Inx.number gone)) }
     requires next { next_at (ends_in chains.old) (P.Inx.number gone)
         ≡ option_map P.Inx.number next }
-    ensures ordered { IsOrdered
-        (record { chains = chains.new; root = option_map P.Inx.number root.new }) }
-    ensures order { Loses
-        (order_in (record { chains = chains.old; root = option_map P.Inx.number root.old }))
-        (order_in (record { chains = chains.new; root = option_map P.Inx.number root.new }))
-        (P.Inx.number gone) }
+    ensures ordered { IsOrdered (ordered_by P.Inx.number chains.new root.new) }
+    ensures order { Loses (order_in (ordered_by P.Inx.number chains.old root.old))
+        (order_in (ordered_by P.Inx.number chains.new root.new)) (P.Inx.number gone) }
     ensures entries { (k : ℕ)
         → items_in chains.new k ≡ without (items_in chains.old) (P.Inx.number gone) k }
     ensures value { Some (P.Gen.number result.0.0, result.0.1)

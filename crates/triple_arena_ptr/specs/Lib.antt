@@ -1,4 +1,5 @@
 pub mod Advancer
+pub mod Errors
 pub mod Generation
 pub mod Hexadecimal
 pub mod Index

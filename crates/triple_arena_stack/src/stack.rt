@@ -6,6 +6,7 @@ ghost use Rattle.std.specs.Borrow.{sem, Lends, LendsIf, Array};
 ghost use Rattle.std.specs.Int.NonZero.{non_zero_usize_get as at};
 ghost use Rattle.std.specs.List.{refill};
 ghost use Rattle.std.specs.Option.{option_copied, option_copied_mut, option_to_list};
+ghost use Rattle.triple_arena_ptr.specs.Errors.{IsBeyondMaxCapacity, IsAllocError};
 ghost use Rattle.triple_arena_stack.specs.Push.{IsRefusal, IsPushed, HasFreeSlot, IsGrowingPush};
 ghost use Rattle.triple_arena_stack.specs.Room.{Room, capacity as capacity_of, with_reserved};
 ghost use Rattle.triple_arena_stack.specs.Room.{IsBeyond};
@@ -52,9 +53,8 @@ pub trait NonZeroInxGenericStack {
 
         // No memory is asked for if a new stack has the room already.
         ensures succeeds { min ≤ capacity_of (room_at 0) → IsOk result }
-        ensures beyond { IsErrOf result ReallocationError.BeyondMaxCapacity
-            ↔ IsBeyond (room_at min).limit min }
-        ensures memory { IsErrOf result ReallocationError.AllocError → IsTrue takes_memory };
+        ensures beyond { IsBeyondMaxCapacity result ↔ IsBeyond (room_at min).limit min }
+        ensures memory { IsAllocError result → IsTrue takes_memory };
 
     /// How many items fit with no growth.
     fn capacity(&self) -> usize
@@ -82,9 +82,8 @@ pub trait NonZeroInxGenericStack {
             → OnOk result (room self.new ≡ with_reserved (room self.old) min) }
         ensures kept { min ≤ capacity_of (room self.old) → room self.new ≡ room self.old }
         ensures succeeds { min ≤ capacity_of (room self.old) → IsOk result }
-        ensures beyond { IsErrOf result ReallocationError.BeyondMaxCapacity
-            ↔ IsBeyond (room self.old).limit min }
-        ensures memory { IsErrOf result ReallocationError.AllocError → IsTrue takes_memory }
+        ensures beyond { IsBeyondMaxCapacity result ↔ IsBeyond (room self.old).limit min }
+        ensures memory { IsAllocError result → IsTrue takes_memory }
         ensures err { OnErr result (self.new ≡ self.old) };
 
     /// Appends `value`, and returns its index. If all slots are taken, it returns

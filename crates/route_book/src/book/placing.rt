@@ -13,7 +13,7 @@ use crate::backing::BookBacking;
 use crate::book::RouteBook;
 use crate::items::{Place, PlaceKey};
 use crate::place_arena::{put_place, reword};
-use proof_marks::{recall, unreached};
+use proof_marks::recall;
 use route_lines::laws::changes_keep_states_sound;
 use route_lines::{Change, Counts, Refusal, Word};
 use std::cmp::Ordering;
@@ -161,11 +161,7 @@ impl<P: PtrCore, B: BookBacking<P>> RouteBook<P, B> {
         changes_keep_states_sound();
         // The word is as it must be.
         recall!(word.as_bytes());
-        let change = Change::Word(ticket, word);
-        self.held = self.held.changed(&change);
-        let Change::Word(_, word) = change else {
-            unreached!()
-        };
+        self.held = self.held.changed(&Change::Word(ticket, &word));
         reword(&mut self.places, at, word)
     }
 
@@ -182,11 +178,7 @@ impl<P: PtrCore, B: BookBacking<P>> RouteBook<P, B> {
         changes_keep_states_sound();
         // The word is as it must be.
         recall!(word.as_bytes());
-        let change = Change::Place(key, word);
-        self.held = self.held.changed(&change);
-        let Change::Place(_, word) = change else {
-            unreached!()
-        };
+        self.held = self.held.changed(&Change::Place(key, &word));
         let ticket = self.last + 1;
         let at = put_place(&mut self.places, found, Place::new(ticket, key, word));
         self.last = ticket;

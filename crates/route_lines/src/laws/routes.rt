@@ -5,9 +5,9 @@ ghost use Rattle.std.specs.List.{AllByRecursion};
 ghost use Rattle.route_lines.specs.Calls.{after_cut, after_extend, after_join, after_start};
 ghost use Rattle.route_lines.specs.Calls.{after_swap, extended, joined, parted, started, swapped};
 ghost use Rattle.route_lines.specs.Cuts.{first_item};
-ghost use Rattle.route_lines.specs.Leads.{Leads, closes_at};
-ghost use Rattle.route_lines.specs.Routes.{has_ticket, next_stop, previous_stop, walk_from};
-ghost use Rattle.route_lines.specs.Sound.{IsSound, count_of};
+ghost use Rattle.route_lines.specs.Leads.{Leads, closes_at, AreOnRoutes, IsOpenList, IsRound};
+ghost use Rattle.route_lines.specs.Routes.{next_stop, previous_stop, walk_from};
+ghost use Rattle.route_lines.specs.Sound.{IsSound};
 ghost use Rattle.route_lines.specs.State.{State, Stop, stop_list, stop_of};
 
 /// A stop follows another exactly if that one is its previous one.
@@ -112,26 +112,19 @@ pub fn routes_lead_along()
         → AllByRecursion (λ r. Leads (next_stop s.routes) (closes_at r) r.stops) s.routes }
     ensures first { (s : State) → IsSound s → AllByRecursion (λ r. r.is_ring ≡ false
         → IfSome (first_item r.stops) (λ t. previous_stop s.routes t.ticket ≡ None)) s.routes }
-    ensures stops { (s : State) → IsSound s
-        → AllByRecursion (λ t. stop_of s.routes t.ticket ≡ Some t) (stop_list s.routes) }
+    ensures stops { (s : State) → IsSound s → AreOnRoutes s.routes (stop_list s.routes) }
 {}
 
 /// A list of stops that follow one another, before which none comes and behind which none does, is
 /// walked from one of them to its end, and then backwards from the stop before it.
 pub fn lists_are_walked_both_ways()
     ensures { (s : State) (front behind : List Stop) (t : Stop) → IsSound s
-        → AllByRecursion (λ x. stop_of s.routes x.ticket ≡ Some x) (front ++ t ∷ behind)
-        → Leads (next_stop s.routes) None (front ++ t ∷ behind)
-        → ((u : ℕ) (x : Stop) (rest : List Stop) → front ++ t ∷ behind ≡ x ∷ rest
-        → next_stop s.routes u ≢ Some x.ticket)
+        → IsOpenList s.routes (front ++ t ∷ behind)
         → walk_from t.ticket s.routes ≡ (t ∷ behind) ++ reverse front }
 {}
 
 /// Stops that follow one another from one of them round to it again are walked once round.
 pub fn rings_are_walked_once()
     ensures { (s : State) (t : Stop) (behind : List Stop) → IsSound s
-        → AllByRecursion (λ x. stop_of s.routes x.ticket ≡ Some x) (t ∷ behind)
-        → Leads (next_stop s.routes) (Some t.ticket) (t ∷ behind)
-        → count_of (has_ticket t.ticket) behind ≡ 0
-        → walk_from t.ticket s.routes ≡ t ∷ behind }
+        → IsRound s.routes t behind → walk_from t.ticket s.routes ≡ t ∷ behind }
 {}

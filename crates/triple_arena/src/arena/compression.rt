@@ -1,12 +1,12 @@
 //! Compression: the live entries go to the first indexes.
-ghost use Rattle.std.specs.Prelude.{◌≡◌, ◌-◌, ◌≤◌, Some, None, length, map as list_map, take};
-ghost use Rattle.std.specs.Prelude.{slice_get, slice_set};
-ghost use Rattle.std.specs.Int.NonZero.{non_zero_usize_get};
+ghost use Rattle.std.specs.Prelude.{◌≡◌, ◌≤◌, Some, None, length, map as list_map, take};
+ghost use Rattle.std.specs.Int.NonZero.{non_zero_usize_get as at};
 ghost use Rattle.std.specs.List.{list_any};
 ghost use Rattle.std.specs.Option.{option_map};
 ghost use Rattle.triple_arena.specs.Compression.{renewed, renewal_wraps, generation_of};
-ghost use Rattle.triple_arena.specs.LiveEntries.{listed_from};
 ghost use Rattle.triple_arena.specs.SlotCompression.{Compacts, generation_after, own_wraps};
+ghost use Rattle.triple_arena.specs.LiveEntries.{listed_by};
+ghost use Rattle.triple_arena_stack.specs.Stack.{item_at, with_item};
 
 use crate::arena::pointer_at;
 use crate::slot::EntrySlot;
@@ -47,11 +47,11 @@ pub(crate) fn take_entry<
     L: EntrySlot<P, T> + Drop,
     S: NonZeroInxGenericStack<Item = L>,
 >(slots: &mut S, i: NonZeroUsize) -> Option<(P::Gen, T)>
-    requires { non_zero_usize_get i ≤ length (S.items slots.old) }
+    requires { at i ≤ length (S.items slots.old) }
     ensures entry { Some (option_map (λ e. (P.Gen.number e.0, e.1)) result)
-        ≡ slice_get (list_map L.entry (S.items slots.old)) (non_zero_usize_get i - 1) }
+        ≡ item_at (list_map L.entry (S.items slots.old)) (at i) }
     ensures slots { list_map L.entry (S.items slots.new)
-        ≡ slice_set (list_map L.entry (S.items slots.old)) (non_zero_usize_get i - 1) None }
+        ≡ with_item (list_map L.entry (S.items slots.old)) (at i) None }
     ensures room { S.room slots.new ≡ S.room slots.old }
 {
     mem::replace(slots.item_mut(i), L::vacant()).into_live()
@@ -64,9 +64,9 @@ pub(crate) fn put_entry<
     L: EntrySlot<P, T> + Drop,
     S: NonZeroInxGenericStack<Item = L>,
 >(slots: &mut S, i: NonZeroUsize, generation: P::Gen, value: T)
-    requires { non_zero_usize_get i ≤ length (S.items slots.old) }
+    requires { at i ≤ length (S.items slots.old) }
     ensures slots { list_map L.entry (S.items slots.new)
-        ≡ slice_set (list_map L.entry (S.items slots.old)) (non_zero_usize_get i - 1)
+        ≡ with_item (list_map L.entry (S.items slots.old)) (at i)
         (Some (P.Gen.number generation, value)) }
     ensures room { S.room slots.new ≡ S.room slots.old }
 {
@@ -103,7 +103,7 @@ where
         (generation_after P.Gen.last reset (option_map P.Gen.number given))
         (list_map L.entry (S.items slots.old)) (list_map L.entry (S.items slots.new)) }
     ensures wraps { result ≡ list_any (own_wraps P.Gen.last reset (option_map P.Gen.number given))
-        (list_map generation_of (listed_from 1 (list_map L.entry (S.items slots.old)))) }
+        (list_map generation_of (listed_by L.entry (S.items slots.old))) }
     ensures room { S.room slots.new ≡ S.room slots.old }
 {
     let mut live = 0;

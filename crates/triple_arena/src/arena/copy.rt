@@ -1,7 +1,8 @@
 //! An arena as a copy of another one.
-ghost use Rattle.std.specs.Prelude.{◌≡◌, ◌<◌, ◌≤◌, ◌↔◌, ◌⊎◌, Some, IsTrue, IsOk, IsErr, IfOk, OnOk};
-ghost use Rattle.std.specs.Prelude.{IsErrOf, length, is_some, count_by, map as list_map};
+ghost use Rattle.std.specs.Prelude.{◌≡◌, ◌≤◌, ◌↔◌, ◌⊎◌, Some, IsOk, IsErr, IfOk, OnOk};
+ghost use Rattle.std.specs.Prelude.{length, is_some, count_by, map as list_map};
 ghost use Rattle.std.specs.Option.{option_map};
+ghost use Rattle.triple_arena_ptr.specs.Errors.{IsBeyondMaxCapacity, IsAllocError};
 ghost use Rattle.triple_arena_ptr.specs.Generation.{second_generation};
 ghost use Rattle.triple_arena_stack.specs.Room.{capacity, IsBeyond};
 ghost use Rattle.triple_arena.specs.ArenaRoom.{room_of};
@@ -9,9 +10,10 @@ ghost use Rattle.triple_arena.specs.Content.{entry_at, live_count, some_counter,
 ghost use Rattle.triple_arena.specs.Content.{arena_capacity, reallocated, cleared, vacant_from};
 ghost use Rattle.triple_arena.specs.Content.{IsWellFormed};
 ghost use Rattle.triple_arena.specs.Copy.{last_listed, last_inx, copied as copied_of};
-ghost use Rattle.triple_arena.specs.Copy.{MayRefuse, IsMappedCopy, IsRefusedCopy, IsUnmade};
+ghost use Rattle.triple_arena.specs.Copy.{MayRefuse, NeedsMemory, IsMappedCopy, IsRefusedCopy};
+ghost use Rattle.triple_arena.specs.Copy.{IsUnmade};
 ghost use Rattle.triple_arena.specs.Layout.{IsFreeList};
-ghost use Rattle.triple_arena.specs.LiveEntries.{listed_from, live_entries};
+ghost use Rattle.triple_arena.specs.LiveEntries.{live_entries, listed_by};
 ghost use Rattle.triple_arena.specs.Slot.{entry_of};
 
 use crate::arena::Arena;
@@ -70,13 +72,10 @@ impl<P: PtrCore, T: Clone, S: ArenaSlots<P, T>> Arena<P, T, S> {
         ensures succeeds { last_inx self.now
             ≤ capacity (room_of P.Inx.greatest (S.room_at 0))
             → ((x : T) → T.is_infallible x) → IsOk result }
-        ensures beyond { IsErrOf result ReallocationError.BeyondMaxCapacity
-            ↔ IsBeyond (room_of P.Inx.greatest
-            (S.room_at (last_inx self.now))).limit
-            (last_inx self.now) }
-        ensures unmade { IsErrOf result ReallocationError.AllocError
-            → (IsTrue S.takes_memory × (capacity (room_of P.Inx.greatest (S.room_at 0))
-            < last_inx self.now))
+        ensures beyond { IsBeyondMaxCapacity result ↔ IsBeyond (room_of P.Inx.greatest
+            (S.room_at (last_inx self.now))).limit (last_inx self.now) }
+        ensures unmade { IsAllocError result
+            → NeedsMemory S.takes_memory (room_of P.Inx.greatest (S.room_at 0)) (last_inx self.now)
             ⊎ MayRefuse T.is_infallible (live_entries self.now) }
         ensures formed { IfOk result (λ c. IsWellFormed c) }
     {
@@ -99,10 +98,10 @@ impl<P: PtrCore, T: Clone, S: ArenaSlots<P, T>> Arena<P, T, S> {
             (live_entries source.now)) }
         ensures succeeds { last_inx source.now ≤ arena_capacity self.old
             → ((x : T) → T.is_infallible x) → IsOk result }
-        ensures beyond { IsErrOf result ReallocationError.BeyondMaxCapacity
+        ensures beyond { IsBeyondMaxCapacity result
             ↔ IsBeyond self.old.room.limit (last_inx source.now) }
-        ensures kept { IsErrOf result ReallocationError.BeyondMaxCapacity → self.new ≡ self.old }
-        ensures unmade { IsErrOf result ReallocationError.AllocError
+        ensures kept { IsBeyondMaxCapacity result → self.new ≡ self.old }
+        ensures unmade { IsAllocError result
             → IsUnmade S.takes_memory P.Gen.last (last_inx source.now)
             (MayRefuse T.is_infallible (live_entries source.now)) self.old self.new }
         ensures formed { IsWellFormed self.new }
@@ -124,15 +123,14 @@ impl<P: PtrCore, T: Drop, S: ArenaSlots<P, T>> Arena<P, T, S> {
         E: LentEntry<P, U>,
         F: FnMut(P, &U) -> Result<T, AllocError>,
         requires fits { length source.now ≤ arena_capacity self.old }
-        requires last { length source.now
-            ≡ last_listed (listed_from 1 (list_map E.shown source.now)) }
+        requires last { length source.now ≡ last_listed (listed_by E.shown source.now) }
         requires callable { F.IsAlwaysCallable map }
         ensures mapped { OnOk result (IsMappedCopy P.index P.generation F.step map
-            (listed_from 1 (list_map E.shown source.now)) (live_entries self.new)) }
+            (listed_by E.shown source.now) (live_entries self.new)) }
         ensures exact { OnOk result (self.new ≡ copied_of self.old (option_map P.Gen.number counter)
             (live_entries self.new)) }
         ensures refused { IsErr result → IsRefusedCopy P.index P.generation F.step map
-            (listed_from 1 (list_map E.shown source.now)) }
+            (listed_by E.shown source.now) }
         ensures cleared { IsErr result → self.new ≡ cleared P.Gen.last self.old }
         ensures formed { IsWellFormed self.new }
     {

@@ -3,7 +3,7 @@ ghost use Rattle.std.specs.Prelude.{◌≡◌, ◌≤◌, ℕ, Some, IsSome, IsT
 ghost use Rattle.std.specs.Prelude.{map as list_map, slice_get, ⊤};
 ghost use Rattle.std.specs.Int.NonZero.{non_zero_usize_get};
 ghost use Rattle.std.specs.Option.{option_map};
-ghost use Rattle.triple_arena.specs.FreeLinks.{with_prev_at, with_next_at};
+ghost use Rattle.linked_lists.specs.LinkedLists.{with_prev_if, with_next_if};
 ghost use Rattle.triple_arena.specs.Slot.{entry_of};
 ghost use Rattle.triple_arena.specs.Layout.{links_at, head_after, without_last, IsFreeList};
 ghost use Rattle.triple_arena.specs.Content.{without_free_end, vacant_from, canonicalized};
@@ -117,7 +117,7 @@ pub(crate) fn set_prev_at<P: PtrCore, T: Drop, S: ArenaSlots<P, T>>(
     requires free { (i : ℕ) → at ≡ Some i → IsSome (links_at (S.items slots.old) i) }
     requires no_more { ⊤ }
     ensures links { (i : ℕ) → links_at (S.items slots.new) i
-        ≡ with_prev_at (links_at (S.items slots.old)) at prev i }
+        ≡ with_prev_if (links_at (S.items slots.old)) at prev i }
     ensures entries { list_map entry_of (S.items slots.new)
         ≡ list_map entry_of (S.items slots.old) }
     ensures room { S.room slots.new ≡ S.room slots.old }
@@ -139,7 +139,7 @@ fn set_next_at<P: PtrCore, T: Drop, S: ArenaSlots<P, T>>(
     requires free { (i : ℕ) → at ≡ Some i → IsSome (links_at (S.items slots.old) i) }
     requires no_more { ⊤ }
     ensures links { (i : ℕ) → links_at (S.items slots.new) i
-        ≡ with_next_at (links_at (S.items slots.old)) at next i }
+        ≡ with_next_if (links_at (S.items slots.old)) at next i }
     ensures entries { list_map entry_of (S.items slots.new)
         ≡ list_map entry_of (S.items slots.old) }
     ensures room { S.room slots.new ≡ S.room slots.old }

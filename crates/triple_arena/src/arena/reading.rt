@@ -2,8 +2,7 @@
 ghost use Rattle.std.specs.Prelude.{◌≡◌, ◌↔◌, ℕ, suc, IsSome, IfSome, Option, Some, ⊤};
 ghost use Rattle.std.specs.Borrow.{sem, Lends};
 ghost use Rattle.std.specs.Int.NonZero.{non_zero_usize_get as at};
-ghost use Rattle.std.specs.Option.{option_map};
-ghost use Rattle.triple_arena.specs.Entries.{pointer_at as pointer_of_entry};
+ghost use Rattle.triple_arena.specs.Entries.{pointer_at as pointer_of_entry, pointer_by, value_in};
 ghost use Rattle.triple_arena.specs.Content.{get, entry_at, with_value};
 
 use crate::arena::Arena;
@@ -72,7 +71,7 @@ impl<P: PtrCore, T: Drop, S: ArenaSlots<P, T>> Arena<P, T, S> {
 
     // The pointer to the entry at `i`, if it is live.
     pub(crate) fn pointer(&self, i: NonZeroUsize) -> Option<P>
-        ensures { option_map (λ p. (P.index p, P.generation p)) result
+        ensures { pointer_by P.index P.generation result
             ≡ pointer_of_entry (entry_at self.now) (at i) }
     {
         // Each slot has an index of the pointer type.
@@ -104,7 +103,7 @@ pub(crate) trait ValueAtMut<T> {
 impl<P: PtrCore, T: Drop, S: ArenaSlots<P, T>> ValueAtMut<T> for Arena<P, T, S> {
     ghost has_value = { λ c i. IsSome (entry_at c i) };
 
-    ghost value_at = { λ c i. option_map (λ e. e.1) (entry_at c i) };
+    ghost value_at = { λ c i. value_in (entry_at c i) };
 
     ghost with_value_at = { with_value };
 

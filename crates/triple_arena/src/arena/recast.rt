@@ -1,11 +1,11 @@
 //! Renaming what the values of an arena hold, and renaming by an arena of pointers.
 ghost use Rattle.std.specs.Prelude.{◌≡◌, ◌↔◌, ℕ, IsTrue, IsSome, Some, length, refl};
 ghost use Rattle.std.specs.Int.NonZero.{non_zero_usize_get as at};
-ghost use Rattle.std.specs.Option.{option_map};
 ghost use Rattle.triple_arena_ptr.specs.Recast.{recast_answer};
 ghost use Rattle.triple_arena.specs.Content.{Content, entry_at, with_value, get as get_of};
 ghost use Rattle.triple_arena.specs.Recasting.{content_items, content_recasted};
 ghost use Rattle.triple_arena.specs.RecastingLaws.{items-recasted};
+ghost use Rattle.triple_arena.specs.Entries.{value_in};
 
 use crate::arena::Arena;
 use crate::arena::reading::ValueAtMut;
@@ -30,7 +30,7 @@ pub(crate) trait RecastByIndex<T>: ValueAtMut<T> {
         → Self.has_value s i };
 
     ghost value_of_entry: { (s : Self) (i : ℕ) → Self.value_at s i
-        ≡ option_map (λ e. e.1) (entry_at (content s) i) };
+        ≡ value_in (entry_at (content s) i) };
 
     ghost content_written: { (s : Self) (i : ℕ) (t : T)
         → content (Self.with_value_at s i t) ≡ with_value (content s) i t };

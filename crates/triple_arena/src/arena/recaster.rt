@@ -1,6 +1,7 @@
 //! A compression with a map from the old pointers to the new ones.
-ghost use Rattle.std.specs.Prelude.{◌≡◌, ◌≤◌, ◌↔◌, ℕ, [], Some, IsOk, IfOk, OnOk, OnErr, IsErrOf};
+ghost use Rattle.std.specs.Prelude.{◌≡◌, ◌≤◌, ◌↔◌, ℕ, [], Some, IsOk, IfOk, OnOk, OnErr};
 ghost use Rattle.std.specs.Prelude.{IsTrue, length, map as list_map, slice_get};
+ghost use Rattle.triple_arena_ptr.specs.Errors.{IsBeyondMaxCapacity, IsAllocError};
 ghost use Rattle.triple_arena_stack.specs.Room.{capacity, IsBeyond};
 ghost use Rattle.triple_arena.specs.ArenaRoom.{room_of, room_with};
 ghost use Rattle.triple_arena.specs.Changes.{IsCompressed};
@@ -11,7 +12,7 @@ ghost use Rattle.triple_arena.specs.Copy.{last_listed, directly_copied};
 ghost use Rattle.triple_arena.specs.DirectContent.{live_entries as entries_of, empty};
 ghost use Rattle.triple_arena.specs.DirectContent.{arena_capacity, cleared, reallocated};
 ghost use Rattle.triple_arena.specs.DirectContent.{IsWellFormed as IsFormed};
-ghost use Rattle.triple_arena.specs.LiveEntries.{listed_from, live_entries};
+ghost use Rattle.triple_arena.specs.LiveEntries.{live_entries, listed_by};
 ghost use Rattle.triple_arena.specs.Recaster.{IsRecaster};
 ghost use Rattle.triple_arena.specs.Slot.{entry_of};
 ghost use Rattle.triple_arena.specs.SlotRecaster.{CompactsNoting};
@@ -53,10 +54,10 @@ pub fn compress_recaster<P: PtrCore, T: Drop, S: ArenaSlots<P, T>, R: DirectSlot
     // No memory is asked for if a new map has the room already.
     ensures succeeds { last_index arena.old ≤ capacity (room_of P.Inx.greatest (R.room_at 0))
         → IsOk result }
-    ensures beyond { IsErrOf result ReallocationError.BeyondMaxCapacity
+    ensures beyond { IsBeyondMaxCapacity result
         ↔ IsBeyond (room_of P.Inx.greatest (R.room_at (last_index arena.old))).limit
         (last_index arena.old) }
-    ensures memory { IsErrOf result ReallocationError.AllocError → IsTrue R.takes_memory }
+    ensures memory { IsAllocError result → IsTrue R.takes_memory }
     ensures err { OnErr result (arena.new ≡ arena.old) }
 {
     let mut map = DirectArena::with_min_capacity(alloc, arena.last_index())?;
@@ -91,9 +92,9 @@ where
         (cleared (reallocated map.old (last_index arena.old))) (entries_of map.new)) }
     ensures map_room { OnOk result (map.new.room ≡ room_with (last_index arena.old) map.old.room) }
     ensures succeeds { last_index arena.old ≤ arena_capacity map.old → IsOk result }
-    ensures beyond { IsErrOf result ReallocationError.BeyondMaxCapacity
+    ensures beyond { IsBeyondMaxCapacity result
         ↔ IsBeyond map.old.room.limit (last_index arena.old) }
-    ensures memory { IsErrOf result ReallocationError.AllocError → IsTrue R.takes_memory }
+    ensures memory { IsAllocError result → IsTrue R.takes_memory }
     ensures err { OnErr result (arena.new ≡ arena.old) }
     ensures map_err { OnErr result (map.new ≡ map.old) }
 {
@@ -148,7 +149,7 @@ where
     requires fits { length (S.items slots.old) ≤ P.Inx.greatest }
     requires empty { map.old.slots ≡ [] }
     requires reaches { (k : ℕ) (entry : ℕ × (ℕ × T))
-        → slice_get (listed_from 1 (list_map entry_of (S.items slots.old))) k ≡ Some entry
+        → slice_get (listed_by entry_of (S.items slots.old)) k ≡ Some entry
         → index_of entry ≤ arena_capacity map.old }
     ensures moved { CompactsNoting P.index P.generation (P.Gen.number generation)
         (list_map entry_of (S.items slots.old)) (list_map entry_of (S.items slots.new))

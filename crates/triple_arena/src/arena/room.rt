@@ -1,6 +1,7 @@
 //! The room of an arena, and its growth.
 ghost use Rattle.std.specs.Prelude.{◌≡◌, ◌^◌, ◌<◌, ◌≤◌, ◌↔◌, Some, None, IsOk, OnOk, OnErr};
-ghost use Rattle.std.specs.Prelude.{IsErrOf, IsTrue};
+ghost use Rattle.std.specs.Prelude.{IsTrue};
+ghost use Rattle.triple_arena_ptr.specs.Errors.{IsBeyondMaxCapacity, IsAllocError};
 ghost use Rattle.triple_arena_ptr.specs.Index.{max_index_of};
 ghost use Rattle.triple_arena_stack.specs.Push.{IsRefusal};
 ghost use Rattle.triple_arena_stack.specs.Room.{grown, IsBeyond};
@@ -35,9 +36,8 @@ impl<P: PtrCore, T: Drop, S: ArenaSlots<P, T>> Arena<P, T, S> {
         ensures exact { OnOk result (self.new ≡ reallocated self.old min) }
         ensures fits { OnOk result (min ≤ arena_capacity self.new) }
         ensures succeeds { min ≤ arena_capacity self.old → IsOk result }
-        ensures beyond { IsErrOf result ReallocationError.BeyondMaxCapacity
-            ↔ IsBeyond self.old.room.limit min }
-        ensures memory { IsErrOf result ReallocationError.AllocError → IsTrue S.takes_memory }
+        ensures beyond { IsBeyondMaxCapacity result ↔ IsBeyond self.old.room.limit min }
+        ensures memory { IsAllocError result → IsTrue S.takes_memory }
         ensures err { OnErr result (self.new ≡ self.old) }
     {
         reallocate_over::<P, ArenaSlot<P, T>, S>(&mut self.slots, min)

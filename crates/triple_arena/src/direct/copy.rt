@@ -1,15 +1,16 @@
 //! A direct arena as a copy of another one.
-ghost use Rattle.std.specs.Prelude.{◌≡◌, ◌<◌, ◌≤◌, ◌↔◌, ◌⊎◌, IsTrue, IsOk, IsErr, IfOk, OnOk};
-ghost use Rattle.std.specs.Prelude.{IsErrOf, length, map as list_map};
+ghost use Rattle.std.specs.Prelude.{◌≡◌, ◌≤◌, ◌↔◌, ◌⊎◌, IsOk, IsErr, IfOk, OnOk};
+ghost use Rattle.std.specs.Prelude.{length};
+ghost use Rattle.triple_arena_ptr.specs.Errors.{IsBeyondMaxCapacity, IsAllocError};
 ghost use Rattle.triple_arena_stack.specs.Room.{capacity, IsBeyond};
 ghost use Rattle.triple_arena.specs.ArenaRoom.{room_of};
 ghost use Rattle.triple_arena.specs.Copy.{last_listed, direct_last_inx as last_inx};
 ghost use Rattle.triple_arena.specs.Copy.{directly_copied, MayRefuse, IsMappedCopy, IsRefusedCopy};
-ghost use Rattle.triple_arena.specs.Copy.{IsDirectlyUnmade};
+ghost use Rattle.triple_arena.specs.Copy.{IsDirectlyUnmade, NeedsMemory};
 ghost use Rattle.triple_arena.specs.DirectContent.{entry_at, live_count, live_entries, no_counter};
 ghost use Rattle.triple_arena.specs.DirectContent.{empty, arena_capacity, reallocated, cleared};
 ghost use Rattle.triple_arena.specs.DirectContent.{IsWellFormed};
-ghost use Rattle.triple_arena.specs.LiveEntries.{listed_from};
+ghost use Rattle.triple_arena.specs.LiveEntries.{listed_by};
 
 use crate::copy::{append_copies, up_to_last};
 use crate::direct::DirectArena;
@@ -62,13 +63,10 @@ impl<P: PtrCore, T: Clone, S: DirectSlots<P, T>> DirectArena<P, T, S> {
         ensures succeeds { last_inx self.now
             ≤ capacity (room_of P.Inx.greatest (S.room_at 0))
             → ((x : T) → T.is_infallible x) → IsOk result }
-        ensures beyond { IsErrOf result ReallocationError.BeyondMaxCapacity
-            ↔ IsBeyond (room_of P.Inx.greatest
-            (S.room_at (last_inx self.now))).limit
-            (last_inx self.now) }
-        ensures unmade { IsErrOf result ReallocationError.AllocError
-            → (IsTrue S.takes_memory × (capacity (room_of P.Inx.greatest (S.room_at 0))
-            < last_inx self.now))
+        ensures beyond { IsBeyondMaxCapacity result ↔ IsBeyond (room_of P.Inx.greatest
+            (S.room_at (last_inx self.now))).limit (last_inx self.now) }
+        ensures unmade { IsAllocError result
+            → NeedsMemory S.takes_memory (room_of P.Inx.greatest (S.room_at 0)) (last_inx self.now)
             ⊎ MayRefuse T.is_infallible (live_entries self.now) }
         ensures formed { IfOk result (λ d. IsWellFormed d) }
     {
@@ -91,10 +89,10 @@ impl<P: PtrCore, T: Clone, S: DirectSlots<P, T>> DirectArena<P, T, S> {
             (self.new ≡ directly_copied self.old (live_entries source.now)) }
         ensures succeeds { last_inx source.now ≤ arena_capacity self.old
             → ((x : T) → T.is_infallible x) → IsOk result }
-        ensures beyond { IsErrOf result ReallocationError.BeyondMaxCapacity
+        ensures beyond { IsBeyondMaxCapacity result
             ↔ IsBeyond self.old.room.limit (last_inx source.now) }
-        ensures kept { IsErrOf result ReallocationError.BeyondMaxCapacity → self.new ≡ self.old }
-        ensures unmade { IsErrOf result ReallocationError.AllocError
+        ensures kept { IsBeyondMaxCapacity result → self.new ≡ self.old }
+        ensures unmade { IsAllocError result
             → IsDirectlyUnmade S.takes_memory P.Gen.last (last_inx source.now)
             (MayRefuse T.is_infallible (live_entries source.now)) self.old self.new }
         ensures formed { IsWellFormed self.new }
@@ -110,14 +108,13 @@ impl<P: PtrCore, T: Drop, S: DirectSlots<P, T>> DirectArena<P, T, S> {
         E: LentEntry<P, U>,
         F: FnMut(P, &U) -> Result<T, AllocError>,
         requires fits { length source.now ≤ arena_capacity self.old }
-        requires last { length source.now
-            ≡ last_listed (listed_from 1 (list_map E.shown source.now)) }
+        requires last { length source.now ≡ last_listed (listed_by E.shown source.now) }
         requires callable { F.IsAlwaysCallable map }
         ensures mapped { OnOk result (IsMappedCopy P.index P.generation F.step map
-            (listed_from 1 (list_map E.shown source.now)) (live_entries self.new)) }
+            (listed_by E.shown source.now) (live_entries self.new)) }
         ensures exact { OnOk result (self.new ≡ directly_copied self.old (live_entries self.new)) }
         ensures refused { IsErr result → IsRefusedCopy P.index P.generation F.step map
-            (listed_from 1 (list_map E.shown source.now)) }
+            (listed_by E.shown source.now) }
         ensures cleared { IsErr result → self.new ≡ cleared self.old }
         ensures formed { IsWellFormed self.new }
     {

@@ -1,8 +1,7 @@
 //! What is found in a direct arena, and the borrow of a value.
 ghost use Rattle.std.specs.Prelude.{◌≡◌, ◌↔◌, suc, length, IsSome, IfSome, IsTrue, Option, Some, ⊤};
 ghost use Rattle.std.specs.Int.NonZero.{non_zero_usize_get as at};
-ghost use Rattle.std.specs.Option.{option_map};
-ghost use Rattle.triple_arena.specs.Entries.{pointer_at as pointer_of_entry};
+ghost use Rattle.triple_arena.specs.Entries.{pointer_at as pointer_of_entry, pointer_by, value_in};
 ghost use Rattle.triple_arena.specs.DirectContent.{get, entry_at, with_value};
 
 use crate::arena::ValueAtMut;
@@ -74,7 +73,7 @@ impl<P: PtrCore, T: Drop, S: DirectSlots<P, T>> DirectArena<P, T, S> {
 
     // The pointer to the entry at `i`, if it is live.
     pub(crate) fn pointer(&self, i: NonZeroUsize) -> Option<P>
-        ensures { option_map (λ p. (P.index p, P.generation p)) result
+        ensures { pointer_by P.index P.generation result
             ≡ pointer_of_entry (entry_at self.now) (at i) }
     {
         // Each slot has an index of the pointer type.
@@ -88,7 +87,7 @@ impl<P: PtrCore, T: Drop, S: DirectSlots<P, T>> DirectArena<P, T, S> {
 impl<P: PtrCore, T: Drop, S: DirectSlots<P, T>> ValueAtMut<T> for DirectArena<P, T, S> {
     ghost has_value = { λ d i. IsSome (entry_at d i) };
 
-    ghost value_at = { λ d i. option_map (λ e. e.1) (entry_at d i) };
+    ghost value_at = { λ d i. value_in (entry_at d i) };
 
     ghost with_value_at = { with_value };
 

@@ -1,5 +1,6 @@
 //! The room of a direct arena, and its growth.
-ghost use Rattle.std.specs.Prelude.{◌≡◌, ◌≤◌, ◌↔◌, IsOk, OnOk, OnErr, IsErrOf, IsTrue};
+ghost use Rattle.std.specs.Prelude.{◌≡◌, ◌≤◌, ◌↔◌, IsOk, OnOk, OnErr, IsTrue};
+ghost use Rattle.triple_arena_ptr.specs.Errors.{IsBeyondMaxCapacity, IsAllocError};
 ghost use Rattle.triple_arena_ptr.specs.Index.{max_index_of};
 ghost use Rattle.triple_arena_stack.specs.Room.{IsBeyond};
 ghost use Rattle.triple_arena.specs.DirectContent.{arena_capacity, reallocated, IsWellFormed};
@@ -32,9 +33,8 @@ impl<P: PtrCore, T: Drop, S: DirectSlots<P, T>> DirectArena<P, T, S> {
         ensures fits { OnOk result (min ≤ arena_capacity self.new) }
         ensures succeeds { min ≤ arena_capacity self.old → IsOk result }
         ensures kept { min ≤ arena_capacity self.old → self.new ≡ self.old }
-        ensures beyond { IsErrOf result ReallocationError.BeyondMaxCapacity
-            ↔ IsBeyond self.old.room.limit min }
-        ensures memory { IsErrOf result ReallocationError.AllocError → IsTrue S.takes_memory }
+        ensures beyond { IsBeyondMaxCapacity result ↔ IsBeyond self.old.room.limit min }
+        ensures memory { IsAllocError result → IsTrue S.takes_memory }
         ensures err { OnErr result (self.new ≡ self.old) }
     {
         reallocate_over::<P, DirectSlot<P, T>, S>(&mut self.slots, min)

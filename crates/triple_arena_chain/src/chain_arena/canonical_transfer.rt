@@ -1,9 +1,10 @@
 //! The canonical transfer: the links of a chain arena moved to another, each chain to successive
 //! indexes.
 ghost use Rattle.std.specs.Prelude.{◌≡◌, ◌≢◌, ◌↔◌, IsTrue, ◌+◌, ◌<◌, ◌≤◌, ℕ, Some, None, IsSome};
-ghost use Rattle.std.specs.Prelude.{IfSome, IfNone, ◌⊎◌, IsOk, OnOk, OnErr, IsErrOf, []};
+ghost use Rattle.std.specs.Prelude.{IfSome, IfNone, ◌⊎◌, IsOk, OnOk, OnErr, []};
 ghost use Rattle.std.specs.Fn.{iterate};
 ghost use Rattle.std.specs.Option.{option_map};
+ghost use Rattle.triple_arena_ptr.specs.Errors.{IsBeyondMaxCapacity, IsAllocError};
 ghost use Rattle.triple_arena_ptr.specs.Generation.{next_generation, next_wraps};
 ghost use Rattle.triple_arena_ptr.specs.Index.{max_index_of};
 ghost use Rattle.triple_arena_ptr.specs.InvalidationOption.{value_of, overflowed};
@@ -15,7 +16,7 @@ ghost use Rattle.triple_arena.specs.Content.{inserted, IsWellFormed};
 ghost use Rattle.triple_arena.specs.Drains.{drained};
 ghost use Rattle.triple_arena.specs.Transfer.{IsFilled};
 ghost use Rattle.triple_arena_chain.specs.CanonicalTransfer.{IsMovedInOrder};
-ghost use Rattle.triple_arena_chain.specs.Chains.{next_at};
+ghost use Rattle.linked_lists.specs.LinkedLists.{next_at};
 ghost use Rattle.triple_arena_chain.specs.Links.{ends_in, values_in, with_prev_of, IsChained};
 ghost use Rattle.triple_arena_chain.specs.Listed.{listed_values};
 ghost use Rattle.triple_arena_chain.specs.Values.{room_in};
@@ -248,9 +249,9 @@ impl<P: PtrCore, T: Drop, S: ChainSlots<P, T>> ChainArena<P, T, S> {
 
         // No memory is asked for if the links fit.
         ensures succeeds { live_count source.old ≤ arena_capacity self.old → IsOk result }
-        ensures beyond { IsErrOf result ReallocationError.BeyondMaxCapacity
+        ensures beyond { IsBeyondMaxCapacity result
             ↔ IsBeyond self.old.room.limit (live_count source.old) }
-        ensures memory { IsErrOf result ReallocationError.AllocError → IsTrue S.takes_memory }
+        ensures memory { IsAllocError result → IsTrue S.takes_memory }
         ensures err { OnErr result (self.new ≡ self.old) }
         ensures source_err { OnErr result (source.new ≡ source.old) }
     {

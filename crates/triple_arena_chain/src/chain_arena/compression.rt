@@ -5,7 +5,7 @@ ghost use Rattle.triple_arena_ptr.specs.InvalidationOption.{overflowed};
 ghost use Rattle.triple_arena.specs.Changes.{IsCompressed};
 ghost use Rattle.triple_arena.specs.Compression.{renewal_wraps, value_of, IsMapped};
 ghost use Rattle.triple_arena.specs.Content.{entry_at, live_count, some_counter, IsWellFormed};
-ghost use Rattle.triple_arena_chain.specs.Chains.{next_at, prev_at, IsAgreed};
+ghost use Rattle.linked_lists.specs.LinkedLists.{next_at, prev_at, IsAgreed};
 ghost use Rattle.triple_arena_chain.specs.Links.{ends_in, values_in, IsKept, IsChained, IsRelinked};
 ghost use Rattle.triple_arena_chain.specs.Listed.{listed_values};
 ghost use Rattle.triple_arena_chain.specs.Renaming.{numbered, prev_of, forwarded, IsCompacted};

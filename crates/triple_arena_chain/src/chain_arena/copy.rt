@@ -1,16 +1,17 @@
 //! A chain arena as a copy of another one, and an arena as a copy of a chain arena.
-ghost use Rattle.std.specs.Prelude.{◌≡◌, ℕ, ◌<◌, ◌≤◌, ◌↔◌, ◌⊎◌, IsTrue, IsOk, IfOk, OnOk, IsErrOf};
+ghost use Rattle.std.specs.Prelude.{◌≡◌, ℕ, ◌≤◌, ◌↔◌, ◌⊎◌, IsOk, IfOk, OnOk};
+ghost use Rattle.triple_arena_ptr.specs.Errors.{IsBeyondMaxCapacity, IsAllocError};
 ghost use Rattle.triple_arena_ptr.specs.Generation.{second_generation};
 ghost use Rattle.triple_arena_stack.specs.Room.{capacity as capacity_of, IsBeyond};
 ghost use Rattle.triple_arena.specs.ArenaRoom.{room_of};
 ghost use Rattle.triple_arena.specs.Content.{entry_at, live_count, some_counter, empty};
-ghost use Rattle.triple_arena.specs.Content.{reallocated, cleared};
-ghost use Rattle.triple_arena.specs.Copy.{last_listed, copied, MayRefuse, NeverRefuses};
-ghost use Rattle.triple_arena.specs.Copy.{IsMappedCopy, IsRefusedCopy, IsCopy, IsUnmadeCopy};
+ghost use Rattle.triple_arena.specs.Copy.{last_listed, last_inx, copied, MayRefuse, NeverRefuses};
+ghost use Rattle.triple_arena.specs.Copy.{NeedsMemory, IsMappedCopy, IsRefusedCopy, IsCopyOf};
 ghost use Rattle.triple_arena.specs.LiveEntries.{live_entries};
+ghost use Rattle.triple_arena_chain.specs.LinkCopies.{IsUnmade};
 ghost use Rattle.triple_arena_chain.specs.Links.{ends_in, values_in, IsChained};
 ghost use Rattle.triple_arena_chain.specs.Listed.{listed_values};
-ghost use Rattle.triple_arena_chain.specs.Lists.{Chain, IsChainOf};
+ghost use Rattle.linked_lists.specs.Chains.{Chain, IsChainOf};
 ghost use Rattle.triple_arena_chain.specs.Values.{room_in};
 
 use crate::chain_arena::link_copies::copy_links;
@@ -43,26 +44,20 @@ impl<P: PtrCore, T: Drop, S: ChainSlots<P, T>> ChainArena<P, T, S> {
         ensures linked { OnOk result ((k : ℕ) → ends_in self.new k ≡ A.ends source.now k) }
         ensures lists { OnOk result ((chain : Chain) → IsChainOf (A.ends source.now) chain
             → IsChainOf (ends_in self.new) chain) }
-        ensures copied { OnOk result (IsCopy values_in live_count some_counter room_in
-            (A.Links.entry_at (A.links source.now)) (A.Links.live_count (A.links source.now))
-            (last_listed (A.Links.live_entries (A.links source.now)))
-            (A.Links.counter (A.links source.now)) self.old self.new) }
+        ensures copied { OnOk result (IsCopyOf values_in live_count some_counter room_in
+            A.Links.entry_at A.Links.live_count A.Links.counter A.Links.live_entries
+            (A.links source.now) self.old self.new) }
         ensures exact { OnOk result (self.new
             ≡ copied self.old (A.Links.counter (A.links source.now)) (live_entries self.new)) }
         ensures succeeds { last_listed (A.Links.live_entries (A.links source.now))
             ≤ capacity_of (room_in self.old) → NeverRefuses F.step → IsOk result }
-        ensures beyond { IsErrOf result ReallocationError.BeyondMaxCapacity
-            ↔ IsBeyond (room_in self.old).limit
+        ensures beyond { IsBeyondMaxCapacity result ↔ IsBeyond (room_in self.old).limit
             (last_listed (A.Links.live_entries (A.links source.now))) }
-        ensures kept { IsErrOf result ReallocationError.BeyondMaxCapacity → self.new ≡ self.old }
-        ensures unmade { IsErrOf result ReallocationError.AllocError
-            → IsUnmadeCopy values_in live_count some_counter room_in S.takes_memory
-            P.Gen.last (last_listed (A.Links.live_entries (A.links source.now)))
-            (λ c. cleared P.Gen.last
-            (reallocated c (last_listed (A.Links.live_entries (A.links source.now)))))
+        ensures kept { IsBeyondMaxCapacity result → self.new ≡ self.old }
+        ensures unmade { IsAllocError result → IsUnmade S.takes_memory P.Gen.last
+            (last_listed (A.Links.live_entries (A.links source.now)))
             (IsRefusedCopy P.index P.generation F.step map
-            (A.Links.live_entries (A.links source.now)))
-            self.old self.new }
+            (A.Links.live_entries (A.links source.now))) self.old self.new }
         ensures formed { IsChained self.new }
     {
         copy_links::<
@@ -88,18 +83,15 @@ impl<P: PtrCore, T: Clone, S: ChainSlots<P, T>> ChainArena<P, T, S> {
     pub fn clone(&self, alloc: S::Alloc) -> Result<Self, ReallocationError>
         requires { (x y : T) → T.is_clone x y → y ≡ x }
         ensures exact { IfOk result (λ c. c ≡ copied (empty (second_generation P.Gen.last)
-            (room_of P.Inx.greatest (S.room_at (last_listed (live_entries self.now)))))
+            (room_of P.Inx.greatest (S.room_at (last_inx self.now))))
             (some_counter self.now) (live_entries self.now)) }
-        ensures succeeds { last_listed (live_entries self.now)
-            ≤ capacity_of (room_of P.Inx.greatest (S.room_at 0))
+        ensures succeeds { last_inx self.now ≤ capacity_of (room_of P.Inx.greatest (S.room_at 0))
             → ((x : T) → T.is_infallible x) → IsOk result }
-        ensures beyond { IsErrOf result ReallocationError.BeyondMaxCapacity
-            ↔ IsBeyond (room_of P.Inx.greatest
-            (S.room_at (last_listed (live_entries self.now)))).limit
-            (last_listed (live_entries self.now)) }
-        ensures unmade { IsErrOf result ReallocationError.AllocError
-            → (IsTrue S.takes_memory × (capacity_of (room_of P.Inx.greatest (S.room_at 0))
-            < last_listed (live_entries self.now)))
+        ensures beyond { IsBeyondMaxCapacity result
+            ↔ IsBeyond (room_of P.Inx.greatest (S.room_at (last_inx self.now))).limit
+            (last_inx self.now) }
+        ensures unmade { IsAllocError result
+            → NeedsMemory S.takes_memory (room_of P.Inx.greatest (S.room_at 0)) (last_inx self.now)
             ⊎ MayRefuse T.is_infallible (listed_values self.now) }
         ensures lists { IfOk result (λ c. (chain : Chain)
             → IsChainOf (ends_in self.now) chain
@@ -127,15 +119,13 @@ impl<P: PtrCore, T: Clone, S: ChainSlots<P, T>> ChainArena<P, T, S> {
         requires { (x y : T) → T.is_clone x y → y ≡ x }
         ensures exact { OnOk result (self.new ≡ copied self.old (some_counter source.now)
             (live_entries source.now)) }
-        ensures succeeds { last_listed (live_entries source.now) ≤ capacity_of (room_in self.old)
+        ensures succeeds { last_inx source.now ≤ capacity_of (room_in self.old)
             → ((x : T) → T.is_infallible x) → IsOk result }
-        ensures beyond { IsErrOf result ReallocationError.BeyondMaxCapacity
-            ↔ IsBeyond (room_in self.old).limit (last_listed (live_entries source.now)) }
-        ensures kept { IsErrOf result ReallocationError.BeyondMaxCapacity → self.new ≡ self.old }
-        ensures unmade { IsErrOf result ReallocationError.AllocError
-            → IsUnmadeCopy values_in live_count some_counter room_in S.takes_memory P.Gen.last
-            (last_listed (live_entries source.now))
-            (λ c. cleared P.Gen.last (reallocated c (last_listed (live_entries source.now))))
+        ensures beyond { IsBeyondMaxCapacity result
+            ↔ IsBeyond (room_in self.old).limit (last_inx source.now) }
+        ensures kept { IsBeyondMaxCapacity result → self.new ≡ self.old }
+        ensures unmade { IsAllocError result
+            → IsUnmade S.takes_memory P.Gen.last (last_inx source.now)
             (MayRefuse T.is_infallible (listed_values source.now)) self.old self.new }
         ensures lists { OnOk result
             ((chain : Chain) → IsChainOf (ends_in source.now) chain

@@ -1,9 +1,10 @@
 //! What copies of links are made of.
-ghost use Rattle.std.specs.Prelude.{◌≡◌, ◌≤◌, ◌↔◌, ℕ, Option, IsOk, OnOk, IsErrOf};
+ghost use Rattle.std.specs.Prelude.{◌≡◌, ◌≤◌, ◌↔◌, ℕ, Option, IsOk, OnOk};
+ghost use Rattle.triple_arena_ptr.specs.Errors.{IsBeyondMaxCapacity, IsAllocError};
 ghost use Rattle.triple_arena_stack.specs.Room.{capacity as capacity_of, IsBeyond};
 ghost use Rattle.triple_arena.specs.Copy.{last_listed, NeverRefuses, IsMappedCopy, IsRefusedCopy};
-ghost use Rattle.triple_arena.specs.Copy.{IsCopy, IsUnmadeCopy};
-ghost use Rattle.triple_arena_chain.specs.Chains.{Ends, IsAgreed};
+ghost use Rattle.triple_arena.specs.Copy.{IsCopyOf, IsUnmadeCopy};
+ghost use Rattle.linked_lists.specs.LinkedLists.{Ends, IsAgreed};
 ghost use Rattle.triple_arena_chain.specs.Kinds.{ends_by};
 ghost use Rattle.triple_arena_chain.specs.LinkCopies.{listed_ends};
 ghost use Rattle.triple_arena_chain.specs.Links.{prev_next_of};
@@ -78,27 +79,22 @@ pub trait LinkCloneSource<P: PtrCore> {
         requires { F.IsAlwaysCallable map }
         ensures mapped { OnOk result (IsMappedCopy P.index P.generation F.step map
             (Self.Links.live_entries (links self.now)) (A.live_entries target.new)) }
-        ensures copied { OnOk result (IsCopy A.entry_at A.live_count A.counter A.room
-            (Self.Links.entry_at (links self.now)) (Self.Links.live_count (links self.now))
-            (last_listed (Self.Links.live_entries (links self.now)))
-            (Self.Links.counter (links self.now)) target.old target.new) }
+        ensures copied { OnOk result (IsCopyOf A.entry_at A.live_count A.counter A.room
+            Self.Links.entry_at Self.Links.live_count Self.Links.counter Self.Links.live_entries
+            (links self.now) target.old target.new) }
         ensures exact { OnOk result (target.new ≡ A.copied target.old
             (Self.Links.counter (links self.now)) (A.live_entries target.new)) }
         ensures succeeds { last_listed (Self.Links.live_entries (links self.now))
             ≤ capacity_of (A.room target.old) → NeverRefuses F.step → IsOk result }
-        ensures beyond { IsErrOf result ReallocationError.BeyondMaxCapacity
-            ↔ IsBeyond (A.room target.old).limit
+        ensures beyond { IsBeyondMaxCapacity result ↔ IsBeyond (A.room target.old).limit
             (last_listed (Self.Links.live_entries (links self.now))) }
-        ensures kept { IsErrOf result ReallocationError.BeyondMaxCapacity
-            → target.new ≡ target.old }
-        ensures unmade { IsErrOf result ReallocationError.AllocError
+        ensures kept { IsBeyondMaxCapacity result → target.new ≡ target.old }
+        ensures unmade { IsAllocError result
             → IsUnmadeCopy A.entry_at A.live_count A.counter A.room A.takes_memory
-            P.Gen.last (last_listed (Self.Links.live_entries (links self.now)))
-            (λ s. A.cleared
+            P.Gen.last (last_listed (Self.Links.live_entries (links self.now))) (λ s. A.cleared
             (A.reallocated s (last_listed (Self.Links.live_entries (links self.now)))))
             (IsRefusedCopy P.index P.generation F.step map
-            (Self.Links.live_entries (links self.now)))
-            target.old target.new }
+            (Self.Links.live_entries (links self.now))) target.old target.new }
         ensures formed { A.is_formed target.new }
     {
         target.clone_from_with(self.links(), map)

@@ -3,7 +3,7 @@ ghost use Rattle.std.specs.Prelude.{◌≡◌, ◌↔◌, ℕ, Some, IsTrue, IsO
 ghost use Rattle.std.specs.Prelude.{OnSome};
 ghost use Rattle.std.specs.Option.{option_map};
 ghost use Rattle.triple_arena.specs.Content.{IsWellFormed};
-ghost use Rattle.triple_arena_chain.specs.Chains.{IsAgreed, next_at, prev_at};
+ghost use Rattle.linked_lists.specs.LinkedLists.{IsAgreed, next_at, prev_at};
 ghost use Rattle.triple_arena_chain.specs.Links.{ends_in, IsChained};
 
 use crate::chain_arena::canonical_layout::is_same;

@@ -2,7 +2,7 @@
 ghost use Rattle.std.specs.Prelude.{◌≡◌, Some, None, IsSome, IfSome, ⊤};
 ghost use Rattle.std.specs.Option.{option_map};
 ghost use Rattle.triple_arena.specs.Content.{entry_at, IsWellFormed};
-ghost use Rattle.triple_arena_chain.specs.Chains.{next_at, prev_at};
+ghost use Rattle.linked_lists.specs.LinkedLists.{next_at, prev_at};
 ghost use Rattle.triple_arena_chain.specs.Links.{ends_in, with_next_of, with_prev_of, joined_to};
 ghost use Rattle.triple_arena_chain.specs.Links.{AreNeighborsLive};
 ghost use Rattle.triple_arena_chain.specs.Kinds.{gap_by};

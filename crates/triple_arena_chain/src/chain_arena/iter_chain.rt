@@ -3,7 +3,7 @@ ghost use Rattle.std.specs.Prelude.{◌≡◌, ◌↔◌, ℕ, List, Option, Som
 ghost use Rattle.std.specs.Iterator.{YieldsFirstBy, item_count};
 ghost use Rattle.std.specs.Option.{option_map};
 ghost use Rattle.triple_arena.specs.Content.{get, entry_at};
-ghost use Rattle.triple_arena_chain.specs.Chains.{Ends};
+ghost use Rattle.linked_lists.specs.LinkedLists.{Ends};
 ghost use Rattle.triple_arena_chain.specs.IterChains.{lent_walk, settled, links_along};
 ghost use Rattle.triple_arena_chain.specs.Links.{ends_in};
 ghost use Rattle.triple_arena_chain.specs.Walks.{past_index, IsWalkFrom};

@@ -1,7 +1,8 @@
 //! Copies of links, where the map sees the links of the source and gives the values alone.
 ghost use Rattle.std.specs.Prelude.{◌≡◌, ◌≤◌, ◌↔◌, ◌⊎◌, ◌<◌, ℕ, Ok, Err, List, IsTrue, IsOk, IfOk};
-ghost use Rattle.std.specs.Prelude.{IfErr, OnOk, IsErrOf, map as list_map, ⊤};
+ghost use Rattle.std.specs.Prelude.{IfErr, OnOk, map as list_map, ⊤};
 ghost use Rattle.std.specs.Option.{option_map};
+ghost use Rattle.triple_arena_ptr.specs.Errors.{IsBeyondMaxCapacity, IsAllocError};
 ghost use Rattle.triple_arena_ptr.specs.Generation.{next_generation};
 ghost use Rattle.triple_arena_stack.specs.Room.{IsBeyond};
 ghost use Rattle.triple_arena.specs.ArenaRoom.{room_with};
@@ -58,11 +59,9 @@ pub(crate) trait CopiesFrom<P: Copy, L: Drop, M: Drop, A> {
             (source_entries source.now) (entries self.new)) }
         ensures copied { OnOk result (is_copied source.now self.old self.new) }
         ensures succeeds { fits source.now self.old → NeverRefuses G.step → IsOk result }
-        ensures beyond { IsErrOf result ReallocationError.BeyondMaxCapacity
-            ↔ is_beyond source.now self.old }
-        ensures kept { IsErrOf result ReallocationError.BeyondMaxCapacity → self.new ≡ self.old }
-        ensures unmade { IsErrOf result ReallocationError.AllocError
-            → is_left source.now self.old self.new
+        ensures beyond { IsBeyondMaxCapacity result ↔ is_beyond source.now self.old }
+        ensures kept { IsBeyondMaxCapacity result → self.new ≡ self.old }
+        ensures unmade { IsAllocError result → is_left source.now self.old self.new
             ⊎ (IsRefusedCopy index generation G.step map (source_entries source.now)
             × is_emptied source.now self.old self.new) }
         ensures formed { is_formed self.new };
@@ -134,11 +133,9 @@ where
         (B.entries target.new)) }
     ensures copied { OnOk result (B.is_copied source.now target.old target.new) }
     ensures succeeds { B.fits source.now target.old → NeverRefuses F.step → IsOk result }
-    ensures beyond { IsErrOf result ReallocationError.BeyondMaxCapacity
-        ↔ B.is_beyond source.now target.old }
-    ensures kept { IsErrOf result ReallocationError.BeyondMaxCapacity → target.new ≡ target.old }
-    ensures unmade { IsErrOf result ReallocationError.AllocError
-        → B.is_left source.now target.old target.new
+    ensures beyond { IsBeyondMaxCapacity result ↔ B.is_beyond source.now target.old }
+    ensures kept { IsBeyondMaxCapacity result → target.new ≡ target.old }
+    ensures unmade { IsAllocError result → B.is_left source.now target.old target.new
         ⊎ (IsRefusedCopy B.index B.generation F.step map (B.source_entries source.now)
         × B.is_emptied source.now target.old target.new) }
     ensures formed { B.is_formed target.new }

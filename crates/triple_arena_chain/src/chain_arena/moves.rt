@@ -1,7 +1,8 @@
 //! A link that moves to another place, under its pointer.
-ghost use Rattle.std.specs.Prelude.{◌≡◌, ◌≢◌, ◌↔◌, ℕ, Some, IsSome, IfSome, IfNone, OnSome, IsTrue};
+ghost use Rattle.std.specs.Prelude.{◌≡◌, ◌↔◌, ℕ, Some, IsSome, IfSome, IfNone, OnSome, IsTrue};
 ghost use Rattle.std.specs.Option.{option_map};
-ghost use Rattle.triple_arena.specs.Content.{entry_at, get};
+ghost use Rattle.triple_arena.specs.Content.{entry_at};
+ghost use Rattle.triple_arena.specs.TwoValues.{FindTwo};
 ghost use Rattle.triple_arena_chain.specs.declared.gap.Gap.TheVariants.{Between};
 ghost use Rattle.triple_arena_chain.specs.Kinds.{gap_by};
 ghost use Rattle.triple_arena_chain.specs.Links.{with_next_of, with_prev_of, joined_to};
@@ -57,8 +58,7 @@ impl<P: PtrCore, T: Drop, S: ChainSlots<P, T>> ChainArena<P, T, S> {
     /// follows `p`. It returns `None`, and changes nothing, if one of them is invalid, or if both
     /// are one.
     pub fn move_next_to(&mut self, p: P, q: P) -> Option<()>
-        ensures variant { IsSome result ↔ ((IsSome (get self.old (P.index p) (P.generation p))
-            × IsSome (get self.old (P.index q) (P.generation q))) × (P.index p ≢ P.index q)) }
+        ensures variant { IsSome result ↔ FindTwo P.index P.generation (entry_at self.old) p q }
         ensures moved { OnSome result (IsMoved (P.index p)
             (gap_after self.old (P.index p) (P.index q)) self.old self.new) }
         ensures formed { IsChained self.new }
@@ -79,8 +79,7 @@ impl<P: PtrCore, T: Drop, S: ChainSlots<P, T>> ChainArena<P, T, S> {
     /// sides of `p` is joined, and `p` follows what came before `q`. It returns `None`, and changes
     /// nothing, if one of them is invalid, or if both are one.
     pub fn move_prev_to(&mut self, p: P, q: P) -> Option<()>
-        ensures variant { IsSome result ↔ ((IsSome (get self.old (P.index p) (P.generation p))
-            × IsSome (get self.old (P.index q) (P.generation q))) × (P.index p ≢ P.index q)) }
+        ensures variant { IsSome result ↔ FindTwo P.index P.generation (entry_at self.old) p q }
         ensures moved { OnSome result (IsMoved (P.index p)
             (gap_before self.old (P.index p) (P.index q)) self.old self.new) }
         ensures formed { IsChained self.new }
@@ -100,8 +99,7 @@ impl<P: PtrCore, T: Drop, S: ChainSlots<P, T>> ChainArena<P, T, S> {
     // Whether both are valid, and two.
     #[inline(always)]
     fn can_move(&self, p: P, q: P) -> bool
-        ensures says { IsTrue result ↔ ((IsSome (get self.now (P.index p) (P.generation p))
-            × IsSome (get self.now (P.index q) (P.generation q))) × (P.index p ≢ P.index q)) }
+        ensures says { IsTrue result ↔ FindTwo P.index P.generation (entry_at self.now) p q }
         ensures formed { IsChained self.now }
     {
         // The interlinks agree.

@@ -4,6 +4,7 @@ ghost use Rattle.std.specs.Option.{option_map};
 ghost use Rattle.triple_arena_chain.specs.Kinds.{ends_by};
 ghost use Rattle.triple_arena_chain.specs.Links.{ends_found, ends_in};
 ghost use Rattle.triple_arena_chain.specs.Values.{ptr_to};
+ghost use Rattle.triple_arena.specs.Entries.{pointer_by};
 
 use crate::{ChainArena, ChainSlots};
 use triple_arena::{ArenaTrait, PtrCore};
@@ -32,7 +33,7 @@ impl<P: PtrCore, T: Drop, S: ChainSlots<P, T>> ChainArena<P, T, S> {
 
     // The pointer to the link at an index, if it is live.
     pub(crate) fn ptr_at(&self, at: Option<P::Inx>) -> Option<P>
-        ensures { option_map (λ p. (P.index p, P.generation p)) result
+        ensures { pointer_by P.index P.generation result
             ≡ ptr_to self.now (option_map P.Inx.number at) }
     {
         let i = at?;

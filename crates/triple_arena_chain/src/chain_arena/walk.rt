@@ -2,7 +2,7 @@
 ghost use Rattle.std.specs.Prelude.{◌≡◌, ℕ, Some};
 ghost use Rattle.std.specs.Option.{option_map};
 ghost use Rattle.triple_arena.specs.LiveEntries.{live_entries};
-ghost use Rattle.triple_arena_chain.specs.Chains.{prev_at};
+ghost use Rattle.linked_lists.specs.LinkedLists.{prev_at};
 ghost use Rattle.triple_arena_chain.specs.Links.{ends_in, values_in};
 ghost use Rattle.triple_arena_chain.specs.Walks.{walk_from, left_to, past_index, ChainSteps};
 

@@ -5,7 +5,7 @@ ghost use Rattle.std.specs.Option.{option_map};
 ghost use Rattle.triple_arena_ptr.specs.Index.{max_index_of};
 ghost use Rattle.triple_arena_ptr.specs.InvalidationOption.{overflowed};
 ghost use Rattle.triple_arena.specs.Compression.{renewal_wraps};
-ghost use Rattle.triple_arena_chain.specs.Chains.{first_or, last_or};
+ghost use Rattle.linked_lists.specs.LinkedLists.{first_or, last_or};
 ghost use Rattle.triple_arena_ord.specs.Ordered.{IsOrdered};
 ghost use Rattle.triple_arena_ord.specs.CanonicalLayout.{IsLaidInOrder};
 

@@ -1,6 +1,7 @@
 //! The canonical transfer: the entries of an ordered arena moved to another, in the order of the
 //! list.
-ghost use Rattle.std.specs.Prelude.{◌≡◌, ◌≤◌, ◌↔◌, IsTrue, IsOk, OnOk, OnErr, IsErrOf};
+ghost use Rattle.std.specs.Prelude.{◌≡◌, ◌≤◌, ◌↔◌, IsTrue, IsOk, OnOk, OnErr};
+ghost use Rattle.triple_arena_ptr.specs.Errors.{IsBeyondMaxCapacity, IsAllocError};
 ghost use Rattle.triple_arena_stack.specs.Room.{capacity as capacity_of, IsBeyond};
 ghost use Rattle.triple_arena.specs.ArenaRoom.{room_with};
 ghost use Rattle.triple_arena.specs.Transfer.{IsFilled};
@@ -57,9 +58,9 @@ impl<P: PtrCore, T: Drop, S: OrdSlots<P, T>> SimpleOrdArena<P, T, S> {
 
         // No memory is asked for if the entries fit.
         ensures succeeds { size_in source.old ≤ capacity_of (room_in self.old) → IsOk result }
-        ensures beyond { IsErrOf result ReallocationError.BeyondMaxCapacity
+        ensures beyond { IsBeyondMaxCapacity result
             ↔ IsBeyond (room_in self.old).limit (size_in source.old) }
-        ensures memory { IsErrOf result ReallocationError.AllocError → IsTrue S.takes_memory }
+        ensures memory { IsAllocError result → IsTrue S.takes_memory }
         ensures err { OnErr result (self.new ≡ self.old) }
         ensures source_err { OnErr result (source.new ≡ source.old) }
     {

@@ -2,7 +2,7 @@
 //! moves every entry.
 ghost use Rattle.std.specs.Prelude.{◌≡◌, ℕ, List, None, IsSome};
 ghost use Rattle.std.specs.Option.{option_map};
-ghost use Rattle.triple_arena_chain.specs.Chains.{IsLinear, On, first_or, last_or};
+ghost use Rattle.linked_lists.specs.LinkedLists.{IsLinear, On, first_or, last_or};
 ghost use Rattle.triple_arena_chain.specs.Links.{ends_in};
 ghost use Rattle.triple_arena_ord.specs.Compressed.{end_noted};
 

@@ -1,20 +1,21 @@
 //! An ordered arena as a clone of another one, and an arena or a chain arena as a copy of an
 //! ordered one.
-ghost use Rattle.std.specs.Prelude.{◌≡◌, ◌<◌, ◌≤◌, ◌↔◌, ◌⊎◌, IsTrue, IsOk, IfOk, OnOk, IsErrOf};
+ghost use Rattle.std.specs.Prelude.{◌≡◌, ◌≤◌, ◌↔◌, ◌⊎◌, IsOk, IfOk, OnOk};
+ghost use Rattle.triple_arena_ptr.specs.Errors.{IsBeyondMaxCapacity, IsAllocError};
 ghost use Rattle.triple_arena_ptr.specs.Generation.{second_generation};
 ghost use Rattle.triple_arena_stack.specs.Room.{capacity as capacity_of, IsBeyond};
 ghost use Rattle.triple_arena.specs.ArenaRoom.{room_of};
-ghost use Rattle.triple_arena.specs.Content.{entry_at, live_count, some_counter, empty, cleared};
-ghost use Rattle.triple_arena.specs.Content.{reallocated};
-ghost use Rattle.triple_arena.specs.Copy.{MayRefuse, NeverRefuses, IsMappedCopy, IsRefusedCopy};
-ghost use Rattle.triple_arena.specs.Copy.{IsUnmadeCopy};
-ghost use Rattle.triple_arena_chain.specs.Chains.{IsLinear};
-ghost use Rattle.triple_arena_chain.specs.Links.{ends_in, values_in, IsChained};
+ghost use Rattle.triple_arena.specs.Content.{entry_at, empty};
+ghost use Rattle.triple_arena.specs.Copy.{MayRefuse, NeedsMemory, NeverRefuses, IsMappedCopy};
+ghost use Rattle.triple_arena.specs.Copy.{IsRefusedCopy};
+ghost use Rattle.linked_lists.specs.LinkedLists.{IsLinear};
+ghost use Rattle.triple_arena_chain.specs.LinkCopies.{IsUnmade as IsChainUnmade};
+ghost use Rattle.triple_arena_chain.specs.Links.{ends_in, IsChained};
 ghost use Rattle.triple_arena_chain.specs.Listed.{listed_values};
 ghost use Rattle.triple_arena_chain.specs.Values.{room_in as chain_room};
-ghost use Rattle.triple_arena_ord.specs.Copies.{last_inx, emptied_to, IsClone, IsChainCopy};
+ghost use Rattle.triple_arena_ord.specs.Copies.{last_inx, IsClone, IsChainCopy, IsUnmade};
 ghost use Rattle.triple_arena_ord.specs.Indexed.{indexed};
-ghost use Rattle.triple_arena_ord.specs.Ordered.{IsOrdered, order_in, entry_in, size_in};
+ghost use Rattle.triple_arena_ord.specs.Ordered.{IsOrdered, order_in, size_in};
 ghost use Rattle.triple_arena_ord.specs.Ordered.{counter_in, room_in};
 
 use crate::ord_arena::link_copies::copy_items;
@@ -66,16 +67,13 @@ impl<P: PtrCore, T: Drop, S: OrdSlots<P, T>> SimpleOrdArena<P, T, S> {
         ensures list { OnOk result (IsLinear (ends_in target.new) (order_in self.now)) }
         ensures succeeds { last_inx self.now ≤ capacity_of (chain_room target.old)
             → NeverRefuses F.step → IsOk result }
-        ensures beyond { IsErrOf result ReallocationError.BeyondMaxCapacity
+        ensures beyond { IsBeyondMaxCapacity result
             ↔ IsBeyond (chain_room target.old).limit (last_inx self.now) }
-        ensures kept { IsErrOf result ReallocationError.BeyondMaxCapacity
-            → target.new ≡ target.old }
-        ensures unmade { IsErrOf result ReallocationError.AllocError
-            → IsUnmadeCopy values_in live_count some_counter chain_room R.takes_memory
-            P.Gen.last (last_inx self.now)
-            (λ c. cleared P.Gen.last (reallocated c (last_inx self.now)))
-            (IsRefusedCopy P.index P.generation F.step map (indexed self.now))
-            target.old target.new }
+        ensures kept { IsBeyondMaxCapacity result → target.new ≡ target.old }
+        ensures unmade { IsAllocError result
+            → IsChainUnmade R.takes_memory P.Gen.last (last_inx self.now)
+            (IsRefusedCopy P.index P.generation F.step map (indexed self.now)) target.old
+            target.new }
         ensures formed { IsChained target.new }
     {
         copy_items::<
@@ -104,12 +102,11 @@ impl<P: PtrCore, T: Clone, S: OrdSlots<P, T>> SimpleOrdArena<P, T, S> {
             (room_of P.Inx.greatest (S.room_at (last_inx self.now)))) self.now o) }
         ensures succeeds { last_inx self.now ≤ capacity_of (room_of P.Inx.greatest (S.room_at 0))
             → ((x : T) → T.is_infallible x) → IsOk result }
-        ensures beyond { IsErrOf result ReallocationError.BeyondMaxCapacity
+        ensures beyond { IsBeyondMaxCapacity result
             ↔ IsBeyond (room_of P.Inx.greatest (S.room_at (last_inx self.now))).limit
             (last_inx self.now) }
-        ensures unmade { IsErrOf result ReallocationError.AllocError
-            → (IsTrue S.takes_memory
-            × (capacity_of (room_of P.Inx.greatest (S.room_at 0)) < last_inx self.now))
+        ensures unmade { IsAllocError result → NeedsMemory S.takes_memory
+            (room_of P.Inx.greatest (S.room_at 0)) (last_inx self.now)
             ⊎ MayRefuse T.is_infallible (indexed self.now) }
         ensures ordered { IfOk result (λ o. IsOrdered o) }
     {
@@ -140,12 +137,11 @@ impl<P: PtrCore, T: Clone, S: OrdSlots<P, T>> SimpleOrdArena<P, T, S> {
         ensures cloned { OnOk result (IsClone self.old.chains source.now self.new) }
         ensures succeeds { last_inx source.now ≤ capacity_of (room_in self.old)
             → ((x : T) → T.is_infallible x) → IsOk result }
-        ensures beyond { IsErrOf result ReallocationError.BeyondMaxCapacity
+        ensures beyond { IsBeyondMaxCapacity result
             ↔ IsBeyond (room_in self.old).limit (last_inx source.now) }
-        ensures kept { IsErrOf result ReallocationError.BeyondMaxCapacity → self.new ≡ self.old }
-        ensures unmade { IsErrOf result ReallocationError.AllocError
-            → IsUnmadeCopy entry_in size_in counter_in room_in S.takes_memory P.Gen.last
-            (last_inx source.now) (emptied_to P.Gen.last (last_inx source.now))
+        ensures kept { IsBeyondMaxCapacity result → self.new ≡ self.old }
+        ensures unmade { IsAllocError result
+            → IsUnmade S.takes_memory P.Gen.last (last_inx source.now)
             (MayRefuse T.is_infallible (indexed source.now)) self.old self.new }
         ensures ordered { IsOrdered self.new }
     {

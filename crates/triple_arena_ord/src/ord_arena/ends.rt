@@ -1,10 +1,10 @@
 //! The ends of the list.
 ghost use Rattle.std.specs.Prelude.{◌≡◌, None, IsSome, ⊤};
 ghost use Rattle.std.specs.Option.{option_map};
-ghost use Rattle.triple_arena.specs.Entries.{generation_at};
-ghost use Rattle.triple_arena_chain.specs.Chains.{first_or, last_or};
+ghost use Rattle.linked_lists.specs.LinkedLists.{first_or, last_or};
 ghost use Rattle.triple_arena_ord.specs.Ordered.{IsOrdered, order_in, entry_in};
 ghost use Rattle.triple_arena_ord.specs.OrderedWalks.{IsEnd};
+ghost use Rattle.triple_arena.specs.Steps.{Finds};
 
 use crate::ord_arena::search::found::ptr_at;
 use crate::{OrdSlots, SimpleOrdArena};
@@ -32,8 +32,7 @@ impl<P: PtrCore, T: Drop, S: OrdSlots<P, T>> SimpleOrdArena<P, T, S> {
         requires live { IsSome (entry_in self.now (P.Inx.number i)) }
         requires no_more { ⊤ }
         ensures index { P.index result ≡ P.Inx.number i }
-        ensures live { generation_at (entry_in self.now) (P.index result)
-            ≡ Some (P.generation result) }
+        ensures live { Finds entry_in self.now (P.index result, P.generation result) }
     {
         ptr_at(&self.chains, i)
     }

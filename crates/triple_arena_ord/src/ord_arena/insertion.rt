@@ -1,12 +1,12 @@
 //! Insertions.
 ghost use Rattle.std.specs.Prelude.{◌≡◌, ◌↔◌, ◌<◌, Some, None, IsTrue, IsSome, IfSome};
-ghost use Rattle.std.specs.Option.{option_map};
 ghost use Rattle.triple_arena.specs.Content.{arena_capacity};
 ghost use Rattle.triple_arena_ord.specs.Node.{nodes_in};
 ghost use Rattle.rank_tree.specs.Search.{IsFreeAt};
 ghost use Rattle.triple_arena_ord.specs.Ordered.{IsOrdered, size_in};
 ghost use Rattle.triple_arena_ord.specs.Inserted.{IsRenewed, IsReplaced, Replaces};
 ghost use Rattle.triple_arena_ord.specs.Inserted.{AddsAt, InsertsAt, InsertsByKey};
+ghost use Rattle.triple_arena_ord.specs.Found.{place_by};
 
 pub(crate) mod entry;
 mod get_or_insert;
@@ -60,7 +60,7 @@ pub(crate) fn grown_error(error: ReallocationError) -> OrdInsertionError
 
 // Whether an insertion there replaces an item, and needs no room.
 pub(crate) fn replaces<I: PtrInxCore>(place: Option<(I, Ordering)>) -> bool
-    ensures { IsTrue result ↔ Replaces (option_map (λ a. (I.number a.0, a.1)) place) }
+    ensures { IsTrue result ↔ Replaces (place_by I.number place) }
 {
     match place {
         Some((_, Ordering::Equal)) => true,
@@ -86,10 +86,10 @@ impl<P: PtrCore, T: Drop, S: OrdSlots<P, T>> SimpleOrdArena<P, T, S> {
         requires free { IfSome place
             (λ a. IsFreeAt a.1 (nodes_in self.old.chains (P.Inx.number a.0))) }
         requires empty { place ≡ None → self.old.root ≡ None }
-        requires new { Replaces (option_map (λ a. (P.Inx.number a.0, a.1)) place) → ⊥ }
+        requires new { Replaces (place_by P.Inx.number place) → ⊥ }
         requires room { size_in self.old < arena_capacity self.old.chains }
-        ensures { AddsAt (option_map (λ a. (P.Inx.number a.0, a.1)) place)
-            (P.index result) (P.generation result) t self.old self.new }
+        ensures { AddsAt (place_by P.Inx.number place) (P.index result) (P.generation result) t
+            self.old self.new }
     {
         match place {
             None => self.put_first(t),
@@ -111,9 +111,9 @@ impl<P: PtrCore, T: Drop, S: OrdSlots<P, T>> SimpleOrdArena<P, T, S> {
         requires free { IfSome place
             (λ a. IsFreeAt a.1 (nodes_in self.old.chains (P.Inx.number a.0))) }
         requires empty { place ≡ None → self.old.root ≡ None }
-        requires new { Replaces (option_map (λ a. (P.Inx.number a.0, a.1)) place) → ⊥ }
-        ensures { InsertsAt P.index P.generation None
-            (option_map (λ a. (P.Inx.number a.0, a.1)) place) t result self.old self.new }
+        requires new { Replaces (place_by P.Inx.number place) → ⊥ }
+        ensures { InsertsAt P.index P.generation None (place_by P.Inx.number place) t result
+            self.old self.new }
     {
         if self.chains.len() >= self.chains.capacity() {
             return Err(OrdInsertionError::NotWithinCapacity);
@@ -131,9 +131,9 @@ impl<P: PtrCore, T: Drop, S: OrdSlots<P, T>> SimpleOrdArena<P, T, S> {
         requires free { IfSome place
             (λ a. IsFreeAt a.1 (nodes_in self.old.chains (P.Inx.number a.0))) }
         requires empty { place ≡ None → self.old.root ≡ None }
-        requires new { Replaces (option_map (λ a. (P.Inx.number a.0, a.1)) place) → ⊥ }
+        requires new { Replaces (place_by P.Inx.number place) → ⊥ }
         ensures { InsertsAt P.index P.generation (Some S.takes_memory)
-            (option_map (λ a. (P.Inx.number a.0, a.1)) place) t result self.old self.new }
+            (place_by P.Inx.number place) t result self.old self.new }
     {
         match self.make_room() {
             Ok(_) => Ok((self.put_at(place, t), None)),
@@ -151,8 +151,8 @@ impl<P: PtrCore, T: Drop, S: OrdSlots<P, T>> SimpleOrdArena<P, T, S> {
         requires free { IfSome place
             (λ a. IsFreeAt a.1 (nodes_in self.old.chains (P.Inx.number a.0))) }
         requires empty { place ≡ None → self.old.root ≡ None }
-        ensures { InsertsAt P.index P.generation None
-            (option_map (λ a. (P.Inx.number a.0, a.1)) place) t result self.old self.new }
+        ensures { InsertsAt P.index P.generation None (place_by P.Inx.number place) t result
+            self.old self.new }
     {
         if let Some((i, Ordering::Equal)) = place {
             let (p, old) = self.replace_item(i, t);
@@ -171,7 +171,7 @@ impl<P: PtrCore, T: Drop, S: OrdSlots<P, T>> SimpleOrdArena<P, T, S> {
             (λ a. IsFreeAt a.1 (nodes_in self.old.chains (P.Inx.number a.0))) }
         requires empty { place ≡ None → self.old.root ≡ None }
         ensures { InsertsAt P.index P.generation (Some S.takes_memory)
-            (option_map (λ a. (P.Inx.number a.0, a.1)) place) t result self.old self.new }
+            (place_by P.Inx.number place) t result self.old self.new }
     {
         if replaces(place) {
             return self.insert_at_within_capacity(place, t);

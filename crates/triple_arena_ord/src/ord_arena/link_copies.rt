@@ -1,8 +1,9 @@
 //! Copies to a chain arena, where the map sees the items alone.
-ghost use Rattle.std.specs.Prelude.{◌≡◌, ◌<◌, ◌≤◌, ◌↔◌, ◌⊎◌, ℕ, List, IsTrue, IsOk, OnOk, IsErrOf};
+ghost use Rattle.std.specs.Prelude.{◌≡◌, ◌<◌, ◌≤◌, ◌↔◌, ◌⊎◌, ℕ, List, IsTrue, IsOk, OnOk};
 ghost use Rattle.std.specs.Prelude.{⊤};
 ghost use Rattle.std.specs.Borrow.{Bor};
 ghost use Rattle.std.specs.Option.{option_map};
+ghost use Rattle.triple_arena_ptr.specs.Errors.{IsBeyondMaxCapacity, IsAllocError};
 ghost use Rattle.triple_arena_ptr.specs.Generation.{next_generation};
 ghost use Rattle.triple_arena_stack.specs.Room.{capacity as capacity_of, IsBeyond};
 ghost use Rattle.triple_arena.specs.ArenaRoom.{room_with};
@@ -49,11 +50,9 @@ pub(crate) trait CopiesLinks<P: PtrCore, L: Drop, U: Drop, A> {
             (links source.now) (values self.new)) }
         ensures copied { OnOk result (is_copied source.now self.old self.new) }
         ensures succeeds { fits source.now self.old → NeverRefuses G.step → IsOk result }
-        ensures beyond { IsErrOf result ReallocationError.BeyondMaxCapacity
-            ↔ is_beyond source.now self.old }
-        ensures kept { IsErrOf result ReallocationError.BeyondMaxCapacity → self.new ≡ self.old }
-        ensures unmade { IsErrOf result ReallocationError.AllocError
-            → is_left source.now self.old self.new
+        ensures beyond { IsBeyondMaxCapacity result ↔ is_beyond source.now self.old }
+        ensures kept { IsBeyondMaxCapacity result → self.new ≡ self.old }
+        ensures unmade { IsAllocError result → is_left source.now self.old self.new
             ⊎ (IsRefusedCopy P.index P.generation G.step map (links source.now)
             × is_emptied source.now self.old self.new) }
         ensures formed { is_formed self.new };
@@ -134,11 +133,9 @@ where
         (listed_items L.item (B.links source.now)) (B.values target.new)) }
     ensures copied { OnOk result (B.is_copied source.now target.old target.new) }
     ensures succeeds { B.fits source.now target.old → NeverRefuses F.step → IsOk result }
-    ensures beyond { IsErrOf result ReallocationError.BeyondMaxCapacity
-        ↔ B.is_beyond source.now target.old }
-    ensures kept { IsErrOf result ReallocationError.BeyondMaxCapacity → target.new ≡ target.old }
-    ensures unmade { IsErrOf result ReallocationError.AllocError
-        → B.is_left source.now target.old target.new
+    ensures beyond { IsBeyondMaxCapacity result ↔ B.is_beyond source.now target.old }
+    ensures kept { IsBeyondMaxCapacity result → target.new ≡ target.old }
+    ensures unmade { IsAllocError result → B.is_left source.now target.old target.new
         ⊎ (IsRefusedCopy P.index P.generation F.step map (listed_items L.item (B.links source.now))
         × B.is_emptied source.now target.old target.new) }
     ensures formed { B.is_formed target.new }

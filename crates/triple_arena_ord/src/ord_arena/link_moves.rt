@@ -1,6 +1,7 @@
 //! Moves of links to a chain arena, where the map sees the items alone.
 ghost use Rattle.std.specs.Prelude.{◌≡◌, ◌≤◌, ◌↔◌, ℕ, List, Option, map as list_map, IsTrue, IsOk};
-ghost use Rattle.std.specs.Prelude.{OnOk, OnErr, IsErrOf, ⊤};
+ghost use Rattle.std.specs.Prelude.{OnOk, OnErr, ⊤};
+ghost use Rattle.triple_arena_ptr.specs.Errors.{IsBeyondMaxCapacity, IsAllocError};
 ghost use Rattle.triple_arena_ptr.specs.declared.invalidation.InvalidationOption.{InvalidationOption as Removal};
 ghost use Rattle.triple_arena_ptr.specs.InvalidationOption.{value_of, overflowed};
 ghost use Rattle.triple_arena_stack.specs.Room.{IsBeyond};
@@ -78,9 +79,8 @@ pub(crate) trait MovesLinks<Q: Copy, V: Drop, P: Copy, W: Drop, N, A> {
         ensures formed { is_formed self.new }
         ensures source_formed { is_source_formed source.new }
         ensures succeeds { fits source.old self.old → IsOk result }
-        ensures beyond { IsErrOf result ReallocationError.BeyondMaxCapacity
-            ↔ is_beyond source.old self.old }
-        ensures memory { IsErrOf result ReallocationError.AllocError → takes_memory }
+        ensures beyond { IsBeyondMaxCapacity result ↔ is_beyond source.old self.old }
+        ensures memory { IsAllocError result → takes_memory }
         ensures err { OnErr result (self.new ≡ self.old) }
         ensures source_err { OnErr result (source.new ≡ source.old) };
 }
@@ -207,9 +207,8 @@ where
     ensures formed { B.is_formed target.new }
     ensures source_formed { B.is_source_formed source.new }
     ensures succeeds { B.fits source.old target.old → IsOk result }
-    ensures beyond { IsErrOf result ReallocationError.BeyondMaxCapacity
-        ↔ B.is_beyond source.old target.old }
-    ensures memory { IsErrOf result ReallocationError.AllocError → B.takes_memory }
+    ensures beyond { IsBeyondMaxCapacity result ↔ B.is_beyond source.old target.old }
+    ensures memory { IsAllocError result → B.takes_memory }
     ensures err { OnErr result (target.new ≡ target.old) }
     ensures source_err { OnErr result (source.new ≡ source.old) }
 {

@@ -1,14 +1,12 @@
 //! Searches by key.
-ghost use Rattle.std.specs.Prelude.{◌≡◌, ℕ, ◌+◌, ◌≤◌, IfSome, IsTrue};
-ghost use Rattle.std.specs.Option.{option_map};
-ghost use Rattle.std.specs.declared.cmp.Ordering.{Ordering as Way};
+ghost use Rattle.std.specs.Prelude.{◌≡◌, ◌+◌, ◌≤◌, IfSome};
 ghost use Rattle.rank_tree.specs.Comparisons.{most_comparisons};
 ghost use Rattle.rank_tree.specs.Tree.{rank_of};
 ghost use Rattle.triple_arena_ord.specs.Node.{nodes_in};
-ghost use Rattle.rank_tree.specs.Search.{IsAnswer, IsFreeAt, asked_down};
-ghost use Rattle.triple_arena_ord.specs.Ordered.{IsOrdered, IsAscending, tree_in, size_in};
+ghost use Rattle.rank_tree.specs.Search.{IsAnswer, IsFreeAt};
+ghost use Rattle.triple_arena_ord.specs.Ordered.{IsOrdered, tree_in, size_in, comparisons};
 ghost use Rattle.triple_arena_ord.specs.Ordered.{asked_at};
-ghost use Rattle.triple_arena_ord.specs.Found.{IsFound, IsSimilar};
+ghost use Rattle.triple_arena_ord.specs.Found.{place_by, IsFoundByKey, IsSimilarByKey};
 
 mod bounds;
 mod closures;
@@ -25,13 +23,11 @@ use triple_arena_ptr::{OptionalInx, Probes};
 impl<P: PtrCore, T: SimpleOrdItem + Drop, S: OrdSlots<P, T>> SimpleOrdArena<P, T, S> {
     // Where a search by key ends, with the last answer.
     pub(crate) fn seek(&self, k: &T::Key, probes: &mut Probes) -> Option<(P::Inx, Ordering)>
-        ensures answer { IsAnswer (asked_at T.Key.cmp T.key_of k.now self.now)
-            (tree_in self.now) (option_map (λ a. (P.Inx.number a.0, a.1)) result) }
+        ensures answer { IsAnswer (asked_at T.Key.cmp T.key_of k.now self.now) (tree_in self.now)
+            (place_by P.Inx.number result) }
         ensures free { IfSome result
             (λ a. IsFreeAt a.1 (nodes_in self.now.chains (P.Inx.number a.0))) }
-        ensures ticks { probes.new ≡ probes.old
-            + asked_down (asked_at T.Key.cmp T.key_of k.now self.now)
-            (tree_in self.now) }
+        ensures ticks { probes.new ≡ probes.old + comparisons T.Key.cmp T.key_of k.now self.now }
         ensures bound { probes.new ≤ probes.old + rank_of (tree_in self.now) }
         ensures ordered { IsOrdered self.now }
     {
@@ -65,11 +61,8 @@ impl<P: PtrCore, T: SimpleOrdItem + Drop, S: OrdSlots<P, T>> SimpleOrdArena<P, T
     /// n > 0 entries there are at most c, the greatest number with `2^(c+1) <= (n+1)^2`, and none
     /// in an empty arena.
     pub fn find_key_counted(&self, k: &T::Key, probes: &mut Probes) -> Option<P>
-        ensures found { IsFound P.index P.generation (asked_at T.Key.cmp T.key_of k.now self.now)
-            (IsAscending T.Key.cmp T.key_of self.now) result self.now }
-        ensures ticks { probes.new ≡ probes.old
-            + asked_down (asked_at T.Key.cmp T.key_of k.now self.now)
-            (tree_in self.now) }
+        ensures found { IsFoundByKey P.index P.generation T.Key.cmp T.key_of k.now result self.now }
+        ensures ticks { probes.new ≡ probes.old + comparisons T.Key.cmp T.key_of k.now self.now }
         ensures bound { probes.new ≤ probes.old + most_comparisons (size_in self.now) }
     {
         let place = self.seek(k, probes);
@@ -79,8 +72,7 @@ impl<P: PtrCore, T: SimpleOrdItem + Drop, S: OrdSlots<P, T>> SimpleOrdArena<P, T
     /// The pointer to an entry with an equal key. If the keys ascend, `None` means that there is
     /// none.
     pub fn find_key(&self, k: &T::Key) -> Option<P>
-        ensures { IsFound P.index P.generation (asked_at T.Key.cmp T.key_of k.now self.now)
-            (IsAscending T.Key.cmp T.key_of self.now) result self.now }
+        ensures { IsFoundByKey P.index P.generation T.Key.cmp T.key_of k.now result self.now }
     {
         self.find_key_counted(k, &mut Probes::new())
     }
@@ -90,12 +82,9 @@ impl<P: PtrCore, T: SimpleOrdItem + Drop, S: OrdSlots<P, T>> SimpleOrdArena<P, T
     /// ascend, it is some entry. Each comparison is a tick, and there are as many at most as
     /// `find_key_counted` says.
     pub fn find_similar_key_counted(&self, k: &T::Key, probes: &mut Probes) -> Option<(P, Ordering)>
-        ensures similar { IsSimilar P.index P.generation
-            (asked_at T.Key.cmp T.key_of k.now self.now)
-            (IsAscending T.Key.cmp T.key_of self.now) result self.now }
-        ensures ticks { probes.new ≡ probes.old
-            + asked_down (asked_at T.Key.cmp T.key_of k.now self.now)
-            (tree_in self.now) }
+        ensures similar { IsSimilarByKey P.index P.generation T.Key.cmp T.key_of k.now result
+            self.now }
+        ensures ticks { probes.new ≡ probes.old + comparisons T.Key.cmp T.key_of k.now self.now }
         ensures bound { probes.new ≤ probes.old + most_comparisons (size_in self.now) }
     {
         let place = self.seek(k, probes);
@@ -106,8 +95,7 @@ impl<P: PtrCore, T: SimpleOrdItem + Drop, S: OrdSlots<P, T>> SimpleOrdArena<P, T
     /// what the key compares as with the entry's; `None` if there is no entry. If the keys do not
     /// ascend, it is some entry.
     pub fn find_similar_key(&self, k: &T::Key) -> Option<(P, Ordering)>
-        ensures { IsSimilar P.index P.generation (asked_at T.Key.cmp T.key_of k.now self.now)
-            (IsAscending T.Key.cmp T.key_of self.now) result self.now }
+        ensures { IsSimilarByKey P.index P.generation T.Key.cmp T.key_of k.now result self.now }
     {
         self.find_similar_key_counted(k, &mut Probes::new())
     }

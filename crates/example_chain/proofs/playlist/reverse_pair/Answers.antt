@@ -1,10 +1,10 @@
 use Rattle.std.proofs.Common.{rules, ◌≡◌, ℕ, Some, None, IsSome, is_some, true≢false, subst, sym}
 use Rattle.std.proofs.Common.{refl, ap, ◌∙◌}
 use Rattle.triple_arena.specs.Entries.{generation_at}
-use Rattle.triple_arena_chain.specs.Chains.{next_in, next_at, exchanged, unlinked, linked}
+use Rattle.linked_lists.specs.LinkedLists.{next_in, next_at, exchanged, unlinked, linked}
 use Rattle.triple_arena_chain.specs.Links.{ends_in, ends_found, gap_among, values_in, IsRelinked}
 use Rattle.triple_arena_chain.specs.declared.kind.InsertKind.TheVariants.{Bridge}
-use Rattle.triple_arena_chain.specs.Lists.{IsExchanged, IsSplit, IsAppended}
+use Rattle.linked_lists.specs.Chains.{IsExchanged, IsSplit, IsAppended}
 use Rattle.example_chain.proofs.ReversalLemmas.{Reversed, still_next, exchanged_back, is_end}
 use Rattle.example_chain.proofs.ReversalLemmas.{on_some}
 use Rattle.example_chain.proofs.ReversalLemmas.{fits, appended_back}

@@ -1,10 +1,8 @@
 use Rattle.std.specs.Option.{IsSome, option_map}
-use Rattle.rank_tree.specs.Tree.{walk}
-use Rattle.rank_tree.specs.Shape.{plug}
 use Rattle.rank_tree.specs.SpotLaws.{reparent-lives}
 use Rattle.rank_tree.proofs.NameLemmas.{if_live, if_named}
 use Rattle.rank_tree.specs.EdgeLaws.{loose_lives, loose_reads, detach_works}
-use Rattle.rank_tree.specs.Repair.{Loose, Pending, KeptOff}
+use Rattle.rank_tree.specs.Repair.{Loose, Pending, KeptOff, walk_without}
 use Rattle.rank_tree.proofs.edges.detach.Goals.{After-relink}
 use Rattle.rank_tree.proofs.edges.detach.Goals as goal
 
@@ -16,8 +14,8 @@ works : (g : _) (c : After-relink g)
     → Pending (g.K.NodeStore.nodes c.relink.new.nodes)
     (option_map g.P.Inx.PtrInxCore.number c.relink.new.root)
     (option_map g.P.Inx.PtrInxCore.number c.read-links.result.parent)
-    (option_map g.P.Inx.PtrInxCore.number c.first_child-child.result) (walk (plug h.context h.sub))
-    × KeptOff (walk (plug h.context h.sub)) (g.K.NodeStore.nodes c.args.nodes.now)
+    (option_map g.P.Inx.PtrInxCore.number c.first_child-child.result) (walk_without h)
+    × KeptOff (walk_without h) (g.K.NodeStore.nodes c.args.nodes.now)
     (g.K.NodeStore.nodes c.relink.new.nodes)
 works g c h =
     let r = loose_reads _ _ _ _ _ c.read-links.ensures c.first_child-child.ensures.left

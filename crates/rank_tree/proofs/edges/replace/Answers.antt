@@ -1,10 +1,8 @@
 use Rattle.std.specs.Option.{option_map}
-use Rattle.rank_tree.specs.Tree.{node, walk}
-use Rattle.rank_tree.specs.Shape.{plug, RepresentsTree}
 use Rattle.rank_tree.specs.SpotLaws.{write-lives, reparent-lives}
 use Rattle.rank_tree.proofs.NameLemmas.{if_live}
 use Rattle.rank_tree.specs.ChangeLaws.{replacement_lives, replacement_links, replacement_works}
-use Rattle.rank_tree.specs.Repair.{Replacement, KeptOff}
+use Rattle.rank_tree.specs.Repair.{Replacement, Becomes, substituted}
 use Rattle.rank_tree.proofs.edges.replace.Goals.{After-relink}
 use Rattle.rank_tree.proofs.edges.replace.Goals as goal
 
@@ -14,13 +12,8 @@ works : (g : _) (c : After-relink g)
     (option_map g.P.Inx.PtrInxCore.number c.args.root.now)
     (g.P.Inx.PtrInxCore.number c.args.old)
     (g.P.Inx.PtrInxCore.number c.args.new))
-    → RepresentsTree (g.K.NodeStore.nodes c.relink.new.nodes)
-    (option_map g.P.Inx.PtrInxCore.number c.relink.new.root)
-    (plug h.context (node h.left (g.P.Inx.PtrInxCore.number c.args.new) h.rank h.right))
-    × KeptOff (walk (plug h.context
-    (node h.left (g.P.Inx.PtrInxCore.number c.args.new) h.rank h.right)))
-    (g.K.NodeStore.nodes c.args.nodes.now)
-    (g.K.NodeStore.nodes c.relink.new.nodes)
+    → Becomes g.P.Inx.PtrInxCore.number (substituted h) (g.K.NodeStore.nodes c.args.nodes.now)
+    (g.K.NodeStore.nodes c.relink.new.nodes) c.relink.new.root
 works g c h =
     replacement_works _ _ _ _ _ _ _ _ _ _ c.read-links.ensures c.write.ensures.written
     c.reparent.ensures.does c.reparent-2.ensures.does c.relink.ensures.does h
@@ -53,8 +46,4 @@ relink-requires-clause-live g c =
     (write-lives _ _ _ _ c.write.ensures.written i (links.parent i e))))
 
 pub returns-clause-does : goal.returns-clause-does
-returns-clause-does g c = λ place. (works g (goal.at.returns-clause-does g c).After-relink place).0
-
-pub returns-clause-elsewhere : goal.returns-clause-elsewhere
-returns-clause-elsewhere g c =
-    λ place. (works g (goal.at.returns-clause-elsewhere g c).After-relink place).1
+returns-clause-does g c = works g (goal.at.returns-clause-does g c).After-relink

@@ -47,21 +47,18 @@ repair_inserted-requires-clause-grown g c = (
 
 pub returns-then-above-eq1-clause-does : goal.returns-then-above-eq1-clause-does
 returns-then-above-eq1-clause-does g c = λ free.
-    c.repair_inserted.ensures.does _ (risen g (goal.at.returns-then-above-eq1-clause-does g
-    c).After-set_rank free)
-
-pub returns-then-above-eq1-clause-elsewhere : goal.returns-then-above-eq1-clause-elsewhere
-returns-then-above-eq1-clause-elsewhere g c = λ free.
-    let at = goal.at.returns-then-above-eq1-clause-elsewhere g c in
-    both_kept _ _ _ _ (c.attach.ensures.elsewhere free)
-    (both_kept _ _ _ _
-    (climb_kept _ _ _ _ _ _ _ (climbing g at.After-attach free)
-    (c.set_rank.ensures.does _ c.read-above.ensures))
-    (c.repair_inserted.ensures.elsewhere _ (risen g at.After-set_rank free)))
+    let at = goal.at.returns-then-above-eq1-clause-does g c in
+    let repaired = c.repair_inserted.ensures.does _ (risen g at.After-set_rank free) in (
+      repaired.0,
+      both_kept _ _ _ _ (c.attach.ensures.elsewhere free)
+          (both_kept _ _ _ _
+          (climb_kept _ _ _ _ _ _ _ (climbing g at.After-attach free)
+          (c.set_rank.ensures.does _ c.read-above.ensures)) repaired.1),
+    )
 
 pub returns-else-above-eq1-clause-does : goal.returns-else-above-eq1-clause-does
 returns-else-above-eq1-clause-does g c = λ free.
     let h = climbing g (goal.at.returns-else-above-eq1-clause-does g c).After-attach free in
     let e = climb_ranks _ _ _ _ _ _ c.attach.ensures.slot c.read-above.ensures _ h in
     let f = h.high_fits in let one_more = h.one_more in
-    climb_ends _ _ _ _ _ h (omega arith)
+    (climb_ends _ _ _ _ _ h (omega arith), c.attach.ensures.elsewhere free)

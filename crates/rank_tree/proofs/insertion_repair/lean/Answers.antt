@@ -106,28 +106,21 @@ pub turn-requires-else-rank_at-rank-2-clause-spot :
 turn-requires-else-rank_at-rank-2-clause-spot g c =
     let one = twice g (goal.at.turn-requires-else-rank_at-rank-2-clause-spot g c).In-Some-inner _
     c.requires.leaning.1 in
-    (one.after _ _ (c.turn-else-rank_at-rank.ensures.does one.spot)).spot
+    (one.after _ _ (c.turn-else-rank_at-rank.ensures.does one.spot).0).spot
 
 pub returns-then-rank_at-rank-clause-does : goal.returns-then-rank_at-rank-clause-does
 returns-then-rank_at-rank-clause-does g c = λ w h.
     let one = once g (goal.at.returns-then-rank_at-rank-clause-does g c).After-turn w h in
-    one.after _ _ (c.turn.ensures.does one.spot)
-
-pub returns-then-rank_at-rank-clause-elsewhere : goal.returns-then-rank_at-rank-clause-elsewhere
-returns-then-rank_at-rank-clause-elsewhere g c = λ w h.
-    let one = once g (goal.at.returns-then-rank_at-rank-clause-elsewhere g c).After-turn w h in
-    turns_kept _ _ _ _ _ _ w _ one (c.turn.ensures.elsewhere one.spot)
+    let first = c.turn.ensures.does one.spot in
+    (one.after _ _ first.0, turns_kept _ _ _ _ _ _ w _ one first.1)
 
 pub returns-in-Some-inner-clause-does : goal.returns-in-Some-inner-clause-does
 returns-in-Some-inner-clause-does g c = λ w h.
     let one = twice g (goal.at.returns-in-Some-inner-clause-does g c).In-Some-inner w h in
-    let two = one.after _ _ (c.turn-else-rank_at-rank.ensures.does one.spot) in
-    two.after _ _ (c.turn-else-rank_at-rank-2.ensures.does two.spot)
-
-pub returns-in-Some-inner-clause-elsewhere : goal.returns-in-Some-inner-clause-elsewhere
-returns-in-Some-inner-clause-elsewhere g c = λ w h.
-    let one = twice g (goal.at.returns-in-Some-inner-clause-elsewhere g c).In-Some-inner w h in
-    let two = one.after _ _ (c.turn-else-rank_at-rank.ensures.does one.spot) in
-    both_kept w _ _ _ (turns_kept _ _ _ _ _ _ w _ one
-    (c.turn-else-rank_at-rank.ensures.elsewhere one.spot))
-    (turns_kept _ _ _ _ _ _ w _ two (c.turn-else-rank_at-rank-2.ensures.elsewhere two.spot))
+    let first = c.turn-else-rank_at-rank.ensures.does one.spot in
+    let two = one.after _ _ first.0 in
+    let second = c.turn-else-rank_at-rank-2.ensures.does two.spot in (
+      two.after _ _ second.0,
+      both_kept w _ _ _ (turns_kept _ _ _ _ _ _ w _ one first.1)
+          (turns_kept _ _ _ _ _ _ w _ two second.1),
+    )

@@ -4,7 +4,8 @@ use Rattle.std.specs.Option.{option_map}
 use Rattle.rank_tree.specs.Named.{named}
 use Rattle.rank_tree.specs.Tree.{rank_of}
 use Rattle.rank_tree.specs.Repair.{Grown, Leaning}
-use Rattle.rank_tree.specs.ClimbLaws.{Climbing, IsLevel, grown_under, grown_ends, grown_lives}
+use Rattle.rank_tree.specs.ClimbLaws.{Climbing, IsLevel, GrownTo, grown_under, grown_ends}
+use Rattle.rank_tree.specs.ClimbLaws.{grown_lives}
 use Rattle.rank_tree.specs.ClimbLaws.{parent_lives, climb_write}
 use Rattle.rank_tree.specs.ClimbLaws.{climb_small, climb_ends, climb_leans, climb_up, climb_kept}
 use Rattle.rank_tree.specs.ClimbLaws.{climb_ranks, climb_falls}
@@ -37,6 +38,15 @@ level g c w h =
     let e = climb_ranks _ _ _ _ _ _ c.read-below.ensures c.read-above.ensures w h in
     record { at_high = c.read-above.ensures; rank_is = e.0; no_higher = omega arith }
 
+abbrev grown_to : (g : _) (c : After-is_two_lower g) (w : List ℕ)
+    → Climbing (g.K.NodeStore.nodes c.climb.nodes) (option_map g.P.Inx.PtrInxCore.number
+    c.climb.root)
+    (g.P.Inx.PtrInxCore.number c.climb.low) w (g.P.Inx.PtrInxCore.number c.in-Some.high)
+    → GrownTo (g.K.NodeStore.nodes c.climb.nodes)
+    (named g.P.Inx.PtrInxCore.number c.read-above.result) c.read-below.result.rank
+grown_to g c w h =
+    record { root = _; low = _; w = w; high = _; climbing = h; level = level g c w h }
+
 -- its other child is two lower
 leans : (g : _) (c : After-is_two_lower g) → c.is_two_lower.result ≡ true → (w : List ℕ)
     → Climbing (g.K.NodeStore.nodes c.climb.nodes) (option_map g.P.Inx.PtrInxCore.number
@@ -48,7 +58,7 @@ leans : (g : _) (c : After-is_two_lower g) → c.is_two_lower.result ≡ true �
 leans g c said w h =
     let l = level g c w h in
     let rank_is = l.rank_is in
-    let less = (c.is_two_lower.ensures _ _ w _ h l).0 said in
+    let less = (c.is_two_lower.ensures (grown_to g c w h)).0 said in
     climb_leans _ _ _ _ w h l.no_higher (omega arith)
 
 -- or one lower
@@ -60,7 +70,7 @@ rises : (g : _) (c : After-is_two_lower g) → c.is_two_lower.result ≡ false �
 rises g c denied w h =
     let l = level g c w h in
     let rank_is = l.rank_is in
-    let tested = c.is_two_lower.ensures _ _ w _ h l in
+    let tested = c.is_two_lower.ensures (grown_to g c w h) in
     elim (cases_lt (rank_of h.far + 1) c.read-below.result.rank) [
       | inl less ↦ absurd (false≢true (sym denied ∙ tested.1 less))
       | inr more ↦ omega arith
@@ -79,19 +89,20 @@ pub returns-then-below-above-clause-does : goal.returns-then-below-above-clause-
 returns-then-below-above-clause-does g c = λ w grown.
     let h = under g (goal.at.returns-then-below-above-clause-does g c).In-Some w grown in
     let e = climb_ranks _ _ _ _ _ _ c.read-below.ensures c.read-above.ensures w h in
-    climb_ends _ _ _ _ w h (omega arith)
+    (climb_ends _ _ _ _ w h (omega arith), c.climb.invariant.2 w grown)
 
-pub is_two_lower-requires-clause-level : goal.is_two_lower-requires-clause-level
-is_two_lower-requires-clause-level g c =
-    let h = under g (goal.at.is_two_lower-requires-clause-level g c).In-Some _ c.requires.grown.1 in
-    let e = climb_ranks _ _ _ _ _ _ c.read-below.ensures c.read-above.ensures _ h in (
-      _,
-      _,
-      _,
-      _,
-      h,
-      record { at_high = c.read-above.ensures; rank_is = e.0; no_higher = omega arith },
-    )
+pub is_two_lower-requires-clause-grown : goal.is_two_lower-requires-clause-grown
+is_two_lower-requires-clause-grown g c =
+    let h = under g (goal.at.is_two_lower-requires-clause-grown g c).In-Some _ c.requires.grown.1 in
+    let e = climb_ranks _ _ _ _ _ _ c.read-below.ensures c.read-above.ensures _ h in
+    record {
+      root = _;
+      low = _;
+      w = _;
+      high = _;
+      climbing = h;
+      level = record { at_high = c.read-above.ensures; rank_is = e.0; no_higher = omega arith };
+    }
 
 pub lean-requires-clause-leaning : goal.lean-requires-clause-leaning
 lean-requires-clause-leaning g c =
@@ -111,16 +122,18 @@ overflow_add-above g c =
     let b = climb_small _ _ _ _ _ h in omega arith
 
 pub returns-in_default-clause-does : goal.returns-in_default-clause-does
-returns-in_default-clause-does g c = λ w grown.
-    grown_ends _ _ _ _ w c.read-below.ensures (ap (option_map g.P.Inx.PtrInxCore.number)
-    c.in_default.is)
-    (c.climb.invariant.0 w grown)
+returns-in_default-clause-does g c = λ w grown. (
+  grown_ends _ _ _ _ w c.read-below.ensures (ap (option_map g.P.Inx.PtrInxCore.number)
+      c.in_default.is) (c.climb.invariant.0 w grown),
+  c.climb.invariant.2 w grown,
+)
 
 pub returns-then-is_two_lower-clause-does : goal.returns-then-is_two_lower-clause-does
 returns-then-is_two_lower-clause-does g c = λ w grown.
     let at = goal.at.returns-then-is_two_lower-clause-does g c in
-    c.lean.ensures.does w (leans g at.After-is_two_lower c.if-is_two_lower.true w
-    (under g at.In-Some w grown))
+    let leaned = c.lean.ensures.does w (leans g at.After-is_two_lower c.if-is_two_lower.true w
+    (under g at.In-Some w grown)) in
+    (leaned.0, both_kept w _ _ _ (c.climb.invariant.2 w grown) leaned.1)
 
 pub climb-smaller : goal.climb-smaller
 climb-smaller g c =
@@ -148,16 +161,3 @@ climb-preserved g c =
           both_kept w _ _ _ (c.climb.invariant.2 w grown)
           (climb_kept _ _ _ _ _ _ w (under g at.In-Some w grown) written),
     )
-
-pub returns-in_default-clause-elsewhere : goal.returns-in_default-clause-elsewhere
-returns-in_default-clause-elsewhere g c = c.climb.invariant.2
-
-pub returns-then-below-above-clause-elsewhere : goal.returns-then-below-above-clause-elsewhere
-returns-then-below-above-clause-elsewhere g c = c.climb.invariant.2
-
-pub returns-then-is_two_lower-clause-elsewhere : goal.returns-then-is_two_lower-clause-elsewhere
-returns-then-is_two_lower-clause-elsewhere g c = λ w grown.
-    let at = goal.at.returns-then-is_two_lower-clause-elsewhere g c in
-    both_kept w _ _ _ (c.climb.invariant.2 w grown)
-    (c.lean.ensures.elsewhere w (leans g at.After-is_two_lower c.if-is_two_lower.true w
-    (under g at.In-Some w grown)))

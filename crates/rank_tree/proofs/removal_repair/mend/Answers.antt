@@ -198,12 +198,12 @@ shorten-requires-clause-short g c =
 pub returns-then-below-max-clause-pending : goal.returns-then-below-max-clause-pending
 returns-then-below-max-clause-pending g c = λ w h.
     let s = sibling g (goal.at.returns-then-below-max-clause-pending g c).In-Some w h in
-    c.shorten.ensures.does w (sibling_short _ _ _ _ w s (omega (
+    (c.shorten.ensures.does w (sibling_short _ _ _ _ w s (omega (
       arith,
       s,
       s.fits,
       read_low g (goal.at.returns-then-below-max-clause-pending g c).After-rank_at-low_right w s,
-    )))
+    )))).0
 
 pub set_rank-requires-2-clause-live : goal.set_rank-requires-2-clause-live
 set_rank-requires-2-clause-live g c =
@@ -235,12 +235,12 @@ returns-then-max-rank-clause-elsewhere g c =
 pub returns-then-below-max-clause-elsewhere : goal.returns-then-below-max-clause-elsewhere
 returns-then-below-max-clause-elsewhere g c = λ w h.
     let s = sibling g (goal.at.returns-then-below-max-clause-elsewhere g c).In-Some w h in
-    c.shorten.ensures.elsewhere w (sibling_short _ _ _ _ w s (omega (
+    (c.shorten.ensures.does w (sibling_short _ _ _ _ w s (omega (
       arith,
       s,
       s.fits,
       read_low g (goal.at.returns-then-below-max-clause-elsewhere g c).After-rank_at-low_right w s,
-    )))
+    )))).1
 
 pub returns-clause-elsewhere : goal.returns-clause-elsewhere
 returns-clause-elsewhere g c =

@@ -71,27 +71,21 @@ pub turn-requires-else-near-2-clause-spot : goal.turn-requires-else-near-2-claus
 turn-requires-else-near-2-clause-spot g c =
     let one = twice g (goal.at.turn-requires-else-near-2-clause-spot g c).In-Some _
     c.requires.short.1 in
-    (one.after _ _ (c.turn-else-near.ensures.does one.spot)).spot
+    (one.after _ _ (c.turn-else-near.ensures.does one.spot).0).spot
 
 pub returns-then-near-clause-does : goal.returns-then-near-clause-does
 returns-then-near-clause-does g c = λ w h.
     let one = once g (goal.at.returns-then-near-clause-does g c).After-turn w h in
-    one.after _ _ (c.turn.ensures.does one.spot)
-
-pub returns-then-near-clause-elsewhere : goal.returns-then-near-clause-elsewhere
-returns-then-near-clause-elsewhere g c = λ w h.
-    let one = once g (goal.at.returns-then-near-clause-elsewhere g c).After-turn w h in
-    turns_kept _ _ _ _ _ _ w _ one (c.turn.ensures.elsewhere one.spot)
+    let first = c.turn.ensures.does one.spot in
+    (one.after _ _ first.0, turns_kept _ _ _ _ _ _ w _ one first.1)
 
 pub returns-in-Some-clause-does : goal.returns-in-Some-clause-does
 returns-in-Some-clause-does g c = λ w h.
     let one = twice g (goal.at.returns-in-Some-clause-does g c).In-Some w h in
-    let two = one.after _ _ (c.turn-else-near.ensures.does one.spot) in
-    two.after _ _ (c.turn-else-near-2.ensures.does two.spot)
-
-pub returns-in-Some-clause-elsewhere : goal.returns-in-Some-clause-elsewhere
-returns-in-Some-clause-elsewhere g c = λ w h.
-    let one = twice g (goal.at.returns-in-Some-clause-elsewhere g c).In-Some w h in
-    let two = one.after _ _ (c.turn-else-near.ensures.does one.spot) in
-    both_kept w _ _ _ (turns_kept _ _ _ _ _ _ w _ one (c.turn-else-near.ensures.elsewhere one.spot))
-    (turns_kept _ _ _ _ _ _ w _ two (c.turn-else-near-2.ensures.elsewhere two.spot))
+    let first = c.turn-else-near.ensures.does one.spot in
+    let two = one.after _ _ first.0 in
+    let second = c.turn-else-near-2.ensures.does two.spot in (
+      two.after _ _ second.0,
+      both_kept w _ _ _ (turns_kept _ _ _ _ _ _ w _ one first.1)
+          (turns_kept _ _ _ _ _ _ w _ two second.1),
+    )

@@ -4,9 +4,7 @@ use Rattle.rank_tree.specs.Named.{named}
 use Rattle.rank_tree.proofs.NameLemmas.{not_some, if_live}
 use Rattle.rank_tree.specs.SpotLaws.{spot_low, spot_parent, spot_high, spot_child, spot_holder}
 use Rattle.rank_tree.specs.SpotLaws.{write-lives, reparent-lives, turn_works}
-use Rattle.rank_tree.specs.Tree.{walk}
-use Rattle.rank_tree.specs.Shape.{RepresentsTree}
-use Rattle.rank_tree.specs.Repair.{Spot, turned, KeptOff}
+use Rattle.rank_tree.specs.Repair.{Spot, turned, Becomes}
 use Rattle.rank_tree.proofs.turn.turn_on.Goals.{After-relink}
 use Rattle.rank_tree.proofs.turn.turn_on.Goals as goal
 
@@ -15,11 +13,9 @@ works : (g : _) (c : After-relink g)
     (spot : Spot (g.K.NodeStore.nodes c.args.nodes.now)
     (option_map g.P.Inx.PtrInxCore.number c.args.root.now)
     (g.P.Inx.PtrInxCore.number c.args.low))
-    → RepresentsTree (g.K.NodeStore.nodes c.relink.new.nodes)
-    (option_map g.P.Inx.PtrInxCore.number c.relink.new.root)
-    (turned spot c.args.low_rank c.args.high_rank)
-    × KeptOff (walk (turned spot c.args.low_rank c.args.high_rank))
+    → Becomes g.P.Inx.PtrInxCore.number (turned spot c.args.low_rank c.args.high_rank)
     (g.K.NodeStore.nodes c.args.nodes.now) (g.K.NodeStore.nodes c.relink.new.nodes)
+    c.relink.new.root
 works g c spot =
     let number = g.P.Inx.PtrInxCore.number in
     let below = named number c.read-below.result in
@@ -74,8 +70,4 @@ relink-requires-clause-live g c =
     c.requires.spot i e))))
 
 pub returns-clause-does : goal.returns-clause-does
-returns-clause-does g c = λ spot. (works g (goal.at.returns-clause-does g c).After-relink spot).0
-
-pub returns-clause-elsewhere : goal.returns-clause-elsewhere
-returns-clause-elsewhere g c =
-    λ spot. (works g (goal.at.returns-clause-elsewhere g c).After-relink spot).1
+returns-clause-does g c = works g (goal.at.returns-clause-does g c).After-relink

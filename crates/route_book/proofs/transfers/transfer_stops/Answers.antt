@@ -6,7 +6,7 @@ use Rattle.triple_arena.specs.Content.{live_count}
 use Rattle.triple_arena.specs.TransferLaws.{transferred_by}
 use Rattle.triple_arena_chain.specs.Links.{ends_in, values_in}
 use Rattle.triple_arena_chain.specs.Listed.{listed_values}
-use Rattle.triple_arena_chain.specs.ListLaws.{live_prev_in}
+use Rattle.linked_lists.specs.ChainLaws.{live_prev_in}
 use Rattle.route_book.specs.Moving.{stop_over}
 use Rattle.route_book.proofs.LinkLemmas.{live_values}
 use Rattle.route_book.proofs.TransferLemmas.{moved_as}

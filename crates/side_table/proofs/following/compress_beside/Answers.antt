@@ -26,7 +26,8 @@ returns-clause-beside g c =
     let index = g.P.PtrCore.index in
     let generation = g.P.PtrCore.generation in
     let r = c.in_ok-compress_recaster_into.ensures.recaster in
-    let told = of_compression old new map r c.in_ok-compress_recaster_into.ensures.compressed.compact in
+    let told = of_compression old new map r
+    c.in_ok-compress_recaster_into.ensures.compressed.compact in
     let before = c.args.table.now in
     let after = c.follow_compression.new.table in
     beside_kept index generation (entries_of map) (live_entries old) (live_entries new)
@@ -43,4 +44,5 @@ returns-clause-only g c =
     beside_valid g.P.PtrCore.index g.P.PtrCore.generation (entry_at map)
     (entry_at c.args.table.now) (entry_at c.follow_compression.new.table)
     (λ j h. IsSome (get new j h)) (λ j h t is. (c.follow_compression.ensures.carried j h t).0 is)
-    (new_valid old new map c.in_ok-compress_recaster_into.ensures.recaster c.in_ok-compress_recaster_into.ensures.values)
+    (new_valid old new map c.in_ok-compress_recaster_into.ensures.recaster
+    c.in_ok-compress_recaster_into.ensures.values)

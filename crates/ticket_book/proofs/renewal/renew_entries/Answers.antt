@@ -1,43 +1,47 @@
-use Rattle.std.proofs.Common.{◌∙◌, ◌<◌, ◌≤◌, sym, ap, subst, is_some}
+use Rattle.std.proofs.Common.{◌∙◌, ap, is_some}
 use Rattle.triple_arena_ord.specs.Ordered.{entry_in}
-use Rattle.triple_arena_ord.specs.States.{with_item}
 use Rattle.ticket_book.specs.Mirrors.{numbers, renewed_entry}
-use Rattle.triple_arena.specs.WalkLaws.{step_is, end_all}
-use Rattle.ticket_book.specs.WalkLaws.{cast_ahead, cast_all, cast_live, cast_passed}
-use Rattle.ticket_book.specs.WalkLaws.{entry_written, stands_at}
+use Rattle.ticket_book.specs.Tickets.{Entry}
+use Rattle.ticket_book.specs.WalkLaws.{IsCasting, cast_end, cast_on, entry_written, stands_at}
+use Rattle.ticket_book.proofs.renewal.renew_entries.Given.{Over}
+use Rattle.ticket_book.proofs.renewal.renew_entries.Goals.{After-advance}
 use Rattle.ticket_book.proofs.renewal.renew_entries.Goals as goal
+
+module _ (g : Over) (c : After-advance g) where
+  abbrev cast : Entry → Entry
+  cast = renewed_entry
+      (numbers g.P.PtrCore.index g.P.PtrCore.generation
+      (g.M.ArenaTrait.entry_at c.args.places.now))
+      (numbers g.P.PtrCore.index g.P.PtrCore.generation (g.N.ArenaTrait.entry_at c.args.stops.now))
+      (numbers g.P.PtrCore.index g.P.PtrCore.generation (g.O.ArenaTrait.entry_at c.args.marks.now))
+
+  casting : IsCasting cast (entry_in c.args.arena.now) (entry_in c.loop-p.arena) c.loop-p.walk
+  casting =
+      let inv = c.loop-p.invariant in
+      record {
+        rises = inv.rises;
+        reaches = inv.reaches;
+        passed = inv.passed;
+        ahead = inv.ahead;
+      }
 
 pub loop-p-preserved-in-Some-get_mut : goal.loop-p-preserved-in-Some-get_mut
 loop-p-preserved-in-Some-get_mut g c =
+    let before = (goal.at.loop-p-preserved-in-Some-get_mut g c).After-advance in
     let inv = c.loop-p.invariant in
-    let at0 = entry_in c.args.arena.now in
-    let at = entry_in c.loop-p.arena in
     let i = g.P.PtrCore.index c.in-Some.p in
     let h = g.P.PtrCore.generation c.in-Some.p in
-    let low = c.loop-p.walk.low in
-    let cast = renewed_entry
-    (numbers g.P.PtrCore.index g.P.PtrCore.generation
-    (g.M.ArenaTrait.entry_at c.args.places.now))
-    (numbers g.P.PtrCore.index g.P.PtrCore.generation (g.N.ArenaTrait.entry_at c.args.stops.now))
-    (numbers g.P.PtrCore.index g.P.PtrCore.generation (g.O.ArenaTrait.entry_at c.args.marks.now)) in
-    let st = step_is at c.loop-p.walk c.advance.new.self inv.rises _ _ c.in-Some.ensures.given in
-    let now = with_item c.loop-p.arena i c.renew.new.self in
-    let at' = entry_in now in
-    let v = c.in-Some-get_mut.entry.now in
-    let stands = stands_at at i h v c.in-Some-get_mut.ensures.value in
-    let replaced = c.writes_keep_the_list.ensures.replaced c.loop-p.arena i h c.renew.new.self v
+    let stands = stands_at (entry_in c.loop-p.arena) i h _ c.in-Some-get_mut.ensures.value in
+    let replaced = c.writes_keep_the_list.ensures.replaced c.loop-p.arena i h c.renew.new.self _
     inv.ordered stands in
-    let made = entry_written at at' i h c.renew.new.self replaced.entries in
+    let on = cast_on (cast g before) _ _ _ c.advance.new.self (casting g before) _ i h _ _
+    c.in-Some.ensures.given
+    stands c.renew.ensures (entry_written _ _ i h c.renew.new.self replaced.entries) in
     record {
-      rises = st.still_rises;
-      reaches = λ j some. subst (λ k. j ≤ k) (sym st.high)
-          (inv.reaches j (cast_live cast at0 at at' low i h v c.renew.new.self inv.passed inv.ahead
-          st.up st.between stands c.renew.ensures made.0 made.1 j some));
-      passed = λ j below. cast_passed cast at0 at at' low i h v c.renew.new.self inv.passed
-          inv.ahead st.up st.between stands c.renew.ensures made.0 made.1 j
-          (subst (λ l. j < l) st.low below);
-      ahead = λ j past. cast_ahead cast at0 at at' low i h v c.renew.new.self inv.passed inv.ahead
-          st.up st.between stands c.renew.ensures made.0 made.1 j (subst (λ l. l ≤ j) st.low past);
+      rises = on.casting.rises;
+      reaches = on.casting.reaches;
+      passed = on.casting.passed;
+      ahead = on.casting.ahead;
       order = replaced.order ∙ inv.order;
       room = replaced.kept.room ∙ inv.room;
       ordered = c.writes_keep_the_list.ensures.ordered c.loop-p.arena i c.renew.new.self inv.ordered
@@ -46,12 +50,5 @@ loop-p-preserved-in-Some-get_mut g c =
 
 pub returns-clause-entries : goal.returns-clause-entries
 returns-clause-entries g c =
-    let inv = c.loop-p.invariant in
-    let at = entry_in c.loop-p.arena in
-    cast_all (renewed_entry
-    (numbers g.P.PtrCore.index g.P.PtrCore.generation
-    (g.M.ArenaTrait.entry_at c.args.places.now))
-    (numbers g.P.PtrCore.index g.P.PtrCore.generation (g.N.ArenaTrait.entry_at c.args.stops.now))
-    (numbers g.P.PtrCore.index g.P.PtrCore.generation (g.O.ArenaTrait.entry_at c.args.marks.now)))
-    (entry_in c.args.arena.now) at c.loop-p.walk.low inv.passed inv.ahead
-    (end_all at c.loop-p.walk c.advance.new.self inv.rises inv.reaches c.in_default.ensures.given)
+    let last = (goal.at.returns-clause-entries g c).After-advance in
+    cast_end (cast g last) _ _ _ c.advance.new.self (casting g last) c.in_default.ensures.given

@@ -1,4 +1,4 @@
-use Rattle.triple_arena_chain.specs.ListLaws.{shares, linear_same}
+use Rattle.linked_lists.specs.ChainLaws.{shares, linear_same}
 use Rattle.triple_arena_chain.proofs.laws.chains_that_share_are_one.Goals as goal
 
 pub returns-clause-members : goal.returns-clause-members

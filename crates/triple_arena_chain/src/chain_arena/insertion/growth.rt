@@ -2,7 +2,7 @@
 ghost use Rattle.std.specs.Prelude.{◌≡◌, ◌<◌, Some, IfOk, OnOk, OnErr};
 ghost use Rattle.triple_arena_stack.specs.Push.{IsRefusal};
 ghost use Rattle.triple_arena.specs.Content.{live_count, arena_capacity, next_index, grown_if_full};
-ghost use Rattle.triple_arena_chain.specs.Chains.{IsGap};
+ghost use Rattle.triple_arena_chain.specs.Gaps.{IsGap};
 ghost use Rattle.triple_arena_chain.specs.InsertEntry.{IsLinkRefusal};
 ghost use Rattle.triple_arena_chain.specs.Kinds.{gap_by};
 ghost use Rattle.triple_arena_chain.specs.Links.{ends_in, gap_among, IsChained};

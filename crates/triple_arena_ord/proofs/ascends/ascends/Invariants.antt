@@ -1,5 +1,5 @@
 use Rattle.std.proofs.Common.{◌≡◌, ℕ, ◌≤◌, List, Some, None, length}
-use Rattle.triple_arena_chain.specs.Chains.{IsLinear, first_or}
+use Rattle.linked_lists.specs.LinkedLists.{IsLinear, first_or}
 use Rattle.triple_arena_chain.specs.Links.{ends_in}
 use Rattle.triple_arena_ord.proofs.AlongLemmas.{Checking}
 use Rattle.triple_arena_ord.proofs.ascends.ascends.Given as goal

@@ -15,8 +15,6 @@ returns-clause-before_equal g c = λ place t result old new growth is at put asc
     put.ordered at put.inserted ascending
 
 pub returns-clause-between : goal.returns-clause-between
-returns-clause-between g c = λ before after i n t old new ordered added was is low high ascending.
+returns-clause-between g c = λ i n t old new ordered added between ascending.
     added_ascending g.T.Key.Ord.cmp g.T.SimpleOrdItem.key_of g.met.T.Key.Ord.total
-    old new i n t ordered
-    (record { before = before; after = after; was = was; is = is; low = low; high = high }) added
-    ascending
+    old new i n t ordered between added ascending

@@ -8,14 +8,12 @@ use Rattle.triple_arena_ord.proofs.LeafLemmas.{leaf_slot, leaf_gap, leaf_works}
 use Rattle.triple_arena_ord.proofs.leaf.insert_leaf.Goals.{After-gap_beside-prev, After-inx}
 use Rattle.triple_arena_ord.proofs.leaf.insert_leaf.Goals.{After-bring_in}
 use Rattle.triple_arena_ord.proofs.leaf.insert_leaf.Goals as goal
+use Rattle.triple_arena_ord.specs.Ordered.{ordered_by}
 
 -- the list is cut beside the holder
 cut : (g : _) (c : After-gap_beside-prev g)
     → Cut
-    (record {
-      chains = c.args.chains.now;
-      root = option_map g.P.Inx.PtrInxCore.number c.args.root.now;
-    })
+    (ordered_by g.P.Inx.PtrInxCore.number c.args.chains.now c.args.root.now)
     (g.P.Inx.PtrInxCore.number c.args.holder) c.args.side
     (option_map g.P.Inx.PtrInxCore.number c.gap_beside-prev.result.0)
     (option_map g.P.Inx.PtrInxCore.number c.gap_beside-prev.result.1)
@@ -27,10 +25,7 @@ cut g c =
 -- the chain has one more link there
 linked : (g : _) (c : After-inx g)
     → Linked
-    (record {
-      chains = c.args.chains.now;
-      root = option_map g.P.Inx.PtrInxCore.number c.args.root.now;
-    })
+    (ordered_by g.P.Inx.PtrInxCore.number c.args.chains.now c.args.root.now)
     c.insert_in_gap_unwrap-p.new.self (g.P.Inx.PtrInxCore.number c.args.holder)
     (g.P.Inx.PtrInxCore.number c.inx.result)
     (g.P.PtrCore.index c.insert_in_gap_unwrap-p.result)
@@ -70,7 +65,7 @@ leaf : (g : _) (c : After-bring_in g)
 leaf g c =
     let link = linked g (goal.at.After-bring_in g c).After-inx in
     leaf_works link _ _
-    (c.bring_in.ensures.does (leaf_gap link)) c.bring_in.ensures.keeps
+    (c.bring_in.ensures.does (leaf_gap link)).0 c.bring_in.ensures.keeps
 
 pub bring_in-requires-clause-free : goal.bring_in-requires-clause-free
 bring_in-requires-clause-free g c =

@@ -1,6 +1,5 @@
 use Rattle.std.proofs.Common.{arith, ap, ◌∙◌, sym}
 use Rattle.std.specs.Option.{option_map}
-use Rattle.triple_arena_ord.specs.Node.{items_in}
 use Rattle.triple_arena_ord.specs.Near.{asked_in}
 use Rattle.triple_arena_ord.proofs.NearLemmas.{walking_begins}
 use Rattle.triple_arena_ord.proofs.WalkLemmas.{link_seen, none_seen, walk_lives, walk_step}
@@ -12,7 +11,7 @@ along-init g c = (
   omega arith,
   λ w linear on.
       walking_begins (asked_in g.T.Key.Ord.cmp g.T.SimpleOrdItem.key_of c.args.k.now
-      (items_in (g.A.Links.links c.args.arena.now))) w
+      (g.A.Links.links c.args.arena.now)) w
       (g.P.Inx.PtrInxCore.number c.args.start) on,
 )
 
@@ -73,13 +72,13 @@ along-preserved g c =
     )
 
 pub returns-clause-near : goal.returns-clause-near
-returns-clause-near g c = λ w linear on parted hand none.
+returns-clause-near g c = λ w linear on near none.
     let number = g.P.Inx.PtrInxCore.number in
     let links = g.A.Links.links c.args.arena.now in
     walk_passes g.T.Key.Ord.cmp g.T.SimpleOrdItem.key_of c.args.k.now links w
     (number c.args.start) _ linear on c.along.way (number c.along.i) c.along._made c.args.num
     (omega arith)
-    (c.along.invariant.1 w linear on) parted hand
+    (c.along.invariant.1 w linear on) near.0 near.1
 
 pub returns-clause-walked : goal.returns-clause-walked
 returns-clause-walked g c = λ w linear on.

@@ -1,7 +1,7 @@
 use Rattle.std.proofs.Common.{ap, ◌∙◌}
 use Rattle.std.specs.Option.{option_map}
 use Rattle.triple_arena_ptr.specs.Generation.{next_generation, next_wraps}
-use Rattle.triple_arena_ord.specs.Ordered.{Ordered}
+use Rattle.triple_arena_ord.specs.Ordered.{Ordered, ordered_by}
 use Rattle.triple_arena_ord.proofs.RestLemmas.{rested}
 use Rattle.triple_arena_ord.proofs.UprootingLemmas.{item_taken, still, taken}
 use Rattle.triple_arena_ord.proofs.uprooting.take_entry.Goals as goal
@@ -10,14 +10,14 @@ pub take_inx_link_unwrap-generation-requires : goal.take_inx_link_unwrap-generat
 take_inx_link_unwrap-generation-requires g c =
     let number = g.P.Inx.PtrInxCore.number in
     let o : Ordered g.row.T.Denot =
-    record { chains = c.args.chains.now; root = option_map number c.args.root.now } in
+    ordered_by number c.args.chains.now c.args.root.now in
     still o c.uproot.new.chains (number c.args.gone) c.uproot.ensures.keeps c.requires.lives
 
 pub returns : goal.returns
 returns g c =
     let number = g.P.Inx.PtrInxCore.number in
     let o : Ordered g.row.T.Denot =
-    record { chains = c.args.chains.now; root = option_map number c.args.root.now } in
+    ordered_by number c.args.chains.now c.args.root.now in
     let h = number c.args.gone in
     let c1 = c.uproot.new.chains in
     let c2 = c.take_inx_link_unwrap-generation.new.self in

@@ -1,11 +1,9 @@
 use Rattle.std.proofs.Common.{◌≡◌, ℕ, ◌<◌, ◌^◌, Option, Some, rules, refl, ap, sym, subst, arith}
 use Rattle.std.specs.Option.{option_map}
 use Rattle.rank_tree.specs.NodeView.{NodeView}
-use Rattle.rank_tree.specs.Repair.{Loose, Restored}
-use Rattle.rank_tree.specs.Shape.{plug}
-use Rattle.rank_tree.specs.Tree.{walk}
+use Rattle.rank_tree.specs.Repair.{Loose, Restored, KeptOff, walk_without}
 use Rattle.triple_arena_ord.specs.Node.{nodes_in}
-use Rattle.triple_arena_ord.specs.Ordered.{Ordered}
+use Rattle.triple_arena_ord.specs.Ordered.{Ordered, ordered_by}
 use Rattle.triple_arena_ord.proofs.MovedUpLemmas.{Way, way_up, way_loose}
 use Rattle.triple_arena_ord.proofs.UprootingLemmas.{uprooted}
 use Rattle.triple_arena_ord.proofs.SuccessorLemmas.{Over, over_lives, replaced, replacement_place}
@@ -17,8 +15,7 @@ small count live e h = omega arith
 
 -- the arena as it was
 abbrev old : (g : _) (c : After-unwrap_or-out g) → Ordered g.row.T.Denot
-old g c = record
-    { chains = c.args.chains.now; root = option_map g.P.Inx.PtrInxCore.number c.args.root.now }
+old g c = ordered_by g.P.Inx.PtrInxCore.number c.args.chains.now c.args.root.now
 
 -- which index leaves the tree
 way : (g : _) (c : After-unwrap_or-out g)
@@ -36,11 +33,11 @@ way g c =
 
 -- what leaving leaves, by an index that is the same
 does_at : (n m : ℕ → Option NodeView) (r s : Option ℕ) (i j : ℕ) → i ≡ j
-    → ((loose : Loose n r i) → Restored m s (walk (plug loose.context loose.sub)))
-    → (loose : Loose n r j) → Restored m s (walk (plug loose.context loose.sub))
+    → ((loose : Loose n r i) → Restored m s (walk_without loose) × KeptOff (walk_without loose) n m)
+    → (loose : Loose n r j) → Restored m s (walk_without loose)
 does_at n m r s i j same does =
-    subst (λ k. (loose : Loose n r k) → Restored m s (walk (plug loose.context loose.sub))) same
-    does
+    subst (λ k. (loose : Loose n r k) → Restored m s (walk_without loose)) same
+    (λ loose. (does loose).0)
 
 -- the next one, out of the tree
 over : (g : _) (c : After-bring_out g) (n : ℕ)
@@ -49,7 +46,7 @@ over : (g : _) (c : After-bring_out g) (n : ℕ)
     (g.P.Inx.PtrInxCore.number c.args.gone) n)
     × Restored (nodes_in c.bring_out.new.nodes)
     (option_map g.P.Inx.PtrInxCore.number c.bring_out.new.root)
-    (walk (plug h.loose.context h.loose.sub))
+    (walk_without h.loose)
 over g c n is =
     let number = g.P.Inx.PtrInxCore.number in
     let at = (goal.at.After-bring_out g c).After-unwrap_or-out in
@@ -82,8 +79,7 @@ returns-in-None-clause-uprooted g c =
     let at = (goal.at.returns-in-None-clause-uprooted g c).After-unwrap_or-out in
     let it = subst (Way (old g at) (number c.args.gone)
     (number c.unwrap_or-out.result)) (ap (option_map number) c.in-None.is) (way g at) in
-    uprooted (old g at) (record
-    { chains = c.bring_out.new.nodes; root = option_map number c.bring_out.new.root })
+    uprooted (old g at) (ordered_by number c.bring_out.new.nodes c.bring_out.new.root)
     (number c.args.gone) it.1
     (does_at _ _ _ _ _ _ it.0 c.bring_out.ensures.does it.1.loose)
 
@@ -98,4 +94,4 @@ returns-in-Some-clause-uprooted g c =
     found.1 c.replace.new.nodes (option_map number c.replace.new.root)
     (c.replace.ensures.does
     (replacement_place o c.requires.ordered _ _ c.requires.lives found.0
-    c.bring_out.new.nodes root1 found.1))
+    c.bring_out.new.nodes root1 found.1)).0

@@ -1,7 +1,6 @@
 //! Room for one item more, which tells its pointer before the item is there.
-ghost use Rattle.std.specs.Prelude.{◌≡◌, ◌≤◌, Some, None, Ok, Err, IsSome, IfOk, IfSome, IfNone};
+ghost use Rattle.std.specs.Prelude.{◌≡◌, ◌≤◌, Some, None, Ok, Err, IfOk, IfSome, IfNone};
 ghost use Rattle.std.specs.Prelude.{OnOk, OnErr};
-ghost use Rattle.std.specs.Option.{option_map};
 ghost use Rattle.std.specs.Borrow.{sem, RestsIfErr};
 ghost use Rattle.triple_arena_ptr.specs.declared.errors.OrdInsertionError.{OrdInsertionError as Refused};
 ghost use Rattle.triple_arena_stack.specs.Room.{capacity};
@@ -9,9 +8,9 @@ ghost use Rattle.triple_arena_ord.specs.Growth.{IsInRoom};
 ghost use Rattle.triple_arena_ord.specs.Inserted.{Replaces, InsertsAt, within_room};
 ghost use Rattle.triple_arena_ord.specs.Inserted.{growing_room, room_for};
 ghost use Rattle.triple_arena_ord.specs.InsertEntry.{entry_arena, entry_lender, entry_place};
-ghost use Rattle.triple_arena_ord.specs.InsertEntry.{kind_at, IsReady, IsReadyAt, IsOrdAnswer};
-ghost use Rattle.triple_arena_ord.specs.Placing.{Meets, IsPlaceFor};
-ghost use Rattle.triple_arena_ord.specs.Ordered.{entry_in, size_in};
+ghost use Rattle.triple_arena_ord.specs.InsertEntry.{kind_at, IsReady, IsReadyAt, IsAnswerTo};
+ghost use Rattle.triple_arena_ord.specs.Ordered.{size_in};
+ghost use Rattle.triple_arena_ord.specs.Found.{place_by, IsLivePlace};
 
 use crate::ord_arena::insertion::grown_error;
 use crate::ord_arena::search::found::found_at;
@@ -72,14 +71,12 @@ impl<P: PtrCore, T: Drop, S: OrdSlots<P, T>> SimpleOrdArena<P, T, S> {
     // The pointer that an item gets at a place: that of the entry there, or a new one, if there is
     // room for it.
     fn ptr_within_capacity(&self, place: Option<(P::Inx, Ordering)>) -> Option<P>
-        requires live { IfSome place (λ a. IsSome (entry_in self.now (P.Inx.number a.0))) }
+        requires live { IsLivePlace P.Inx.number self.now place }
         requires empty { place ≡ None → size_in self.now ≡ 0 }
         ensures ready { IfSome result
-            (λ p. IsReadyAt (option_map (λ a. (P.Inx.number a.0, a.1)) place)
-            (P.index p) (P.generation p) self.now) }
+            (λ p. IsReadyAt (place_by P.Inx.number place) (P.index p) (P.generation p) self.now) }
         ensures full { IfNone result (capacity self.now.chains.room ≤ size_in self.now) }
-        ensures new { IfNone result
-            (Replaces (option_map (λ a. (P.Inx.number a.0, a.1)) place) → ⊥) }
+        ensures new { IfNone result (Replaces (place_by P.Inx.number place) → ⊥) }
     {
         if let Some(p) = found_at(&self.chains, place) {
             return Some(p);
@@ -92,18 +89,17 @@ impl<P: PtrCore, T: Drop, S: OrdSlots<P, T>> SimpleOrdArena<P, T, S> {
         &mut self,
         place: Option<(P::Inx, Ordering)>,
     ) -> Result<P, OrdInsertionError>
-        requires live { IfSome place (λ a. IsSome (entry_in self.old (P.Inx.number a.0))) }
+        requires live { IsLivePlace P.Inx.number self.old place }
         requires empty { place ≡ None → size_in self.old ≡ 0 }
         ensures ready { IfOk result
-            (λ p. IsReadyAt (option_map (λ a. (P.Inx.number a.0, a.1)) place)
-            (P.index p) (P.generation p) self.new) }
-        ensures grown { OnOk result
-            (IsInRoom (room_for (option_map (λ a. (P.Inx.number a.0, a.1)) place)
-            (size_in self.old) self.old.chains.room) self.old self.new) }
-        ensures fits { OnOk result ((Replaces (option_map (λ a. (P.Inx.number a.0, a.1)) place) → ⊥)
+            (λ p. IsReadyAt (place_by P.Inx.number place) (P.index p) (P.generation p) self.new) }
+        ensures grown { OnOk result (IsInRoom
+            (room_for (place_by P.Inx.number place) (size_in self.old) self.old.chains.room)
+            self.old self.new) }
+        ensures fits { OnOk result ((Replaces (place_by P.Inx.number place) → ⊥)
             → growing_room S.takes_memory (size_in self.old) self.old.chains.room None) }
         ensures new { (error : Refused) → result ≡ Err error
-            → Replaces (option_map (λ a. (P.Inx.number a.0, a.1)) place) → ⊥ }
+            → Replaces (place_by P.Inx.number place) → ⊥ }
         ensures refused { (error : Refused) → result ≡ Err error
             → growing_room S.takes_memory (size_in self.old) self.old.chains.room (Some error) }
         ensures err { OnErr result (self.new ≡ self.old) }
@@ -129,9 +125,7 @@ impl<P: PtrCore, T: SimpleOrdItem + Drop, S: OrdSlots<P, T>> SimpleOrdArena<P, T
         &mut self,
         kind: OrdInsertKind<P, &T::Key>,
     ) -> Result<SimpleOrdArenaInsertEntry<'_, P, T, S>, OrdInsertionError>
-        ensures answer { IsOrdAnswer (Meets P.Inx.number kind.entry self.old)
-            (IsPlaceFor P.Inx.number T.Key.cmp T.key_of kind.entry self.old)
-            (entry_place P.Inx.number)
+        ensures answer { IsAnswerTo P.Inx.number T.Key.cmp T.key_of kind.entry self.old
             (within_room (size_in self.old) self.old.chains.room) result }
         ensures ready { IfOk result (λ e. IsReady P.Inx.number P.index P.generation e) }
         ensures same_reference { IfOk result (λ e. entry_lender e ≡ self.entry.ghost_name) }
@@ -163,9 +157,7 @@ impl<P: PtrCore, T: SimpleOrdItem + Drop, S: OrdSlots<P, T>> SimpleOrdArena<P, T
         &mut self,
         kind: OrdInsertKind<P, &T::Key>,
     ) -> Result<SimpleOrdArenaInsertEntry<'_, P, T, S>, OrdInsertionError>
-        ensures answer { IsOrdAnswer (Meets P.Inx.number kind.entry self.old)
-            (IsPlaceFor P.Inx.number T.Key.cmp T.key_of kind.entry self.old)
-            (entry_place P.Inx.number)
+        ensures answer { IsAnswerTo P.Inx.number T.Key.cmp T.key_of kind.entry self.old
             (growing_room S.takes_memory (size_in self.old) self.old.chains.room) result }
         ensures ready { IfOk result (λ e. IsReady P.Inx.number P.index P.generation e) }
         ensures same_reference { IfOk result (λ e. entry_lender e ≡ self.entry.ghost_name) }
@@ -196,9 +188,7 @@ impl<P: PtrCore, T: SimpleOrdItem + Drop, S: OrdSlots<P, T>> SimpleOrdArena<P, T
         &mut self,
         kind: OrdInsertKind<P, &T::Key>,
     ) -> Result<SimpleOrdArenaInsertEntry<'_, P, T, S>, OrdInsertionError>
-        ensures answer { IsOrdAnswer (Meets P.Inx.number kind.entry self.old)
-            (IsPlaceFor P.Inx.number T.Key.cmp T.key_of kind.entry self.old)
-            (entry_place P.Inx.number)
+        ensures answer { IsAnswerTo P.Inx.number T.Key.cmp T.key_of kind.entry self.old
             (growing_room S.takes_memory (size_in self.old) self.old.chains.room) result }
         ensures ready { IfOk result (λ e. IsReady P.Inx.number P.index P.generation e) }
         ensures same_reference { IfOk result (λ e. entry_lender e ≡ self.entry.ghost_name) }

@@ -1,9 +1,8 @@
 //! Insertions that leave an entry with an equal key as it is.
 ghost use Rattle.std.specs.Prelude.{◌≡◌, ◌+◌, ◌≤◌, Some, None};
 ghost use Rattle.rank_tree.specs.Comparisons.{most_comparisons};
-ghost use Rattle.rank_tree.specs.Search.{asked_down};
 ghost use Rattle.triple_arena_ord.specs.Inserted.{GetsOrInserts};
-ghost use Rattle.triple_arena_ord.specs.Ordered.{asked_at, size_in, tree_in};
+ghost use Rattle.triple_arena_ord.specs.Ordered.{size_in, comparisons};
 
 use crate::ord_arena::search::found::found_at;
 use crate::{OrdSlots, SimpleOrdArena, SimpleOrdItem};
@@ -44,8 +43,7 @@ impl<P: PtrCore, T: SimpleOrdItem + Drop, S: OrdSlots<P, T>> SimpleOrdArena<P, T
         ensures gets { GetsOrInserts T.Key.cmp T.key_of P.index P.generation
             (Some S.takes_memory) t result self.old self.new }
         ensures ticks { probes.new ≡ probes.old
-            + asked_down (asked_at T.Key.cmp T.key_of (T.key_of t) self.old)
-            (tree_in self.old) }
+            + comparisons T.Key.cmp T.key_of (T.key_of t) self.old }
         ensures few { probes.new ≤ probes.old + most_comparisons (size_in self.old) }
     {
         let place = self.seek(t.key(), probes);

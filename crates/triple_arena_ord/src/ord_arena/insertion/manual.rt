@@ -1,9 +1,9 @@
 //! Insertions that look at no key.
-ghost use Rattle.std.specs.Prelude.{◌≡◌, ◌<◌, ℕ, Some, None, IsSome, IfSome};
-ghost use Rattle.std.specs.Option.{option_map};
+ghost use Rattle.std.specs.Prelude.{◌≡◌, ◌<◌, ℕ, Some, None, IsSome};
 ghost use Rattle.triple_arena.specs.Content.{arena_capacity};
 ghost use Rattle.triple_arena_ord.specs.Inserted.{AddsAt, InsertsAt, Replaces, under};
 ghost use Rattle.triple_arena_ord.specs.Ordered.{entry_in, size_in};
+ghost use Rattle.triple_arena_ord.specs.Found.{place_by, IsLivePlace};
 
 use crate::{OrdSlots, SimpleOrdArena};
 use proof_marks::recall;
@@ -43,12 +43,12 @@ impl<P: PtrCore, T: Drop, S: OrdSlots<P, T>> SimpleOrdArena<P, T, S> {
         place: Option<(P::Inx, Ordering)>,
         t: T,
     ) -> P
-        requires live { IfSome place (λ a. IsSome (entry_in self.old (P.Inx.number a.0))) }
+        requires live { IsLivePlace P.Inx.number self.old place }
         requires empty { place ≡ None → size_in self.old ≡ 0 }
-        requires new { Replaces (option_map (λ a. (P.Inx.number a.0, a.1)) place) → ⊥ }
+        requires new { Replaces (place_by P.Inx.number place) → ⊥ }
         requires room { size_in self.old < arena_capacity self.old.chains }
-        ensures { AddsAt (option_map (λ a. (P.Inx.number a.0, a.1)) place)
-            (P.index result) (P.generation result) t self.old self.new }
+        ensures { AddsAt (place_by P.Inx.number place) (P.index result) (P.generation result) t
+            self.old self.new }
     {
         // The list is as it must be.
         recall!(self.len());

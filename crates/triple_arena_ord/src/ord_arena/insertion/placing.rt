@@ -1,10 +1,11 @@
 //! Where a kind of insertion puts its item.
 ghost use Rattle.std.specs.Prelude.{◌≡◌, ◌↔◌, ℕ, Some, None, IsSome, IfSome};
-ghost use Rattle.std.specs.Option.{option_map};
 ghost use Rattle.std.specs.declared.cmp.Ordering.{Ordering as Way};
 ghost use Rattle.triple_arena_ord.specs.Placing.{Meets, IsPlaceByKey, IsPlaceBeforeEqual};
-ghost use Rattle.triple_arena_ord.specs.Placing.{IsPlaceFor, IsEndOfWay, before_equal};
-ghost use Rattle.triple_arena_ord.specs.Ordered.{IsOrdered, entry_in, size_in};
+ghost use Rattle.triple_arena_ord.specs.Placing.{IsPlaceFor, before_equal};
+ghost use Rattle.triple_arena_ord.specs.Near.{IsEndOfWay};
+ghost use Rattle.triple_arena_ord.specs.Ordered.{IsOrdered, size_in};
+ghost use Rattle.triple_arena_ord.specs.Found.{place_by, IsLivePlace};
 
 use crate::kind::InsertKind;
 use crate::{OrdInsertKind, OrdSlots, SimpleOrdArena, SimpleOrdItem};
@@ -14,8 +15,7 @@ use triple_arena_ptr::Probes;
 
 // Directly before an entry in place of in it.
 fn before_equal<I: PtrInxCore>(place: Option<(I, Ordering)>) -> Option<(I, Ordering)>
-    ensures { option_map (λ a. (I.number a.0, a.1)) result
-        ≡ before_equal (option_map (λ a. (I.number a.0, a.1)) place) }
+    ensures { place_by I.number result ≡ before_equal (place_by I.number place) }
 {
     match place {
         Some((i, direction)) => match direction {
@@ -31,8 +31,8 @@ impl<P: PtrCore, T: SimpleOrdItem + Drop, S: OrdSlots<P, T>> SimpleOrdArena<P, T
     // The place for a key.
     fn place_by_key(&self, k: &T::Key) -> Option<(P::Inx, Ordering)>
         ensures by_key { IsPlaceByKey T.Key.cmp T.key_of k.now self.now
-            (option_map (λ a. (P.Inx.number a.0, a.1)) result) }
-        ensures live { IfSome result (λ a. IsSome (entry_in self.now (P.Inx.number a.0))) }
+            (place_by P.Inx.number result) }
+        ensures live { IsLivePlace P.Inx.number self.now result }
         ensures empty { result ≡ None → size_in self.now ≡ 0 }
     {
         self.seek(k, &mut Probes::new())
@@ -41,11 +41,11 @@ impl<P: PtrCore, T: SimpleOrdItem + Drop, S: OrdSlots<P, T>> SimpleOrdArena<P, T
     // The same, after a search along the list.
     fn place_near(&self, p_init: P::Inx, num: usize, k: &T::Key) -> Option<(P::Inx, Ordering)>
         ensures by_key { IsPlaceByKey T.Key.cmp T.key_of k.now self.now
-            (option_map (λ a. (P.Inx.number a.0, a.1)) result) }
-        ensures ends { (end : ℕ × Way) → IsEndOfWay T.Key.cmp T.key_of
-            (P.Inx.number p_init) num k.now self.now end
-            → option_map {U = ℕ × Way} (λ a. (P.Inx.number a.0, a.1)) result ≡ Some end }
-        ensures live { IfSome result (λ a. IsSome (entry_in self.now (P.Inx.number a.0))) }
+            (place_by P.Inx.number result) }
+        ensures ends { (end : ℕ × Way)
+            → IsEndOfWay T.Key.cmp T.key_of (P.Inx.number p_init) num k.now self.now end
+            → place_by P.Inx.number result ≡ Some end }
+        ensures live { IsLivePlace P.Inx.number self.now result }
         ensures empty { result ≡ None → size_in self.now ≡ 0 }
     {
         self.seek_linear(p_init, num, k, &mut Probes::new())
@@ -54,8 +54,8 @@ impl<P: PtrCore, T: SimpleOrdItem + Drop, S: OrdSlots<P, T>> SimpleOrdArena<P, T
     // The place for a key, but directly before an entry with an equal key.
     fn place_before_equal(&self, k: &T::Key) -> Option<(P::Inx, Ordering)>
         ensures before { IsPlaceBeforeEqual T.Key.cmp T.key_of k.now self.now
-            (option_map (λ a. (P.Inx.number a.0, a.1)) result) }
-        ensures live { IfSome result (λ a. IsSome (entry_in self.now (P.Inx.number a.0))) }
+            (place_by P.Inx.number result) }
+        ensures live { IsLivePlace P.Inx.number self.now result }
         ensures empty { result ≡ None → size_in self.now ≡ 0 }
     {
         before_equal(self.place_by_key(k))
@@ -69,12 +69,11 @@ impl<P: PtrCore, T: SimpleOrdItem + Drop, S: OrdSlots<P, T>> SimpleOrdArena<P, T
         k: &T::Key,
     ) -> Option<(P::Inx, Ordering)>
         ensures before { IsPlaceBeforeEqual T.Key.cmp T.key_of k.now self.now
-            (option_map (λ a. (P.Inx.number a.0, a.1)) result) }
-        ensures ends { (end : ℕ × Way) → IsEndOfWay T.Key.cmp T.key_of
-            (P.Inx.number p_init) num k.now self.now end
-            → option_map {U = ℕ × Way} (λ a. (P.Inx.number a.0, a.1)) result
-            ≡ before_equal (Some end) }
-        ensures live { IfSome result (λ a. IsSome (entry_in self.now (P.Inx.number a.0))) }
+            (place_by P.Inx.number result) }
+        ensures ends { (end : ℕ × Way)
+            → IsEndOfWay T.Key.cmp T.key_of (P.Inx.number p_init) num k.now self.now end
+            → place_by P.Inx.number result ≡ before_equal (Some end) }
+        ensures live { IsLivePlace P.Inx.number self.now result }
         ensures empty { result ≡ None → size_in self.now ≡ 0 }
     {
         before_equal(self.place_near(p_init, num, k))
@@ -88,9 +87,8 @@ impl<P: PtrCore, T: SimpleOrdItem + Drop, S: OrdSlots<P, T>> SimpleOrdArena<P, T
         ensures meets { IsSome result ↔ Meets P.Inx.number kind.entry self.now }
         ensures place { IfSome result
             (λ place. IsPlaceFor P.Inx.number T.Key.cmp T.key_of kind.entry self.now
-            (option_map (λ a. (P.Inx.number a.0, a.1)) place)) }
-        ensures live { IfSome result
-            (λ place. IfSome place (λ a. IsSome (entry_in self.now (P.Inx.number a.0)))) }
+            (place_by P.Inx.number place)) }
+        ensures live { IfSome result (λ place. IsLivePlace P.Inx.number self.now place) }
         ensures empty { IfSome result (λ place. place ≡ None → size_in self.now ≡ 0) }
         ensures ordered { IsOrdered self.now }
     {

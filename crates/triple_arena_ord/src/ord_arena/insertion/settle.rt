@@ -1,10 +1,10 @@
 //! Where a new leaf hangs that stands beside an entry.
 ghost use Rattle.std.specs.Prelude.{◌≢◌, ℕ, List, Some, IsSome, IfSome, ⊤};
-ghost use Rattle.std.specs.Option.{option_map};
 ghost use Rattle.triple_arena_ord.specs.Node.{nodes_in};
 ghost use Rattle.rank_tree.specs.Search.{IsFreeAt};
 ghost use Rattle.triple_arena_ord.specs.Inserted.{StandsAt, IsSamePlace};
 ghost use Rattle.triple_arena_ord.specs.Ordered.{StandsBeside, order_in};
+ghost use Rattle.triple_arena_ord.specs.Found.{place_by};
 
 use crate::leaf::neighbors_beside;
 use crate::{OrdSlots, SimpleOrdArena};
@@ -57,9 +57,8 @@ impl<P: PtrCore, T: Drop, S: OrdSlots<P, T>> SimpleOrdArena<P, T, S> {
         requires no_more { ⊤ }
         ensures free { IfSome result
             (λ a. IsFreeAt a.1 (nodes_in self.now.chains (P.Inx.number a.0))) }
-        ensures same { IsSamePlace (order_in self.now)
-            (option_map (λ a. (P.Inx.number a.0, a.1)) result)
-            (option_map (λ a. (P.Inx.number a.0, a.1)) place) }
+        ensures same { IsSamePlace (order_in self.now) (place_by P.Inx.number result)
+            (place_by P.Inx.number place) }
     {
         match place {
             None => None,

@@ -1,16 +1,17 @@
 //! Searches for the place of a key before or behind the entries with an equal one.
-ghost use Rattle.std.specs.Prelude.{◌≡◌, ◌≢◌, ℕ, ◌+◌, ◌≤◌, true, false, Some, IsSome, IfSome};
+ghost use Rattle.std.specs.Prelude.{◌≡◌, ◌≢◌, ◌+◌, ◌≤◌, true, false, Some, IsSome, IfSome};
 ghost use Rattle.std.specs.Option.{option_map};
 ghost use Rattle.std.specs.declared.cmp.Ordering.{Ordering as Way};
 ghost use Rattle.rank_tree.specs.Comparisons.{most_comparisons};
-ghost use Rattle.rank_tree.specs.Search.{IsAnswer, asked_down};
+ghost use Rattle.rank_tree.specs.Search.{IsAnswer};
 ghost use Rattle.rank_tree.specs.Tree.{rank_of};
-ghost use Rattle.triple_arena.specs.Entries.{generation_at};
-ghost use Rattle.triple_arena_chain.specs.Chains.{next_at};
+ghost use Rattle.linked_lists.specs.LinkedLists.{next_at};
 ghost use Rattle.triple_arena_chain.specs.Links.{ends_in};
 ghost use Rattle.triple_arena_ord.specs.Bounds.{IsBound, compares_past, way_past};
 ghost use Rattle.triple_arena_ord.specs.Ordered.{IsOrdered, IsAscending, asked_at, entry_in};
-ghost use Rattle.triple_arena_ord.specs.Ordered.{size_in, tree_in};
+ghost use Rattle.triple_arena_ord.specs.Ordered.{size_in, tree_in, comparisons};
+ghost use Rattle.triple_arena_ord.specs.Found.{place_by};
+ghost use Rattle.triple_arena.specs.Steps.{Finds};
 
 use crate::ord_arena::removal::neighbors;
 use crate::{OrdSlots, SimpleOrdArena, SimpleOrdItem};
@@ -44,11 +45,11 @@ impl<P: PtrCore, T: SimpleOrdItem + Drop, S: OrdSlots<P, T>> SimpleOrdArena<P, T
     // Where a search ends that goes past the entries with an equal key, or not, with the last
     // answer.
     fn seek_past(&self, k: &T::Key, past: bool, probes: &mut Probes) -> Option<(P::Inx, Ordering)>
-        ensures answer { IsAnswer (asked_at (compares_past past T.Key.cmp) T.key_of k.now self.now)
-            (tree_in self.now) (option_map (λ a. (P.Inx.number a.0, a.1)) result) }
+        ensures answer { IsAnswer
+            (asked_at (compares_past past T.Key.cmp) T.key_of k.now self.now) (tree_in self.now)
+            (place_by P.Inx.number result) }
         ensures ticks { probes.new ≡ probes.old
-            + asked_down (asked_at (compares_past past T.Key.cmp) T.key_of k.now self.now)
-            (tree_in self.now) }
+            + comparisons (compares_past past T.Key.cmp) T.key_of k.now self.now }
         ensures bound { probes.new ≤ probes.old + rank_of (tree_in self.now) }
         ensures ordered { IsOrdered self.now }
     {
@@ -74,8 +75,7 @@ impl<P: PtrCore, T: SimpleOrdItem + Drop, S: OrdSlots<P, T>> SimpleOrdArena<P, T
         requires { IsSome (entry_in self.now (P.Inx.number i)) }
         ensures at { option_map P.index result
             ≡ next_at (ends_in self.now.chains) (P.Inx.number i) }
-        ensures live { IfSome result (λ p. generation_at (entry_in self.now) (P.index p)
-            ≡ Some (P.generation p)) }
+        ensures live { IfSome result (λ p. Finds entry_in self.now (P.index p, P.generation p)) }
     {
         // The list is as it must be.
         recall!(self.len());
@@ -90,11 +90,9 @@ impl<P: PtrCore, T: SimpleOrdItem + Drop, S: OrdSlots<P, T>> SimpleOrdArena<P, T
         ensures bound { IsAscending T.Key.cmp T.key_of self.now
             → IsBound P.index P.generation
             (λ t. compares_past past T.Key.cmp k.now (T.key_of t) ≡ Way.Greater) result self.now }
-        ensures live { IfSome result (λ p. generation_at (entry_in self.now) (P.index p)
-            ≡ Some (P.generation p)) }
+        ensures live { IfSome result (λ p. Finds entry_in self.now (P.index p, P.generation p)) }
         ensures ticks { probes.new ≡ probes.old
-            + asked_down (asked_at (compares_past past T.Key.cmp) T.key_of k.now self.now)
-            (tree_in self.now) }
+            + comparisons (compares_past past T.Key.cmp) T.key_of k.now self.now }
         ensures few { probes.new ≤ probes.old + most_comparisons (size_in self.now) }
     {
         match self.seek_past(k, past, probes) {
@@ -115,11 +113,9 @@ impl<P: PtrCore, T: SimpleOrdItem + Drop, S: OrdSlots<P, T>> SimpleOrdArena<P, T
         ensures bound { IsAscending T.Key.cmp T.key_of self.now
             → IsBound P.index P.generation
             (λ t. T.Key.cmp k.now (T.key_of t) ≡ Way.Greater) result self.now }
-        ensures live { IfSome result (λ p. generation_at (entry_in self.now) (P.index p)
-            ≡ Some (P.generation p)) }
+        ensures live { IfSome result (λ p. Finds entry_in self.now (P.index p, P.generation p)) }
         ensures ticks { probes.new ≡ probes.old
-            + asked_down (asked_at (compares_past false T.Key.cmp) T.key_of k.now self.now)
-            (tree_in self.now) }
+            + comparisons (compares_past false T.Key.cmp) T.key_of k.now self.now }
         ensures few { probes.new ≤ probes.old + most_comparisons (size_in self.now) }
     {
         self.find_bound(k, false, probes)
@@ -132,8 +128,7 @@ impl<P: PtrCore, T: SimpleOrdItem + Drop, S: OrdSlots<P, T>> SimpleOrdArena<P, T
         ensures bound { IsAscending T.Key.cmp T.key_of self.now
             → IsBound P.index P.generation
             (λ t. T.Key.cmp k.now (T.key_of t) ≡ Way.Greater) result self.now }
-        ensures live { IfSome result (λ p. generation_at (entry_in self.now) (P.index p)
-            ≡ Some (P.generation p)) }
+        ensures live { IfSome result (λ p. Finds entry_in self.now (P.index p, P.generation p)) }
     {
         self.lower_bound_counted(k, &mut Probes::new())
     }
@@ -147,11 +142,9 @@ impl<P: PtrCore, T: SimpleOrdItem + Drop, S: OrdSlots<P, T>> SimpleOrdArena<P, T
         ensures bound { IsAscending T.Key.cmp T.key_of self.now
             → IsBound P.index P.generation
             (λ t. T.Key.cmp k.now (T.key_of t) ≢ Way.Less) result self.now }
-        ensures live { IfSome result (λ p. generation_at (entry_in self.now) (P.index p)
-            ≡ Some (P.generation p)) }
+        ensures live { IfSome result (λ p. Finds entry_in self.now (P.index p, P.generation p)) }
         ensures ticks { probes.new ≡ probes.old
-            + asked_down (asked_at (compares_past true T.Key.cmp) T.key_of k.now self.now)
-            (tree_in self.now) }
+            + comparisons (compares_past true T.Key.cmp) T.key_of k.now self.now }
         ensures few { probes.new ≤ probes.old + most_comparisons (size_in self.now) }
     {
         self.find_bound(k, true, probes)
@@ -164,8 +157,7 @@ impl<P: PtrCore, T: SimpleOrdItem + Drop, S: OrdSlots<P, T>> SimpleOrdArena<P, T
         ensures bound { IsAscending T.Key.cmp T.key_of self.now
             → IsBound P.index P.generation
             (λ t. T.Key.cmp k.now (T.key_of t) ≢ Way.Less) result self.now }
-        ensures live { IfSome result (λ p. generation_at (entry_in self.now) (P.index p)
-            ≡ Some (P.generation p)) }
+        ensures live { IfSome result (λ p. Finds entry_in self.now (P.index p, P.generation p)) }
     {
         self.upper_bound_counted(k, &mut Probes::new())
     }

@@ -2,11 +2,10 @@
 ghost use Rattle.std.specs.Prelude.{◌≡◌, ◌+◌, ◌≤◌, ℕ, Option};
 ghost use Rattle.std.specs.declared.cmp.Ordering.{Ordering as Way};
 ghost use Rattle.rank_tree.specs.Comparisons.{most_comparisons};
-ghost use Rattle.rank_tree.specs.Search.{IsParted};
 ghost use Rattle.rank_tree.specs.Tree.{rank_of};
-ghost use Rattle.triple_arena_ord.specs.Found.{IsFound, IsSimilar};
-ghost use Rattle.triple_arena_ord.specs.Asked.{IsAsked, AnswersBy, answer_at, found_by};
+ghost use Rattle.triple_arena_ord.specs.Asked.{IsAsked, found_by, IsWithinBound};
 ghost use Rattle.triple_arena_ord.specs.Ordered.{IsOrdered, tree_in, order_in, entry_in, size_in};
+ghost use Rattle.triple_arena_ord.specs.Found.{IsFoundByAnswers, IsSimilarByAnswers};
 
 use crate::asks::ask_down;
 use crate::{OrdSlots, SimpleOrdArena};
@@ -35,9 +34,7 @@ impl<P: PtrCore, T: Drop, S: OrdSlots<P, T>> SimpleOrdArena<P, T, S> {
         requires { F.IsAlwaysCallable f }
         ensures asked { IsAsked P.index P.generation F.step (entry_in self.now)
             (order_in self.now) f result probes.old probes.new }
-        ensures similar { (side : ℕ → ℕ × T → Way) → AnswersBy P.index P.generation F.step f side
-            → IsSimilar P.index P.generation (answer_at side self.now)
-            (IsParted (answer_at side self.now) (order_in self.now)) result self.now }
+        ensures similar { IsSimilarByAnswers P.index P.generation F.step f result self.now }
         ensures rank { probes.new ≤ probes.old + rank_of (tree_in self.now) }
         ensures bound { probes.new ≤ probes.old + most_comparisons (size_in self.now) }
         ensures ordered { IsOrdered self.now }
@@ -59,10 +56,7 @@ impl<P: PtrCore, T: Drop, S: OrdSlots<P, T>> SimpleOrdArena<P, T, S> {
         ensures asked { (asked : IsAsked P.index P.generation F.step (entry_in self.now)
             (order_in self.now) f.old result probes.old probes.new)
             × (asked.last ≡ f.new) }
-        ensures similar { (side : ℕ → ℕ × T → Way)
-            → AnswersBy P.index P.generation F.step f.old side
-            → IsSimilar P.index P.generation (answer_at side self.now)
-            (IsParted (answer_at side self.now) (order_in self.now)) result self.now }
+        ensures similar { IsSimilarByAnswers P.index P.generation F.step f.old result self.now }
         ensures rank { probes.new ≤ probes.old + rank_of (tree_in self.now) }
         ensures bound { probes.new ≤ probes.old + most_comparisons (size_in self.now) }
         ensures ordered { IsOrdered self.now }
@@ -76,13 +70,9 @@ impl<P: PtrCore, T: Drop, S: OrdSlots<P, T>> SimpleOrdArena<P, T, S> {
     where
         F: FnMut(P, &T) -> Ordering,
         requires { F.IsAlwaysCallable f }
-        ensures asked { (ticks : ℕ)
-            × IsAsked P.index P.generation F.step (entry_in self.now)
-            (order_in self.now) f result 0 ticks × (ticks ≤ rank_of (tree_in self.now))
-            × (ticks ≤ most_comparisons (size_in self.now)) }
-        ensures similar { (side : ℕ → ℕ × T → Way) → AnswersBy P.index P.generation F.step f side
-            → IsSimilar P.index P.generation (answer_at side self.now)
-            (IsParted (answer_at side self.now) (order_in self.now)) result self.now }
+        ensures asked { (ticks : ℕ) × IsAsked P.index P.generation F.step (entry_in self.now)
+            (order_in self.now) f result 0 ticks × IsWithinBound ticks self.now }
+        ensures similar { IsSimilarByAnswers P.index P.generation F.step f result self.now }
     {
         self.find_similar_with_counted(f, &mut Probes::new())
     }
@@ -98,9 +88,7 @@ impl<P: PtrCore, T: Drop, S: OrdSlots<P, T>> SimpleOrdArena<P, T, S> {
             × IsAsked P.index P.generation F.step (entry_in self.now)
             (order_in self.now) f last probes.old probes.new
             × (result ≡ found_by last) }
-        ensures found { (side : ℕ → ℕ × T → Way) → AnswersBy P.index P.generation F.step f side
-            → IsFound P.index P.generation (answer_at side self.now)
-            (IsParted (answer_at side self.now) (order_in self.now)) result self.now }
+        ensures found { IsFoundByAnswers P.index P.generation F.step f result self.now }
         ensures rank { probes.new ≤ probes.old + rank_of (tree_in self.now) }
         ensures bound { probes.new ≤ probes.old + most_comparisons (size_in self.now) }
     {
@@ -121,13 +109,9 @@ impl<P: PtrCore, T: Drop, S: OrdSlots<P, T>> SimpleOrdArena<P, T, S> {
         F: FnMut(P, &T) -> Ordering,
         requires { F.IsAlwaysCallable f }
         ensures asked { (ticks : ℕ) × (last : Option (P × Way))
-            × IsAsked P.index P.generation F.step (entry_in self.now)
-            (order_in self.now) f last 0 ticks × (result ≡ found_by last)
-            × (ticks ≤ rank_of (tree_in self.now))
-            × (ticks ≤ most_comparisons (size_in self.now)) }
-        ensures found { (side : ℕ → ℕ × T → Way) → AnswersBy P.index P.generation F.step f side
-            → IsFound P.index P.generation (answer_at side self.now)
-            (IsParted (answer_at side self.now) (order_in self.now)) result self.now }
+            × IsAsked P.index P.generation F.step (entry_in self.now) (order_in self.now) f last 0
+            ticks × (result ≡ found_by last) × IsWithinBound ticks self.now }
+        ensures found { IsFoundByAnswers P.index P.generation F.step f result self.now }
     {
         self.find_with_counted(f, &mut Probes::new())
     }

@@ -1,9 +1,9 @@
 //! Pointers to where searches end.
 ghost use Rattle.std.specs.Prelude.{◌≡◌, ◌≢◌, ℕ, Some, None, IsSome, IfSome, ⊤};
-ghost use Rattle.std.specs.Option.{option_map};
 ghost use Rattle.std.specs.declared.cmp.Ordering.{Ordering as Way};
-ghost use Rattle.triple_arena.specs.Entries.{generation_at};
 ghost use Rattle.triple_arena_ord.specs.Node.{items_in};
+ghost use Rattle.triple_arena_ord.specs.Found.{place_by};
+ghost use Rattle.triple_arena.specs.Steps.{Finds};
 
 use crate::{OrdSlots, SimpleOrdArenaNode};
 use proof_marks::unreached;
@@ -18,8 +18,7 @@ pub(crate) fn ptr_at<P: PtrCore, T: Drop, S: OrdSlots<P, T>>(
 ) -> P
     requires { IsSome (items_in chains.now (P.Inx.number i)) }
     ensures index { P.index result ≡ P.Inx.number i }
-    ensures live { generation_at (items_in chains.now) (P.index result)
-        ≡ Some (P.generation result) }
+    ensures live { Finds items_in chains.now (P.index result, P.generation result) }
 {
     match chains.get_inx(i) {
         Some(entry) => P::_from_raw(i, entry.0),
@@ -34,10 +33,8 @@ pub(crate) fn similar_at<P: PtrCore, T: Drop, S: OrdSlots<P, T>>(
 ) -> Option<(P, Ordering)>
     requires live { IfSome place (λ a. IsSome (items_in chains.now (P.Inx.number a.0))) }
     requires no_more { ⊤ }
-    ensures same { option_map {U = ℕ × Way} (λ a. (P.index a.0, a.1)) result
-        ≡ option_map (λ a. (P.Inx.number a.0, a.1)) place }
-    ensures live { IfSome result
-        (λ a. generation_at (items_in chains.now) (P.index a.0) ≡ Some (P.generation a.0)) }
+    ensures same { place_by P.index result ≡ place_by P.Inx.number place }
+    ensures live { IfSome result (λ a. Finds items_in chains.now (P.index a.0, P.generation a.0)) }
 {
     match place {
         Some((i, answer)) => Some((ptr_at(chains, i), answer)),
@@ -53,12 +50,9 @@ pub(crate) fn found_at<P: PtrCore, T: Drop, S: OrdSlots<P, T>>(
     requires live { IfSome place (λ a. IsSome (items_in chains.now (P.Inx.number a.0))) }
     requires no_more { ⊤ }
     ensures some { (p : P) → result ≡ Some p
-        → option_map {U = ℕ × Way} (λ a. (P.Inx.number a.0, a.1)) place
-        ≡ Some (P.index p, Way.Equal) }
-    ensures none { result ≡ None → (i : ℕ)
-        → option_map {U = ℕ × Way} (λ a. (P.Inx.number a.0, a.1)) place ≢ Some (i, Way.Equal) }
-    ensures live { IfSome result
-        (λ p. generation_at (items_in chains.now) (P.index p) ≡ Some (P.generation p)) }
+        → place_by P.Inx.number place ≡ Some (P.index p, Way.Equal) }
+    ensures none { result ≡ None → (i : ℕ) → place_by P.Inx.number place ≢ Some (i, Way.Equal) }
+    ensures live { IfSome result (λ p. Finds items_in chains.now (P.index p, P.generation p)) }
 {
     match place {
         Some((i, answer)) => match answer {

@@ -3,15 +3,14 @@ ghost use Rattle.std.specs.Prelude.{◌≡◌, ◌+◌, ◌≤◌, ℕ, Some, No
 ghost use Rattle.std.specs.Option.{option_map};
 ghost use Rattle.std.specs.declared.cmp.Ordering.{Ordering as Way};
 ghost use Rattle.rank_tree.specs.Comparisons.{most_comparisons};
-ghost use Rattle.triple_arena.specs.Entries.{value_if};
 ghost use Rattle.rank_tree.specs.Tree.{rank_of};
-ghost use Rattle.rank_tree.specs.Search.{IsParted, IsAnswer, asked_down};
-ghost use Rattle.triple_arena_chain.specs.Chains.{On};
-ghost use Rattle.triple_arena_ord.specs.Near.{IsEndNear, IsAtHand, IsPlaceCounted, IsKeyCounted};
-ghost use Rattle.triple_arena_ord.specs.Near.{EndsWithin, path_from};
-ghost use Rattle.triple_arena_ord.specs.Found.{IsFound, IsSimilar};
+ghost use Rattle.rank_tree.specs.Search.{IsAnswer};
+ghost use Rattle.linked_lists.specs.LinkedLists.{On};
 ghost use Rattle.triple_arena_ord.specs.Ordered.{IsOrdered, IsAscending, tree_in, order_in};
-ghost use Rattle.triple_arena_ord.specs.Ordered.{entry_in, size_in, asked_at};
+ghost use Rattle.triple_arena_ord.specs.Ordered.{entry_in, size_in, asked_at, comparisons};
+ghost use Rattle.triple_arena_ord.specs.Found.{place_by, item_found, IsFoundByKey, IsSimilarByKey};
+ghost use Rattle.triple_arena_ord.specs.Near.{IsPartedAtHand, IsKeyNear, IsPlaceNear, IsEndOfWay};
+ghost use Rattle.triple_arena_ord.specs.Near.{IsPlaceSearchCounted, IsKeySearchCounted};
 
 use crate::list_searches::walk_from;
 use crate::ord_arena::search::found::{found_at, similar_at};
@@ -31,28 +30,21 @@ impl<P: PtrCore, T: SimpleOrdItem + Drop, S: OrdSlots<P, T>> SimpleOrdArena<P, T
         k: &T::Key,
         probes: &mut Probes,
     ) -> Option<(P::Inx, Ordering)>
-        ensures answer { IsAnswer (asked_at T.Key.cmp T.key_of k.now self.now)
-            (tree_in self.now) (option_map (λ a. (P.Inx.number a.0, a.1)) result) }
+        ensures answer { IsAnswer (asked_at T.Key.cmp T.key_of k.now self.now) (tree_in self.now)
+            (place_by P.Inx.number result) }
         ensures rises { probes.old ≤ probes.new }
         ensures ticks { probes.new ≤ probes.old + (num + rank_of (tree_in self.now)) }
         ensures gone { entry_in self.now (P.Inx.number p_init) ≡ None
-            → probes.new ≡ probes.old + asked_down (asked_at T.Key.cmp T.key_of k.now self.now)
-            (tree_in self.now) }
+            → probes.new ≡ probes.old + comparisons T.Key.cmp T.key_of k.now self.now }
         ensures counted { IsSome (entry_in self.now (P.Inx.number p_init))
             → (on : On (order_in self.now) (P.Inx.number p_init))
-            → IsPlaceCounted num (asked_down (asked_at T.Key.cmp T.key_of k.now self.now)
-            (tree_in self.now))
-            (path_from (asked_at T.Key.cmp T.key_of k.now self.now) on) probes.old probes.new }
-        ensures near { IsParted (asked_at T.Key.cmp T.key_of k.now self.now)
-            (order_in self.now)
-            → IsSome (entry_in self.now (P.Inx.number p_init))
-            → IsAtHand num (asked_at T.Key.cmp T.key_of k.now self.now)
-            (order_in self.now) (P.Inx.number p_init)
-            → probes.new ≤ probes.old + num }
+            → IsPlaceSearchCounted T.Key.cmp T.key_of num k.now self.now on probes.old probes.new }
+        ensures near { IsSome (entry_in self.now (P.Inx.number p_init))
+            → IsPartedAtHand num (asked_at T.Key.cmp T.key_of k.now self.now) (order_in self.now)
+            (P.Inx.number p_init) → probes.new ≤ probes.old + num }
         ensures ends { (i : ℕ) (d : Way)
-            → EndsWithin num (asked_at T.Key.cmp T.key_of k.now self.now)
-            (order_in self.now) (P.Inx.number p_init) i d
-            → option_map {U = ℕ × Way} (λ a. (P.Inx.number a.0, a.1)) result ≡ Some (i, d) }
+            → IsEndOfWay T.Key.cmp T.key_of (P.Inx.number p_init) num k.now self.now (i, d)
+            → place_by P.Inx.number result ≡ Some (i, d) }
         ensures ordered { IsOrdered self.now }
     {
         if self.chains.get_inx(p_init).is_none() {
@@ -83,28 +75,20 @@ impl<P: PtrCore, T: SimpleOrdItem + Drop, S: OrdSlots<P, T>> SimpleOrdArena<P, T
         k: &T::Key,
         probes: &mut Probes,
     ) -> Option<P>
-        ensures found { IsFound P.index P.generation (asked_at T.Key.cmp T.key_of k.now self.now)
-            (IsAscending T.Key.cmp T.key_of self.now) result self.now }
+        ensures found { IsFoundByKey P.index P.generation T.Key.cmp T.key_of k.now result self.now }
         ensures rises { probes.old ≤ probes.new }
         ensures bound { probes.new ≤ probes.old + (num + most_comparisons (size_in self.now)) }
-        ensures gone { value_if (P.generation p_init) (entry_in self.now (P.index p_init)) ≡ None
-            → probes.new ≡ probes.old + asked_down (asked_at T.Key.cmp T.key_of k.now self.now)
-            (tree_in self.now) }
-        ensures counted { IsSome
-            (value_if (P.generation p_init) (entry_in self.now (P.index p_init)))
+        ensures gone { item_found P.index P.generation self.now p_init ≡ None
+            → probes.new ≡ probes.old + comparisons T.Key.cmp T.key_of k.now self.now }
+        ensures counted { IsSome (item_found P.index P.generation self.now p_init)
             → (on : On (order_in self.now) (P.index p_init))
-            → IsKeyCounted num (asked_down (asked_at T.Key.cmp T.key_of k.now self.now)
-            (tree_in self.now)) (asked_at T.Key.cmp T.key_of k.now self.now)
-            (path_from (asked_at T.Key.cmp T.key_of k.now self.now) on) probes.old probes.new }
+            → IsKeySearchCounted T.Key.cmp T.key_of num k.now self.now on probes.old probes.new }
         ensures near { IsAscending T.Key.cmp T.key_of self.now
-            → IsSome (value_if (P.generation p_init) (entry_in self.now (P.index p_init)))
-            → IsEndNear num (asked_at T.Key.cmp T.key_of k.now self.now)
-            (order_in self.now) (P.index p_init)
+            → IsSome (item_found P.index P.generation self.now p_init)
+            → IsKeyNear T.Key.cmp T.key_of (P.index p_init) num k.now self.now
             → probes.new ≤ probes.old + num }
-        ensures ends { IsSome
-            (value_if (P.generation p_init) (entry_in self.now (P.index p_init)))
-            → (i : ℕ) → EndsWithin num (asked_at T.Key.cmp T.key_of k.now self.now)
-            (order_in self.now) (P.index p_init) i Way.Equal
+        ensures ends { IsSome (item_found P.index P.generation self.now p_init) → (i : ℕ)
+            → IsEndOfWay T.Key.cmp T.key_of (P.index p_init) num k.now self.now (i, Way.Equal)
             → option_map P.index result ≡ Some i }
     {
         if !self.chains.contains(p_init) {
@@ -127,12 +111,9 @@ impl<P: PtrCore, T: SimpleOrdItem + Drop, S: OrdSlots<P, T>> SimpleOrdArena<P, T
     /// none. It searches in the way of `find_key_linear_counted`, with no count: along the list
     /// from the entry of `p_init` first, for at most `num` comparisons.
     pub fn find_key_linear(&self, p_init: P, num: usize, k: &T::Key) -> Option<P>
-        ensures found { IsFound P.index P.generation (asked_at T.Key.cmp T.key_of k.now self.now)
-            (IsAscending T.Key.cmp T.key_of self.now) result self.now }
-        ensures ends { IsSome
-            (value_if (P.generation p_init) (entry_in self.now (P.index p_init)))
-            → (i : ℕ) → EndsWithin num (asked_at T.Key.cmp T.key_of k.now self.now)
-            (order_in self.now) (P.index p_init) i Way.Equal
+        ensures found { IsFoundByKey P.index P.generation T.Key.cmp T.key_of k.now result self.now }
+        ensures ends { IsSome (item_found P.index P.generation self.now p_init) → (i : ℕ)
+            → IsEndOfWay T.Key.cmp T.key_of (P.index p_init) num k.now self.now (i, Way.Equal)
             → option_map P.index result ≡ Some i }
     {
         self.find_key_linear_counted(p_init, num, k, &mut Probes::new())
@@ -153,28 +134,22 @@ impl<P: PtrCore, T: SimpleOrdItem + Drop, S: OrdSlots<P, T>> SimpleOrdArena<P, T
         k: &T::Key,
         probes: &mut Probes,
     ) -> Option<(P, Ordering)>
-        ensures similar { IsSimilar P.index P.generation
-            (asked_at T.Key.cmp T.key_of k.now self.now)
-            (IsAscending T.Key.cmp T.key_of self.now) result self.now }
+        ensures similar { IsSimilarByKey P.index P.generation T.Key.cmp T.key_of k.now result
+            self.now }
         ensures rises { probes.old ≤ probes.new }
         ensures bound { probes.new ≤ probes.old + (num + most_comparisons (size_in self.now)) }
         ensures gone { entry_in self.now (P.Inx.number p_init) ≡ None
-            → probes.new ≡ probes.old + asked_down (asked_at T.Key.cmp T.key_of k.now self.now)
-            (tree_in self.now) }
+            → probes.new ≡ probes.old + comparisons T.Key.cmp T.key_of k.now self.now }
         ensures counted { IsSome (entry_in self.now (P.Inx.number p_init))
             → (on : On (order_in self.now) (P.Inx.number p_init))
-            → IsPlaceCounted num (asked_down (asked_at T.Key.cmp T.key_of k.now self.now)
-            (tree_in self.now))
-            (path_from (asked_at T.Key.cmp T.key_of k.now self.now) on) probes.old probes.new }
+            → IsPlaceSearchCounted T.Key.cmp T.key_of num k.now self.now on probes.old probes.new }
         ensures near { IsAscending T.Key.cmp T.key_of self.now
             → IsSome (entry_in self.now (P.Inx.number p_init))
-            → IsAtHand num (asked_at T.Key.cmp T.key_of k.now self.now)
-            (order_in self.now) (P.Inx.number p_init)
+            → IsPlaceNear T.Key.cmp T.key_of (P.Inx.number p_init) num k.now self.now
             → probes.new ≤ probes.old + num }
         ensures ends { (i : ℕ) (d : Way)
-            → EndsWithin num (asked_at T.Key.cmp T.key_of k.now self.now)
-            (order_in self.now) (P.Inx.number p_init) i d
-            → option_map {U = ℕ × Way} (λ a. (P.index a.0, a.1)) result ≡ Some (i, d) }
+            → IsEndOfWay T.Key.cmp T.key_of (P.Inx.number p_init) num k.now self.now (i, d)
+            → place_by P.index result ≡ Some (i, d) }
     {
         let place = self.seek_linear(p_init, num, k, probes);
         similar_at(&self.chains, place)
@@ -190,13 +165,11 @@ impl<P: PtrCore, T: SimpleOrdItem + Drop, S: OrdSlots<P, T>> SimpleOrdArena<P, T
         num: usize,
         k: &T::Key,
     ) -> Option<(P, Ordering)>
-        ensures similar { IsSimilar P.index P.generation
-            (asked_at T.Key.cmp T.key_of k.now self.now)
-            (IsAscending T.Key.cmp T.key_of self.now) result self.now }
+        ensures similar { IsSimilarByKey P.index P.generation T.Key.cmp T.key_of k.now result
+            self.now }
         ensures ends { (i : ℕ) (d : Way)
-            → EndsWithin num (asked_at T.Key.cmp T.key_of k.now self.now)
-            (order_in self.now) (P.Inx.number p_init) i d
-            → option_map {U = ℕ × Way} (λ a. (P.index a.0, a.1)) result ≡ Some (i, d) }
+            → IsEndOfWay T.Key.cmp T.key_of (P.Inx.number p_init) num k.now self.now (i, d)
+            → place_by P.index result ≡ Some (i, d) }
     {
         self.find_similar_key_linear_counted(p_init, num, k, &mut Probes::new())
     }

@@ -1,5 +1,5 @@
 use Rattle.std.proofs.Common.{rules, ◌≡◌, ◌++◌, ◌∷◌, [], Some, None, subst}
-use Rattle.triple_arena_chain.specs.Chains.{prev_in}
+use Rattle.linked_lists.specs.LinkedLists.{prev_in}
 use Rattle.triple_arena_chain.specs.Links.{ends_found, IsTakenOut}
 use Rattle.example_chain.specs.Caches.{AreByUse, IsCache}
 use Rattle.example_chain.proofs.CacheLemmas.{never_none, prev_found, parts_last, is_oldest, left}

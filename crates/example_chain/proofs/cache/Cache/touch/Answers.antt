@@ -20,7 +20,7 @@ returns-then-is_some-clause-first g c = λ front back is.
     let latest : c.args.self.now.latest ≡ Some q = search rules in
     touched index generation number old c.move_prev_to.new.self q p
     (on_some c.move_prev_to.result some c.move_prev_to.ensures.moved)
-    (value_of_get old (index p) (generation p) met.0.0) met.1 front back
+    (value_of_get old (index p) (generation p) met.0) met.2 front back
     (subst (λ l. AreByUse index generation old l (front ++ index p ∷ back)) latest is)
 
 pub returns-then-is_some-clause-cache : goal.returns-then-is_some-clause-cache
@@ -36,7 +36,7 @@ returns-then-is_some-clause-cache g c =
     let latest : c.args.self.now.latest ≡ Some q = search rules in
     touched_cache index generation number old c.move_prev_to.new.self q p
     (on_some c.move_prev_to.result some c.move_prev_to.ensures.moved)
-    (value_of_get old (index p) (generation p) met.0.0) met.1
+    (value_of_get old (index p) (generation p) met.0) met.2
     (subst (IsCache index generation old) latest c.requires)
 
 pub returns-else-is_some-clause-first : goal.returns-else-is_some-clause-first
@@ -52,7 +52,7 @@ returns-else-is_some-clause-first g c = λ front back is.
     let live_p : IsSome (get old (index p) (generation p)) = search rules in
     let live_q = get_of_value old (index q) (generation q) cache.1.live in
     let same : (index p ≢ index q) → ⊥ = λ differs.
-    let some = c.move_prev_to.ensures.variant.1 ((live_p, live_q), differs) in search (rules, some)
+    let some = c.move_prev_to.ensures.variant.1 (live_p, live_q, differs) in search (rules, some)
     in
     let at = stays index generation number old old q p same front back
     (subst (λ l. AreByUse index generation old l (front ++ index p ∷ back)) latest is) in

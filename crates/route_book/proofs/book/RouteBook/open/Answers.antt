@@ -1,65 +1,57 @@
-use Rattle.std.proofs.Common.{◌∙◌, [], ap, subst, sym, arith}
+use Rattle.std.proofs.Common.{◌≡◌, ◌∙◌, ℕ, ◌≤◌, [], None, ap, subst, sym, arith}
+use Rattle.triple_arena_stack.specs.Room.{IsBeyond, Room}
 use Rattle.triple_arena.specs.ArenaRoom.{room_of}
 use Rattle.route_lines.specs.Sound.{IsSound}
+use Rattle.route_book.specs.Rooms.{refusal_of}
 use Rattle.route_book.proofs.NewLemmas.{new_kept}
 use Rattle.route_book.proofs.RoomLemmas.{counts_long, mirror_fits, part_fits}
+use Rattle.route_book.proofs.book.RouteBook.open.Given.{Over}
 use Rattle.route_book.proofs.book.RouteBook.open.Goals as goal
+
+-- a stack with room for no more than the sum takes them all
+fits : (g : Over) (sum : ℕ)
+    → refusal_of g.P.Gen.PtrGenCore.last g.P.Inx.PtrInxCore.greatest g.B.BookBacking.limit sum
+    ≡ None
+    → (r : Room) (n : ℕ) → r ≡ g.B.BookBacking.room n → n ≤ sum
+    → IsBeyond (room_of g.P.Inx.PtrInxCore.greatest r).limit n → ⊥
+fits g sum accepted =
+    part_fits g.P.Gen.PtrGenCore.last g.P.Inx.PtrInxCore.greatest g.B.BookBacking.limit sum
+    accepted g.B.BookBacking.room g.met.B.BookBacking.beyond
 
 pub make_arenas-requires-clause-places : goal.make_arenas-requires-clause-places
 make_arenas-requires-clause-places g c =
-    let sum = c.requires.sum in
-    part_fits g.P.Gen.PtrGenCore.last g.P.Inx.PtrInxCore.greatest g.B.BookBacking.limit c.args.sum
-    c.requires.accepted g.B.BookBacking.room g.met.B.BookBacking.beyond
-    (g.B.Places.NonZeroInxGenericStack.room_at c.args.places) c.args.places
-    (g.met.B.BookBacking.places_room c.args.places) (omega (arith, sum))
+    fits g _ c.requires.accepted _ _ (g.met.B.BookBacking.places_room c.args.places)
+    (omega (arith, c.requires.sum))
 
 pub make_arenas-requires-clause-stops : goal.make_arenas-requires-clause-stops
 make_arenas-requires-clause-stops g c =
-    let sum = c.requires.sum in
-    part_fits g.P.Gen.PtrGenCore.last g.P.Inx.PtrInxCore.greatest g.B.BookBacking.limit c.args.sum
-    c.requires.accepted g.B.BookBacking.room g.met.B.BookBacking.beyond
-    (g.B.Stops.NonZeroInxGenericStack.room_at c.args.stops) c.args.stops
-    (g.met.B.BookBacking.stops_room c.args.stops) (omega (arith, sum))
+    fits g _ c.requires.accepted _ _ (g.met.B.BookBacking.stops_room c.args.stops)
+    (omega (arith, c.requires.sum))
 
 pub make_arenas-requires-clause-marks : goal.make_arenas-requires-clause-marks
 make_arenas-requires-clause-marks g c =
-    let sum = c.requires.sum in
-    part_fits g.P.Gen.PtrGenCore.last g.P.Inx.PtrInxCore.greatest g.B.BookBacking.limit c.args.sum
-    c.requires.accepted g.B.BookBacking.room g.met.B.BookBacking.beyond
-    (g.B.Marks.NonZeroInxGenericStack.room_at c.args.marks) c.args.marks
-    (g.met.B.BookBacking.marks_room c.args.marks) (omega (arith, sum))
+    fits g _ c.requires.accepted _ _ (g.met.B.BookBacking.marks_room c.args.marks)
+    (omega (arith, c.requires.sum))
 
 pub make_book-requires-clause-fits : goal.make_book-requires-clause-fits
 make_book-requires-clause-fits g c =
-    let sum = c.requires.sum in
-    part_fits g.P.Gen.PtrGenCore.last g.P.Inx.PtrInxCore.greatest g.B.BookBacking.limit c.args.sum
-    c.requires.accepted g.B.BookBacking.room g.met.B.BookBacking.beyond
-    (g.B.Book.NonZeroInxGenericStack.room_at c.args.sum) c.args.sum
-    (g.met.B.BookBacking.book_room c.args.sum) (omega (arith, sum))
+    fits g _ c.requires.accepted _ _ (g.met.B.BookBacking.book_room c.args.sum)
+    (omega (arith, c.requires.sum))
 
 pub make_mirrors-requires-clause-places : goal.make_mirrors-requires-clause-places
 make_mirrors-requires-clause-places g c =
-    let sum = c.requires.sum in
-    part_fits g.P.Gen.PtrGenCore.last g.P.Inx.PtrInxCore.greatest g.B.BookBacking.limit c.args.sum
-    c.requires.accepted g.B.BookBacking.room g.met.B.BookBacking.beyond
-    (g.B.Mirror.NonZeroInxGenericStack.room_at c.args.places) c.args.places
-    (g.met.B.BookBacking.mirror_room c.args.places) (omega (arith, sum))
+    fits g _ c.requires.accepted _ _ (g.met.B.BookBacking.mirror_room c.args.places)
+    (omega (arith, c.requires.sum))
 
 pub make_mirrors-requires-clause-stops : goal.make_mirrors-requires-clause-stops
 make_mirrors-requires-clause-stops g c =
-    let sum = c.requires.sum in
-    part_fits g.P.Gen.PtrGenCore.last g.P.Inx.PtrInxCore.greatest g.B.BookBacking.limit c.args.sum
-    c.requires.accepted g.B.BookBacking.room g.met.B.BookBacking.beyond
-    (g.B.Mirror.NonZeroInxGenericStack.room_at c.args.stops) c.args.stops
-    (g.met.B.BookBacking.mirror_room c.args.stops) (omega (arith, sum))
+    fits g _ c.requires.accepted _ _ (g.met.B.BookBacking.mirror_room c.args.stops)
+    (omega (arith, c.requires.sum))
 
 pub make_mirrors-requires-clause-marks : goal.make_mirrors-requires-clause-marks
 make_mirrors-requires-clause-marks g c =
-    let sum = c.requires.sum in
-    part_fits g.P.Gen.PtrGenCore.last g.P.Inx.PtrInxCore.greatest g.B.BookBacking.limit c.args.sum
-    c.requires.accepted g.B.BookBacking.room g.met.B.BookBacking.beyond
-    (g.B.Mirror.NonZeroInxGenericStack.room_at c.args.marks) c.args.marks
-    (g.met.B.BookBacking.mirror_room c.args.marks) (omega (arith, sum))
+    fits g _ c.requires.accepted _ _ (g.met.B.BookBacking.mirror_room c.args.marks)
+    (omega (arith, c.requires.sum))
 
 pub invariant_of-result : goal.invariant_of-result
 invariant_of-result g c =

@@ -8,6 +8,7 @@ returns-clause-result g c =
     walked_along _ _ s _ _ _ _ c.self.invariant.book c.len.ensures.formed.agreed
     (λ x y. c.stops_follow_their_previous_ones.ensures s x y sound)
     (λ front behind t known leads first. c.lists_are_walked_both_ways.ensures s front behind t sound
-    known leads first)
-    (λ t behind known leads once. c.rings_are_walked_once.ensures s t behind sound known leads once)
+    (record { known = known; leads = leads; first = first }))
+    (λ t behind known leads once. c.rings_are_walked_once.ensures s t behind sound
+    (record { known = known; leads = leads; once = once }))
     _ c.self.view_is c.args.stop _ _ c.in_ok-at.ensures.found _ c.in-Some.ensures.along

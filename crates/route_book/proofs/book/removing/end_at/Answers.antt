@@ -1,225 +1,145 @@
-use Rattle.std.proofs.Common.{◌∙◌, ap, refl, subst, sym}
+use Rattle.std.proofs.Common.{◌∙◌, ap, sym}
+use Rattle.triple_arena.specs.Content.{Content}
+use Rattle.triple_arena_chain.specs.LinkShape.{IndexLink}
+use Rattle.triple_arena_ord.specs.Ordered.{Ordered}
+use Rattle.ticket_book.specs.Tickets.{entry_at}
 use Rattle.route_lines.specs.Calls.{after_removed}
-use Rattle.route_lines.specs.Sound.{IsSound}
+use Rattle.route_lines.specs.State.{Place}
 use Rattle.route_lines.specs.declared.change.Change.TheVariants.{Remove}
 use Rattle.route_book.specs.Book.{as_book}
-use Rattle.route_book.proofs.OrderLemmas.{counts_on}
-use Rattle.route_book.proofs.RemovalLemmas.{calm_of, ends_of, found_place, place_is, place_out}
-use Rattle.route_book.proofs.RemovalLemmas.{place_ends, found_stop, link_under, stop_is, stop_out}
-use Rattle.route_book.proofs.RemovalLemmas.{stop_ends, found_mark, mark_is, mark_out, mark_ends}
-use Rattle.route_book.proofs.RemovalLemmas.{told}
+use Rattle.route_book.specs.Item.{StopView, MarkView}
+use Rattle.route_book.proofs.RemovalLemmas.{Begun, IsOut, place_is, place_out, stop_is, stop_out}
+use Rattle.route_book.proofs.RemovalLemmas.{mark_is, mark_out}
+use Rattle.route_book.proofs.book.removing.end_at.Given.{Over}
+use Rattle.route_book.proofs.book.removing.end_at.Goals.{After-changed, After-remove}
+use Rattle.route_book.proofs.book.removing.end_at.Goals.{After-remove_link_no_gen}
+use Rattle.route_book.proofs.book.removing.end_at.Goals.{After-remove-in-Mark}
 use Rattle.route_book.proofs.book.removing.end_at.Goals as goal
 
-pub returns-in-Place-clause-book : goal.returns-in-Place-clause-book
-returns-in-Place-clause-book g c =
-    let last = g.P.Gen.PtrGenCore.last in
-    let e = c.take-entry.result in
+module _ (g : Over) (c : After-changed g) where
+  -- the entry is taken, and its item goes
+  begun : Begun c.args.held.now.state.rooms c.args.held.now.state.last c.args.held.now.state
+      c.changed.result.state c.args.places.now c.args.stops.now c.args.marks.now
+      c.args.tickets.now.entries c.take-entry.new.self.entries c.take-entry.result
+      (g.P.PtrCore.index c.at-item.result) (g.P.PtrCore.generation c.at-item.result)
+      g.P.Gen.PtrGenCore.last (entry_at c.args.tickets.now (g.P.Inx.PtrInxCore.number c.args.at))
+  begun =
+      let s = c.args.held.now.state in
+      record {
+        tied = c.requires.book;
+        found = c.take-entry.ensures.found;
+        index = c.at-item.ensures.index;
+        generation = c.at-item.ensures.generation;
+        counts = c.requires.counts;
+        stood = c.take-entry.ensures.entry;
+        calm = c.requires.stands;
+        left = c.changed.ensures ∙ ap (after_removed s) c.ticket.ensures;
+        sound = c.changes_keep_states_sound.ensures.sound s (Remove c.take-entry.result.ticket) tt
+            c.requires.sound;
+        out = c.take-entry.ensures.out;
+      }
+
+  -- the item is gone, in these arenas
+  abbrev Gone : Ordered Place → Content (IndexLink StopView) → Content MarkView → Type 0
+  Gone places stops marks =
+      IsOut c.args.held.now.state.rooms c.args.held.now.state.last g.P.Gen.PtrGenCore.last
+      (entry_at c.args.tickets.now (g.P.Inx.PtrInxCore.number c.args.at))
+      (as_book c.args.held.now.state c.args.places.now c.args.stops.now c.args.marks.now)
+      (as_book c.changed.result.state places stops marks) c.take-entry.new.self.entries
+
+place : (g : Over) (c : After-remove g)
+    → Gone g (goal.at.returns-in-Place-clause-book g c).After-changed
+    c.remove.new.self c.args.stops.now c.args.marks.now
+place g c =
+    let at = (goal.at.returns-in-Place-clause-book g c).After-changed in
     let s = c.args.held.now.state in
+    let t = c.take-entry.result.ticket in
     let sound = c.requires.sound in
-    let found = c.take-entry.ensures.found in
-    let index = c.at-item.ensures.index in
-    let generation = c.at-item.ensures.generation in
-    let now = c.changed.ensures ∙ ap (after_removed s) c.ticket.ensures in
-    let kind = sym c.kind-kind.ensures ∙ c.in-Place.is in
-    let it = found_place _ _ _ _ _ _ _ c.requires.book e found _ _ index generation kind in
-    let counts = counts_on last c.requires.counts in
-    let calm = calm_of last (as_book s c.args.places.now c.args.stops.now c.args.marks.now) _ e
-    c.take-entry.ensures.entry c.requires.stands _ kind in
-    let removed = told _ _ _ _ (c.remove.ensures.value ∙ it.1.0) c.remove.ensures.exact in
     let law = c.removed_places_leave_no_reference.ensures in
-    let after = c.changes_keep_states_sound.ensures.sound s (Remove e.ticket) tt sound in
-    rw (c.take-entry.ensures.out, now)
-    (place_out _ _ _ _ _ _ _ c.requires.book e found _ _ index generation kind
-    c.len.ensures.formed.ordered c.remove.new.self _
-    counts.0 counts.1.0 calm removed _
-    (record {
-      is = place_is s e.ticket it.0 it.1.1;
-      places = λ u. law.places s e.ticket u it.0 sound it.1.1;
-      stops = λ u. law.stops s e.ticket u it.0 sound it.1.1;
-      marks = λ u. law.marks s e.ticket u it.0 sound it.1.1;
-      next = λ u. law.next s e.ticket u it.0 sound it.1.1;
-      place_count = law.place_count s e.ticket it.0 sound it.1.1;
-      stop_count = law.stop_count s e.ticket it.0 sound it.1.1;
-      mark_count = law.mark_count s e.ticket it.0 sound it.1.1;
-    }) after)
+    place_out _ _ _ _ _ _ _ _ _ _ _ _ _ _ (begun g at) (sym c.kind-kind.ensures ∙ c.in-Place.is)
+    _ _ _ c.remove.ensures.value c.len.ensures.formed.ordered _ c.remove.ensures.exact
+    (λ p own. record {
+      is = place_is s t p own;
+      places = λ u. law.places s t u p sound own;
+      stops = λ u. law.stops s t u p sound own;
+      marks = λ u. law.marks s t u p sound own;
+      next = λ u. law.next s t u p sound own;
+      place_count = law.place_count s t p sound own;
+      stop_count = law.stop_count s t p sound own;
+      mark_count = law.mark_count s t p sound own;
+    })
+
+stop : (g : Over) (c : After-remove_link_no_gen g)
+    → Gone g (goal.at.returns-in-Stop-clause-book g c).After-changed
+    c.args.places.now c.remove_link_no_gen.new.self c.args.marks.now
+stop g c =
+    let at = (goal.at.returns-in-Stop-clause-book g c).After-changed in
+    let s = c.args.held.now.state in
+    let t = c.take-entry.result.ticket in
+    let sound = c.requires.sound in
+    let law = c.removed_stops_join_their_neighbors.ensures in
+    stop_out _ _ _ _ _ _ _ _ _ _ _ _ _ _ (begun g at) (sym c.kind-kind.ensures ∙ c.in-Stop.is)
+    _ _ _ c.remove_link_no_gen.ensures.value c.len-in-Stop.ensures.formed _
+    c.remove_link_no_gen.ensures.taken
+    (λ u own. record {
+      is = stop_is s t u own;
+      stops = λ x. law.stops s t x u sound own;
+      marks = λ x. law.marks s t x u sound own;
+      next = λ x. law.next s t x u sound own;
+      stop_count = law.stop_count s t u sound own;
+      mark_count = law.mark_count s t u sound own;
+    })
+
+mark : (g : Over) (c : After-remove-in-Mark g)
+    → Gone g (goal.at.returns-in-Mark-clause-book g c).After-changed
+    c.args.places.now c.args.stops.now c.remove-in-Mark.new.self
+mark g c =
+    let at = (goal.at.returns-in-Mark-clause-book g c).After-changed in
+    let s = c.args.held.now.state in
+    let t = c.take-entry.result.ticket in
+    let sound = c.requires.sound in
+    let law = c.removed_marks_leave_all_else.ensures in
+    mark_out _ _ _ _ _ _ _ _ _ _ _ _ _ _ (begun g at) (sym c.kind-kind.ensures ∙ c.in-Mark.is)
+    _ _ _ c.remove-in-Mark.ensures.value _ c.remove-in-Mark.ensures.removed
+    c.remove-in-Mark.ensures.exact
+    (λ m own. record {
+      is = mark_is s t m own;
+      marks = λ x. law.marks s t x m sound own;
+      mark_count = law.mark_count s t m sound own;
+    })
+
+pub returns-in-Place-clause-book : goal.returns-in-Place-clause-book
+returns-in-Place-clause-book g c = (place g c).book
 
 pub returns-in-Place-clause-sound : goal.returns-in-Place-clause-sound
-returns-in-Place-clause-sound g c =
-    subst IsSound (sym (c.changed.ensures
-    ∙ ap (after_removed c.args.held.now.state) c.ticket.ensures))
-    (c.changes_keep_states_sound.ensures.sound c.args.held.now.state
-    (Remove c.take-entry.result.ticket) tt c.requires.sound)
+returns-in-Place-clause-sound g c = (place g c).sound
 
 pub returns-in-Place-clause-ends : goal.returns-in-Place-clause-ends
-returns-in-Place-clause-ends g c =
-    let last = g.P.Gen.PtrGenCore.last in
-    let e = c.take-entry.result in
-    let s = c.args.held.now.state in
-    let sound = c.requires.sound in
-    let found = c.take-entry.ensures.found in
-    let index = c.at-item.ensures.index in
-    let generation = c.at-item.ensures.generation in
-    let now = c.changed.ensures ∙ ap (after_removed s) c.ticket.ensures in
-    let kind = sym c.kind-kind.ensures ∙ c.in-Place.is in
-    let it = found_place _ _ _ _ _ _ _ c.requires.book e found _ _ index generation kind in
-    let counts = counts_on last c.requires.counts in
-    let calm = calm_of last (as_book s c.args.places.now c.args.stops.now c.args.marks.now) _ e
-    c.take-entry.ensures.entry c.requires.stands _ kind in
-    let removed = told _ _ _ _ (c.remove.ensures.value ∙ it.1.0) c.remove.ensures.exact in
-    ends_of last _ e c.take-entry.ensures.entry _ _ _ kind
-    (place_ends _ _ _ _ _ _ _ c.requires.book e found _ _ index generation kind
-    c.len.ensures.formed.ordered c.remove.new.self _
-    counts.0 counts.1.0 calm removed _ now)
+returns-in-Place-clause-ends g c = (place g c).ends
 
 pub returns-in-Place-clause-rooms : goal.returns-in-Place-clause-rooms
-returns-in-Place-clause-rooms g c =
-    let e = c.take-entry.result in
-    let found = c.take-entry.ensures.found in
-    let index = c.at-item.ensures.index in
-    let generation = c.at-item.ensures.generation in
-    let kind = sym c.kind-kind.ensures ∙ c.in-Place.is in
-    let it = found_place _ _ _ _ _ _ _ c.requires.book e found _ _ index generation kind in
-    let removed = told _ _ _ _ (c.remove.ensures.value ∙ it.1.0) c.remove.ensures.exact in
-    record { places = removed.room; stops = refl; marks = refl }
+returns-in-Place-clause-rooms g c = (place g c).rooms
 
 pub returns-in-Stop-clause-book : goal.returns-in-Stop-clause-book
-returns-in-Stop-clause-book g c =
-    let last = g.P.Gen.PtrGenCore.last in
-    let e = c.take-entry.result in
-    let s = c.args.held.now.state in
-    let sound = c.requires.sound in
-    let found = c.take-entry.ensures.found in
-    let index = c.at-item.ensures.index in
-    let generation = c.at-item.ensures.generation in
-    let now = c.changed.ensures ∙ ap (after_removed s) c.ticket.ensures in
-    let kind = sym c.kind-kind.ensures ∙ c.in-Stop.is in
-    let it = found_stop _ _ _ _ _ _ _ c.requires.book e found _ _ index generation kind in
-    let link_there = link_under c.args.stops.now (g.P.PtrCore.index c.at-item.result)
-    (g.P.PtrCore.generation c.at-item.result) _ it.1.0 in
-    let counts = counts_on last c.requires.counts in
-    let calm = calm_of last (as_book s c.args.places.now c.args.stops.now c.args.marks.now) _ e
-    c.take-entry.ensures.entry c.requires.stands _ kind in
-    let taken = told _ _ _ _ (c.remove_link_no_gen.ensures.value ∙ link_there.1)
-    c.remove_link_no_gen.ensures.taken in
-    let law = c.removed_stops_join_their_neighbors.ensures in
-    let after = c.changes_keep_states_sound.ensures.sound s (Remove e.ticket) tt sound in
-    rw (c.take-entry.ensures.out, now)
-    (stop_out _ _ _ _ _ _ _ c.requires.book e found _ _ index generation kind
-    c.len-in-Stop.ensures.formed c.remove_link_no_gen.new.self _
-    counts.0 counts.1.0 calm taken _
-    (record {
-      is = stop_is s e.ticket _ it.1.1;
-      stops = λ u. law.stops s e.ticket u _ sound it.1.1;
-      marks = λ u. law.marks s e.ticket u _ sound it.1.1;
-      next = λ u. law.next s e.ticket u _ sound it.1.1;
-      stop_count = law.stop_count s e.ticket _ sound it.1.1;
-      mark_count = law.mark_count s e.ticket _ sound it.1.1;
-    }) after)
-
-pub returns-in-Stop-clause-ends : goal.returns-in-Stop-clause-ends
-returns-in-Stop-clause-ends g c =
-    let last = g.P.Gen.PtrGenCore.last in
-    let e = c.take-entry.result in
-    let s = c.args.held.now.state in
-    let sound = c.requires.sound in
-    let found = c.take-entry.ensures.found in
-    let index = c.at-item.ensures.index in
-    let generation = c.at-item.ensures.generation in
-    let now = c.changed.ensures ∙ ap (after_removed s) c.ticket.ensures in
-    let kind = sym c.kind-kind.ensures ∙ c.in-Stop.is in
-    let it = found_stop _ _ _ _ _ _ _ c.requires.book e found _ _ index generation kind in
-    let link_there = link_under c.args.stops.now (g.P.PtrCore.index c.at-item.result)
-    (g.P.PtrCore.generation c.at-item.result) _ it.1.0 in
-    let counts = counts_on last c.requires.counts in
-    let calm = calm_of last (as_book s c.args.places.now c.args.stops.now c.args.marks.now) _ e
-    c.take-entry.ensures.entry c.requires.stands _ kind in
-    let taken = told _ _ _ _ (c.remove_link_no_gen.ensures.value ∙ link_there.1)
-    c.remove_link_no_gen.ensures.taken in
-    ends_of last _ e c.take-entry.ensures.entry _ _ _ kind
-    (stop_ends _ _ _ _ _ _ _ c.requires.book e found _ _ index generation kind
-    c.len-in-Stop.ensures.formed c.remove_link_no_gen.new.self _
-    counts.0 counts.1.0 calm taken _ now)
-
-pub returns-in-Stop-clause-rooms : goal.returns-in-Stop-clause-rooms
-returns-in-Stop-clause-rooms g c =
-    let e = c.take-entry.result in
-    let found = c.take-entry.ensures.found in
-    let index = c.at-item.ensures.index in
-    let generation = c.at-item.ensures.generation in
-    let kind = sym c.kind-kind.ensures ∙ c.in-Stop.is in
-    let it = found_stop _ _ _ _ _ _ _ c.requires.book e found _ _ index generation kind in
-    let link_there = link_under c.args.stops.now (g.P.PtrCore.index c.at-item.result)
-    (g.P.PtrCore.generation c.at-item.result) _ it.1.0 in
-    let taken = told _ _ _ _ (c.remove_link_no_gen.ensures.value ∙ link_there.1)
-    c.remove_link_no_gen.ensures.taken in
-    record { places = refl; stops = taken.room; marks = refl }
-
-pub returns-in-Mark-clause-book : goal.returns-in-Mark-clause-book
-returns-in-Mark-clause-book g c =
-    let last = g.P.Gen.PtrGenCore.last in
-    let e = c.take-entry.result in
-    let s = c.args.held.now.state in
-    let sound = c.requires.sound in
-    let found = c.take-entry.ensures.found in
-    let index = c.at-item.ensures.index in
-    let generation = c.at-item.ensures.generation in
-    let now = c.changed.ensures ∙ ap (after_removed s) c.ticket.ensures in
-    let kind = sym c.kind-kind.ensures ∙ c.in-Mark.is in
-    let it = found_mark _ _ _ _ _ _ _ c.requires.book e found _ _ index generation kind in
-    let removed = told _ _ _ _ (c.remove-in-Mark.ensures.value ∙ it.1.0)
-    c.remove-in-Mark.ensures.removed in
-    let law = c.removed_marks_leave_all_else.ensures in
-    let after = c.changes_keep_states_sound.ensures.sound s (Remove e.ticket) tt sound in
-    rw (c.take-entry.ensures.out, now)
-    (mark_out _ _ _ _ _ _ _ c.requires.book e found _ _ index generation kind
-    c.remove-in-Mark.new.self _ removed _
-    (record {
-      is = mark_is s e.ticket _ it.1.1;
-      marks = λ u. law.marks s e.ticket u _ sound it.1.1;
-      mark_count = law.mark_count s e.ticket _ sound it.1.1;
-    }) after)
-
-pub returns-in-Mark-clause-ends : goal.returns-in-Mark-clause-ends
-returns-in-Mark-clause-ends g c =
-    let last = g.P.Gen.PtrGenCore.last in
-    let e = c.take-entry.result in
-    let s = c.args.held.now.state in
-    let sound = c.requires.sound in
-    let found = c.take-entry.ensures.found in
-    let index = c.at-item.ensures.index in
-    let generation = c.at-item.ensures.generation in
-    let now = c.changed.ensures ∙ ap (after_removed s) c.ticket.ensures in
-    let kind = sym c.kind-kind.ensures ∙ c.in-Mark.is in
-    let it = found_mark _ _ _ _ _ _ _ c.requires.book e found _ _ index generation kind in
-    let removed = told _ _ _ _ (c.remove-in-Mark.ensures.value ∙ it.1.0)
-    c.remove-in-Mark.ensures.removed in
-    ends_of last _ e c.take-entry.ensures.entry _ _ _ kind
-    (mark_ends _ _ _ _ _ _ _ c.requires.book e found _ _ index generation kind
-    c.remove-in-Mark.new.self _ removed _ now
-    (told _ _ _ _ (c.remove-in-Mark.ensures.value ∙ it.1.0) c.remove-in-Mark.ensures.exact))
-
-pub returns-in-Mark-clause-rooms : goal.returns-in-Mark-clause-rooms
-returns-in-Mark-clause-rooms g c =
-    let e = c.take-entry.result in
-    let found = c.take-entry.ensures.found in
-    let index = c.at-item.ensures.index in
-    let generation = c.at-item.ensures.generation in
-    let kind = sym c.kind-kind.ensures ∙ c.in-Mark.is in
-    let it = found_mark _ _ _ _ _ _ _ c.requires.book e found _ _ index generation kind in
-    let removed = told _ _ _ _ (c.remove-in-Mark.ensures.value ∙ it.1.0)
-    c.remove-in-Mark.ensures.removed in
-    record { places = refl; stops = refl; marks = removed.room }
+returns-in-Stop-clause-book g c = (stop g c).book
 
 pub returns-in-Stop-clause-sound : goal.returns-in-Stop-clause-sound
-returns-in-Stop-clause-sound g c =
-    subst IsSound (sym (c.changed.ensures
-    ∙ ap (after_removed c.args.held.now.state) c.ticket.ensures))
-    (c.changes_keep_states_sound.ensures.sound c.args.held.now.state
-    (Remove c.take-entry.result.ticket) tt c.requires.sound)
+returns-in-Stop-clause-sound g c = (stop g c).sound
+
+pub returns-in-Stop-clause-ends : goal.returns-in-Stop-clause-ends
+returns-in-Stop-clause-ends g c = (stop g c).ends
+
+pub returns-in-Stop-clause-rooms : goal.returns-in-Stop-clause-rooms
+returns-in-Stop-clause-rooms g c = (stop g c).rooms
+
+pub returns-in-Mark-clause-book : goal.returns-in-Mark-clause-book
+returns-in-Mark-clause-book g c = (mark g c).book
 
 pub returns-in-Mark-clause-sound : goal.returns-in-Mark-clause-sound
-returns-in-Mark-clause-sound g c =
-    subst IsSound (sym (c.changed.ensures
-    ∙ ap (after_removed c.args.held.now.state) c.ticket.ensures))
-    (c.changes_keep_states_sound.ensures.sound c.args.held.now.state
-    (Remove c.take-entry.result.ticket) tt c.requires.sound)
+returns-in-Mark-clause-sound g c = (mark g c).sound
+
+pub returns-in-Mark-clause-ends : goal.returns-in-Mark-clause-ends
+returns-in-Mark-clause-ends g c = (mark g c).ends
+
+pub returns-in-Mark-clause-rooms : goal.returns-in-Mark-clause-rooms
+returns-in-Mark-clause-rooms g c = (mark g c).rooms

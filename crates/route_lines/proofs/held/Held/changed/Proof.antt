@@ -11,7 +11,7 @@ use prog.Memory.{Memory}
 use prog.Routine.{Routine}
 use prog.Wp.{Calls, Loops, WpFn, Tables}
 use types.Logic.{Logic}
-use contract.Lifetimes.{Lfts, Shares}
+use contract.Lifetimes.{AllOutlive, Lfts, Shares}
 use contract.Monad.{Fun}
 use contract.Running.{tables, tables_of}
 use sound.WpLaws.{WpFn-mono}
@@ -23,7 +23,7 @@ use denote.Exit.{yes}
 use denote.RattleType.{owns}
 use denote.Ref.{shr_vals, shr_Tells}
 use denote.Shadow.{pure_i}
-use denote.Signature.{plain, types_at}
+use denote.Signature.{plain, named_lft, types_at}
 use denote.Triple.Entry.{on_entry, alive, Args}
 use denote.Triple.Spec.{Meets, triple_of}
 use denote.Triple.Table.{entered}
@@ -40,14 +40,16 @@ use Rattle.route_lines.specs.Changes.{changed}
 abbrev stayed : Stays (f.ended).signature.params (f.ended).kept
 stayed = (
   stay_none_ref (0 ∷ []) tt (plain (λ _. held.the_row)) yes,
-  (stay_none_ref (1 ∷ []) tt (plain (λ _. change.the_row)) yes, tt),
+  (stay_none_ref (1 ∷ []) tt (plain (λ κs. change.the_row (named_lft 3 2 tt κs))) yes, tt),
 )
 
 module _ {M : Type 1} {𝓤 : Ura M} (𝓛 : Logic 𝓤) (mem : Memory → SProp 𝓤) (run : Routine → Fun 𝓤)
     (C : Calls 𝓤 𝓛.H) (Λ : Loops 𝓤 𝓛.H) where
   open 𝓛 use {H}
 
-  module _ (κs : Lfts 2) (qs : Shares 2) (a : Args f.signature κs) where
+  module _ (κs : Lfts 3) (qs : Shares 3)
+      (bounds : AllOutlive (f.ended).signature.lifetimes (f.ended).signature.outlives κs)
+      (a : Args f.signature κs) where
     abbrev before : Val
     before = vptr a.0.ref_ptr.0 a.0.ref_ptr.1
 
@@ -55,7 +57,7 @@ module _ {M : Type 1} {𝓤 : Ura M} (𝓛 : Logic 𝓤) (mem : Memory → SProp
     by = vptr a.1.0.ref_ptr.0 a.1.0.ref_ptr.1
 
     abbrev bound : (walk_of 𝓛 f.ended stayed (f.clauses 𝓛 mem run)).Ghost
-    bound = ((κs, qs, tt, a, (before ∷ [], (by ∷ [], tt))), tt)
+    bound = ((κs, qs, bounds, a, (before ∷ [], (by ∷ [], tt))), tt)
 
     abbrev passed : Fml
     passed = owns (types_at f.signature.params κs) a (before ∷ [], (by ∷ [], tt))
@@ -82,17 +84,17 @@ module _ {M : Type 1} {𝓤 : Ura M} (𝓛 : Logic 𝓤) (mem : Memory → SProp
       (λ κs. (shr_vals, (shr_vals, tt)))
       (λ κs. (
         shr_Tells (named 0) κs.0 held.the_row,
-        (shr_Tells (named 1) κs.1.0 change.the_row, tt),
+        (shr_Tells (named 1) κs.1.0 (change.the_row (named_lft 3 2 tt κs)), tt),
       ))
-      (λ κs qs bounds a g are. via 𝓤 _ (fst∗ 𝓤 _ (emp 𝓤)) (walk κs qs a))
+      (λ κs qs bounds a g are. via 𝓤 _ (fst∗ 𝓤 _ (emp 𝓤)) (walk κs qs bounds a))
 
 meets : {M : Type 1} {𝓤 : Ura M} (𝓛 : Logic 𝓤) (mem : Memory → SProp 𝓤) (run : Routine → Fun 𝓤)
     (𝓣 : Tables 𝓤 𝓛.H)
     → Meets 𝓛 f.signature (WpFn 𝓤 𝓛.H 𝓣.C 𝓣.Λ code.function) (f.spec 𝓛 mem run)
 meets {𝓤 = 𝓤} 𝓛 mem run 𝓣 =
     walk_Meets 𝓛 f.ended stayed (
-      Goes-none_ref 𝓛 2 (0 ∷ []) tt (plain (λ _. held.the_row)) yes,
-      (Goes-none_ref 𝓛 2 (1 ∷ []) tt (plain (λ _. change.the_row)) yes, tt),
+      Goes-none_ref 𝓛 3 (0 ∷ []) tt (plain (λ _. held.the_row)) yes,
+      (Goes-none_ref 𝓛 3 (1 ∷ []) tt (plain (λ κs. change.the_row (named_lft 3 2 tt κs))) yes, tt),
     ) (f.clauses 𝓛 mem run)
     (WpFn 𝓤 𝓛.H 𝓣.C 𝓣.Λ code.function)
     (WpFn-mono 𝓤 𝓛.H 𝓛.laws 𝓣 code.function) (walks 𝓛 mem run 𝓣.C 𝓣.Λ)

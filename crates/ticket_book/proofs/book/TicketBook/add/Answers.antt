@@ -1,4 +1,4 @@
-use Rattle.std.proofs.Common.{◌∙◌, ◌++◌, ◌∷◌, ◌<◌, [], ap, sym, subst, option_map, Some}
+use Rattle.std.proofs.Common.{◌∙◌, ◌++◌, ◌∷◌, ◌<◌, [], ap, sym, subst, Some}
 use Rattle.std.specs.List.{AllByRecursion}
 use Rattle.triple_arena_ord.specs.Ordered.{entry_in}
 use Rattle.ticket_book.specs.InArena.{StandByNumber, entries_of}

@@ -1,23 +1,25 @@
 use Rattle.std.proofs.Common.{◌∙◌, ap, sym, subst, ℕ, IsSome, option_map}
 use Rattle.triple_arena_ptr.specs.InvalidationOption.{value_of}
 use Rattle.ticket_book.specs.Tickets.{Entry, Tickets, entry_at, lookup, without_ticket}
-use Rattle.ticket_book.proofs.EndLemmas.{entry_taken, none_taken, numbered_taken, others_stand}
-use Rattle.ticket_book.proofs.EndLemmas.{rise_taken, taken_stood}
+use Rattle.ticket_book.proofs.EndLemmas.{IsTakenFrom, none_taken, taken_from}
 use Rattle.ticket_book.proofs.StandingLemmas.{stands_there}
 use Rattle.ticket_book.proofs.TicketLemmas.{lookup_standing}
+use Rattle.ticket_book.proofs.book.TicketBook.take.Given.{Over}
+use Rattle.ticket_book.proofs.book.TicketBook.take.Goals.{In-Some}
 use Rattle.ticket_book.proofs.book.TicketBook.take.Goals as goal
 
+taken : (g : Over) (c : In-Some g) → IsTakenFrom c.self.inside.arena c.remove_inx.new.self
+    (g.P.Inx.PtrInxCore.number c.args.at) (g.P.Gen.PtrGenCore.number c.in-Some.taken.0)
+    c.in-Some.taken.1
+taken g c =
+    taken_from _ _ c.len.ensures.formed.ordered c.self.invariant.0 g.P.Gen.PtrGenCore.number
+    value_of _ _ _ c.in-Some.taken (sym c.allow.ensures ∙ c.in-Some.is) c.remove_inx.ensures.value
+    c.remove_inx.ensures.exact
+
 pub invariant_of-self : goal.invariant_of-self
-invariant_of-self g c = (
-  rise_taken c.self.inside.arena c.remove_inx.new.self
-      c.len.ensures.formed.ordered c.self.invariant.0
-      g.P.Gen.PtrGenCore.number value_of _ _ _ c.in-Some.taken (sym c.allow.ensures ∙ c.in-Some.is)
-      c.remove_inx.ensures.value c.remove_inx.ensures.exact,
-  numbered_taken c.self.inside.arena c.remove_inx.new.self
-      c.len.ensures.formed.ordered c.self.invariant.0
-      g.P.Gen.PtrGenCore.number value_of _ _ _ c.in-Some.taken (sym c.allow.ensures ∙ c.in-Some.is)
-      c.remove_inx.ensures.value c.remove_inx.ensures.exact _ c.self.invariant.1,
-)
+invariant_of-self g c =
+    let done = taken g (goal.at.invariant_of-self g c).In-Some in
+    (done.rise, done.numbered _ c.self.invariant.1)
 
 pub returns-clause-entry : goal.returns-clause-entry
 returns-clause-entry g c =
@@ -26,10 +28,7 @@ returns-clause-entry g c =
     ∙ stands_there c.entries_stand_in_the_list.ensures c.self.inside.arena
     c.len.ensures.formed.ordered (number c.args.at)
     ∙ ap (option_map (λ (x : ℕ × Entry). x.1))
-    (taken_stood c.self.inside.arena c.remove_inx.new.self c.len.ensures.formed.ordered
-    c.self.invariant.0
-    g.P.Gen.PtrGenCore.number value_of _ _ _ c.in-Some.taken (sym c.allow.ensures ∙ c.in-Some.is)
-    c.remove_inx.ensures.value c.remove_inx.ensures.exact)
+    (taken g (goal.at.returns-clause-entry g c).In-Some).stood
 
 pub unreached-unreachable-requires : goal.unreached-unreachable-requires
 unreached-unreachable-requires g c =
@@ -44,30 +43,20 @@ unreached-unreachable-requires g c =
 pub returns-clause-found : goal.returns-clause-found
 returns-clause-found g c =
     ap (λ (book : Tickets). lookup book.entries c.in-Some.taken.1.ticket) (sym c.self.view_is)
-    ∙ lookup_standing c.entries_stand_in_the_list.ensures
-    c.self.inside.arena _ _ c.len.ensures.formed.ordered c.self.invariant.0
-    (taken_stood c.self.inside.arena c.remove_inx.new.self
+    ∙ lookup_standing c.entries_stand_in_the_list.ensures c.self.inside.arena _ _
     c.len.ensures.formed.ordered c.self.invariant.0
-    g.P.Gen.PtrGenCore.number value_of _ _ _ c.in-Some.taken (sym c.allow.ensures ∙ c.in-Some.is)
-    c.remove_inx.ensures.value c.remove_inx.ensures.exact)
+    (taken g (goal.at.returns-clause-found g c).In-Some).stood
 
 pub returns-clause-out : goal.returns-clause-out
 returns-clause-out g c =
-    entry_taken c.self.inside.arena c.remove_inx.new.self
-    c.len.ensures.formed.ordered c.self.invariant.0
-    g.P.Gen.PtrGenCore.number value_of _ _ _ c.in-Some.taken (sym c.allow.ensures ∙ c.in-Some.is)
-    c.remove_inx.ensures.value c.remove_inx.ensures.exact
+    (taken g (goal.at.returns-clause-out g c).In-Some).out
     ∙ ap (λ (book : Tickets). without_ticket c.in-Some.taken.1.ticket book.entries) c.self.view_is
 
 pub returns-clause-stay : goal.returns-clause-stay
 returns-clause-stay g c i other =
     let law = c.entries_stand_in_the_list.ensures in
-    let old = c.self.inside.arena in
-    let new = c.remove_inx.new.self in
-    stands_there law new c.remove_inx.ensures.formed.ordered i
+    stands_there law c.remove_inx.new.self c.remove_inx.ensures.formed.ordered i
     ∙ ap (option_map (λ (x : ℕ × Entry). x.1))
-    (others_stand old new c.len.ensures.formed.ordered c.self.invariant.0
-    g.P.Gen.PtrGenCore.number value_of _ _ _ c.in-Some.taken (sym c.allow.ensures ∙ c.in-Some.is)
-    c.remove_inx.ensures.value c.remove_inx.ensures.exact i other)
-    ∙ sym (stands_there law old c.len.ensures.formed.ordered i)
+    ((taken g (goal.at.returns-clause-stay g c).In-Some).others i other)
+    ∙ sym (stands_there law c.self.inside.arena c.len.ensures.formed.ordered i)
     ∙ ap (λ (book : Tickets). entry_at book i) c.self.view_is

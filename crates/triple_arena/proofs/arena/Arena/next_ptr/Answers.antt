@@ -11,13 +11,15 @@ place_of-requires-clause-fits g c =
 
 pub pointer_at-requires-clause-fits : goal.pointer_at-requires-clause-fits
 pointer_at-requires-clause-fits g c =
-    let within = head_within (sym c.place_of.ensures ∙ ap (option_map non_zero_usize_get) c.in-Some.is)
+    let within = head_within
+    (sym c.place_of.ensures ∙ ap (option_map non_zero_usize_get) c.in-Some.is)
     c.self.invariant in
     let fits = c.self.invariant.fits in
     Prim.search rules
 
 pub overflow_add-count : goal.overflow_add-count
 overflow_add-count g c =
-    let room = room_behind (sym c.place_of.ensures ∙ ap (option_map non_zero_usize_get) c.in_default.is)
+    let room = room_behind
+    (sym c.place_of.ensures ∙ ap (option_map non_zero_usize_get) c.in_default.is)
     c.self.invariant c.self.view_is c.requires in
     Prim.search rules

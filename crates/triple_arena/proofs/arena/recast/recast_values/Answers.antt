@@ -7,7 +7,19 @@ use Rattle.triple_arena.proofs.RecastingLemmas.{partly_none, partly_free, partly
 use Rattle.triple_arena.proofs.RecastingLemmas.{recasts_to, recasts_all, no_entry_there}
 use Rattle.triple_arena.proofs.arena.recast.recast_values.Goals.{then-is_live_at+in_ok-recast}
 use Rattle.triple_arena.proofs.arena.recast.recast_values.Goals.{else-is_live_at}
+use Rattle.triple_arena.proofs.arena.recast.recast_values.Goals.{After-saturating_add-i}
 use Rattle.triple_arena.proofs.arena.recast.recast_values.Goals as goal
+
+-- the slot that is looked at
+placed : (g : _) (c : After-saturating_add-i g)
+    → (c.loop-before.before < length (g.A.RecastByIndex.content c.loop-before.arena).slots)
+    × (non_zero_usize_get c.saturating_add-i.result ≡ c.loop-before.before + 1)
+placed g c =
+    let long = c.loop-before.invariant.1 in
+    let fits = c.loop-before.auto.before-end in (
+      omega (arith, c.indexes-before-end.ensures, c.loop-before-test.true, long),
+      omega (arith, c.saturating_add-i.ensures),
+    )
 
 pub value_at_mut-requires-clause-used : goal.value_at_mut-requires-clause-used
 value_at_mut-requires-clause-used g c =
@@ -21,28 +33,23 @@ loop-before-preserved g c =
     let content = g.A.RecastByIndex.content in
     let law = g.met.A.RecastByIndex in
     let l = c.loop-before in
-    let sized = c.indexes-before-end.ensures in
-    let test = c.loop-before-test.true in
-    let long = l.invariant.1 in
-    let fits = l.auto.before-end in
-    let below : l.before < length (content l.arena).slots = omega (arith, sized, test, long) in
     let i = non_zero_usize_get c.saturating_add-i.result in
-    let place : i ≡ l.before + 1 = omega (arith, c.saturating_add-i.ensures) in
+    let place = placed g (goal.at.loop-before-preserved g c).After-saturating_add-i in
     elim c.if-is_live_at.branch [
       | then-is_live_at+in_ok-recast w ↦
           let left = ap content w.arena-is ∙ law.content_written l.arena i w.recast.new.self in (
-            partly_same left (partly_live l.invariant.0 place below
+            partly_same left (partly_live l.invariant.0 place.1 place.0
                 (sym (law.value_of_entry l.arena i) ∙ w.value_at_mut.ensures.value)
                 (ap (with_value (content l.arena) i) w.recast.ensures.value)
                 w.in_ok-recast.ensures.answer),
             ap (λ d. length d.slots) left ∙ slots-with_value (content l.arena) i w.recast.new.self
-                ∙ long,
+                ∙ l.invariant.1,
           )
       | else-is_live_at w ↦ (
         partly_same (ap content w.arena-is)
-            (partly_free l.invariant.0 place below
+            (partly_free l.invariant.0 place.1 place.0
             (no_entry_there w.if-is_live_at.false c.is_live_at.ensures)),
-        ap (λ d. length (content d).slots) w.arena-is ∙ long,
+        ap (λ d. length (content d).slots) w.arena-is ∙ l.invariant.1,
       )
     ]
 
@@ -51,14 +58,9 @@ returns-in_err-recast-clause-value g c =
     let content = g.A.RecastByIndex.content in
     let law = g.met.A.RecastByIndex in
     let l = c.loop-before in
-    let sized = c.indexes-before-end.ensures in
-    let test = c.loop-before-test.true in
-    let long = l.invariant.1 in
-    let fits = l.auto.before-end in
-    let below : l.before < length (content l.arena).slots = omega (arith, sized, test, long) in
     let i = non_zero_usize_get c.saturating_add-i.result in
-    let place : i ≡ l.before + 1 = omega (arith, c.saturating_add-i.ensures) in
-    (recasts_to l.invariant.0 place below
+    let place = placed g (goal.at.returns-in_err-recast-clause-value g c).After-saturating_add-i in
+    (recasts_to l.invariant.0 place.1 place.0
     (sym (law.value_of_entry l.arena i) ∙ c.value_at_mut.ensures.value)
     (law.content_written l.arena i _ ∙ ap (with_value (content l.arena) i) c.recast.ensures.value)
     c.in_err-recast.ensures.answer).content
@@ -68,16 +70,11 @@ returns-in_err-recast-clause-answer g c =
     let content = g.A.RecastByIndex.content in
     let law = g.met.A.RecastByIndex in
     let l = c.loop-before in
-    let sized = c.indexes-before-end.ensures in
-    let test = c.loop-before-test.true in
-    let long = l.invariant.1 in
-    let fits = l.auto.before-end in
-    let below : l.before < length (content l.arena).slots = omega (arith, sized, test, long) in
     let i = non_zero_usize_get c.saturating_add-i.result in
-    let place : i ≡ l.before + 1 = omega (arith, c.saturating_add-i.ensures) in
+    let place = placed g (goal.at.returns-in_err-recast-clause-answer g c).After-saturating_add-i in
     let passed_on = err_from_is_err_and c.from_residual.result c.from_residual.ensures.1 in
     passed_on.1 ∙ ap Err passed_on.2
-    ∙ (recasts_to l.invariant.0 place below
+    ∙ (recasts_to l.invariant.0 place.1 place.0
     (sym (law.value_of_entry l.arena i) ∙ c.value_at_mut.ensures.value)
     (law.content_written l.arena i _ ∙ ap (with_value (content l.arena) i) c.recast.ensures.value)
     c.in_err-recast.ensures.answer).answer

@@ -1,5 +1,5 @@
 use Rattle.std.proofs.Common.{rules, ◌≡◌, Some, refl}
-use Rattle.triple_arena_chain.specs.Chains.{IsGap}
+use Rattle.triple_arena_chain.specs.Gaps.{IsGap}
 use Rattle.triple_arena_chain.specs.Kinds.{gap_by}
 use Rattle.triple_arena_chain.specs.Links.{ends_in, gap_among}
 use Rattle.triple_arena_chain.proofs.KindLemmas.{asked_is_gap}

@@ -1,6 +1,6 @@
 use Rattle.std.proofs.Common.{rules, ◌≡◌, Some}
 use Rattle.triple_arena.specs.Content.{grown_if_full}
-use Rattle.triple_arena_chain.specs.Chains.{IsGap}
+use Rattle.triple_arena_chain.specs.Gaps.{IsGap}
 use Rattle.triple_arena_chain.specs.Kinds.{gap_by}
 use Rattle.triple_arena_chain.specs.Links.{ends_in, gap_among}
 use Rattle.triple_arena_chain.proofs.KindLemmas.{asked_is_gap}

@@ -1,6 +1,6 @@
 use Rattle.std.proofs.Common.{rules, ◌≡◌, option_map}
 use Rattle.triple_arena.specs.Content.{grown_if_full}
-use Rattle.triple_arena_chain.specs.Chains.{IsBetween}
+use Rattle.linked_lists.specs.LinkedLists.{IsBetween}
 use Rattle.triple_arena_chain.specs.Links.{ends_in}
 use Rattle.triple_arena_chain.specs.declared.gap.Gap.TheVariants.{Between}
 use Rattle.triple_arena_chain.proofs.GrowthLemmas.{inserted-grown}

@@ -1,6 +1,6 @@
 use Rattle.std.specs.Prelude.{◌≡◌, ℕ, ◌+◌, ◌-◌, ◌<◌, ◌≤◌, false, Some, IsSome}
 use Rattle.triple_arena.specs.Content.{entry_at}
-use Rattle.triple_arena_chain.specs.Chains.{next_at, prev_at}
+use Rattle.linked_lists.specs.LinkedLists.{next_at, prev_at}
 use Rattle.triple_arena_chain.specs.Links.{ends_in}
 use Rattle.triple_arena_chain.proofs.chain_arena.ChainArena.interlinks_agree.Given as goal
 

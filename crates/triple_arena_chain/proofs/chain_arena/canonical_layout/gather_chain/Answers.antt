@@ -1,7 +1,7 @@
 use Rattle.std.proofs.Common.{true≢false, rules, ◌≡◌, ◌≢◌, ◌^◌, ◌<◌, IsSome, Some, None, length}
 use Rattle.std.proofs.Common.{option_map, sym, ap, subst, ◌∙◌, arith}
 use Rattle.triple_arena.specs.Content.{entry_at}
-use Rattle.triple_arena_chain.specs.Chains.{next_at}
+use Rattle.linked_lists.specs.LinkedLists.{next_at}
 use Rattle.triple_arena_chain.specs.Links.{ends_in}
 use Rattle.triple_arena_chain.specs.Notes.{IsBrought}
 use Rattle.triple_arena_chain.proofs.GoingLemmas.{place_first, start_live, way_first, way_last}

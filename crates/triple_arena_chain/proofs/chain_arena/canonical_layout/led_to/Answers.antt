@@ -1,5 +1,5 @@
 use Rattle.std.proofs.Common.{true≢false, ◌≡◌, Some, None, option_map, sym, ap, ◌∙◌, arith}
-use Rattle.triple_arena_chain.specs.Chains.{prev_at}
+use Rattle.linked_lists.specs.LinkedLists.{prev_at}
 use Rattle.triple_arena_chain.specs.Links.{ends_in}
 use Rattle.triple_arena_chain.proofs.NoteLemmas.{led_by, led_end, led_live, led_some, not_within}
 use Rattle.triple_arena_chain.proofs.chain_arena.canonical_layout.led_to.Goals as goal

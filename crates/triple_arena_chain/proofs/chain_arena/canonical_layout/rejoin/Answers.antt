@@ -1,11 +1,13 @@
 use Rattle.std.proofs.Common.{◌≡◌, ◌+◌, None, option_map, sym, ap, subst, ◌∙◌, arith}
-use Rattle.triple_arena_chain.specs.Chains.{next_at}
+use Rattle.linked_lists.specs.LinkedLists.{next_at}
 use Rattle.triple_arena_chain.specs.Links.{ends_in}
 use Rattle.triple_arena_chain.specs.Notes.{up_to, before_past}
 use Rattle.triple_arena_chain.proofs.PassLemmas.{live_ends}
 use Rattle.triple_arena_chain.proofs.RejoinLemmas.{IsRejoined, rejoined_none, rejoined_more}
 use Rattle.triple_arena_chain.proofs.RejoinLemmas.{rejoined_all, link_live, link_there, next_one}
 use Rattle.triple_arena_chain.proofs.RejoinLemmas.{back_live}
+use Rattle.triple_arena_chain.proofs.chain_arena.canonical_layout.rejoin.Given.{Over}
+use Rattle.triple_arena_chain.proofs.chain_arena.canonical_layout.rejoin.Goals.{After-parted-back}
 use Rattle.triple_arena_chain.proofs.chain_arena.canonical_layout.rejoin.Goals as goal
 
 pub link-init : goal.link-init
@@ -44,61 +46,50 @@ read_next-requires-clause-live g c =
     more c.behind-i.ensures
     c.set_prev.ensures
 
+module _ (g : Over) (c : After-parted-back g) where
+  -- where the link leads
+  next_is : option_map g.P.Inx.PtrInxCore.number c.read_next.result
+      ≡ next_at (ends_in c.args.arena.now) (c.link.count + 1)
+  next_is =
+      let number = g.P.Inx.PtrInxCore.number in
+      c.read_next.ensures
+      ∙ next_one c.args.len c.link.count (option_map number c.link.before) c.args.arena.now
+      c.link.arena c.set_prev.new.arena c.set_prev.new.arena (number c.behind-i.result) None
+      c.requires.rejoinable c.link.invariant.rejoined c.link-test.true c.behind-i.ensures
+      c.set_prev.ensures (number c.behind-i.result)
+      ∙ ap (next_at (ends_in c.args.arena.now)) c.behind-i.ensures
+
+  back_is : option_map g.P.Inx.PtrInxCore.number c.parted-back.result.0
+      ≡ up_to (c.link.count + 1) (next_at (ends_in c.args.arena.now) (c.link.count + 1))
+  back_is = c.parted-back.ensures.back ∙ ap (up_to (c.link.count + 1)) next_is
+
 pub set_prev-requires-in-link-clause-live : goal.set_prev-requires-in-link-clause-live
 set_prev-requires-in-link-clause-live g c =
     let number = g.P.Inx.PtrInxCore.number in
-    let r = c.link.invariant.rejoined in
-    let more = c.link-test.true in
-    let next_is : option_map number c.read_next.result
-    ≡ next_at (ends_in c.args.arena.now) (c.link.count + 1) =
-    c.read_next.ensures
-    ∙ next_one c.args.len c.link.count (option_map number c.link.before) c.args.arena.now
-    c.link.arena
-    c.set_prev.new.arena c.set_prev.new.arena (number c.behind-i.result) None c.requires.rejoinable
-    r
-    more c.behind-i.ensures
-    c.set_prev.ensures (number c.behind-i.result)
-    ∙ ap (next_at (ends_in c.args.arena.now)) c.behind-i.ensures in
-    let back_is : option_map number c.parted-back.result.0
-    ≡ up_to (c.link.count + 1) (next_at (ends_in c.args.arena.now) (c.link.count + 1)) =
-    c.parted-back.ensures.back ∙ ap (up_to (c.link.count + 1)) next_is in
     back_live c.args.len c.link.count (option_map number c.link.before) c.args.arena.now
-    c.link.arena
-    c.set_prev.new.arena c.set_prev.new.arena (number c.behind-i.result)
+    c.link.arena c.set_prev.new.arena c.set_prev.new.arena (number c.behind-i.result)
     (option_map number c.parted-back.result.0)
-    c.requires.rejoinable r more
-    c.behind-i.ensures c.set_prev.ensures back_is
+    c.requires.rejoinable c.link.invariant.rejoined c.link-test.true
+    c.behind-i.ensures c.set_prev.ensures
+    (back_is g (goal.at.set_prev-requires-in-link-clause-live g c).After-parted-back)
 
 pub link-preserved : goal.link-preserved
 link-preserved g c =
     let number = g.P.Inx.PtrInxCore.number in
-    let r = c.link.invariant.rejoined in
     let more = c.link-test.true in
-    let next_is : option_map number c.read_next.result
-    ≡ next_at (ends_in c.args.arena.now) (c.link.count + 1) =
-    c.read_next.ensures
-    ∙ next_one c.args.len c.link.count (option_map number c.link.before) c.args.arena.now
-    c.link.arena
-    c.set_prev.new.arena c.set_prev.new.arena (number c.behind-i.result) None c.requires.rejoinable
-    r
-    more c.behind-i.ensures
-    c.set_prev.ensures (number c.behind-i.result)
-    ∙ ap (next_at (ends_in c.args.arena.now)) c.behind-i.ensures in
-    let back_is : option_map number c.parted-back.result.0
-    ≡ up_to (c.link.count + 1) (next_at (ends_in c.args.arena.now) (c.link.count + 1)) =
-    c.parted-back.ensures.back ∙ ap (up_to (c.link.count + 1)) next_is in
+    let at = (goal.at.link-preserved g c).After-parted-back in
     record {
       rejoined =
           rejoined_more c.args.len c.link.count (option_map number c.link.before) c.args.arena.now
-          c.link.arena
-          c.set_prev.new.arena c.set_prev-in-link.new.arena (number c.behind-i.result)
-          (option_map number c.parted-back.result.0) c.requires.rejoinable r more
-          c.behind-i.ensures c.set_prev.ensures back_is c.set_prev-in-link.ensures
+          c.link.arena c.set_prev.new.arena c.set_prev-in-link.new.arena (number c.behind-i.result)
+          (option_map number c.parted-back.result.0)
+          c.requires.rejoinable c.link.invariant.rejoined more
+          c.behind-i.ensures c.set_prev.ensures (back_is g at) c.set_prev-in-link.ensures
           (option_map number c.parted-back.result.1)
           (c.parted-back.ensures.before
           ∙ ap (λ i. before_past (c.link.count + 1) i (option_map number c.read_next.result))
           c.behind-i.ensures
-          ∙ ap (before_past (c.link.count + 1) (c.link.count + 1)) next_is);
+          ∙ ap (before_past (c.link.count + 1) (c.link.count + 1)) (next_is g at));
       within = omega (arith, more);
     }
 

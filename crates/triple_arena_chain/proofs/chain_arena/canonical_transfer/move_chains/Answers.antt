@@ -32,12 +32,7 @@ chain-init g c =
 
 pub chain_start-start-requires-clause-chained : goal.chain_start-start-requires-clause-chained
 chain_start-start-requires-clause-chained g c =
-    left_chained g.Q.PtrCore.index g.Q.PtrCore.generation g.P.PtrCore.index g.P.PtrCore.generation
-    (goal.F-step g) c.args.map
-    g.Q.Gen.PtrGenCore.last c.args.source.now (g.P.Gen.PtrGenCore.number c.args.generation)
-    c.args.target.now.room
-    c.requires.chained c.chain.advancer.low c.chain.map c.chain.source c.chain.target
-    c.chain.invariant.moved
+    left_chained _ _ _ _ _ _ _ _ _ _ c.requires.chained _ _ _ _ c.chain.invariant.moved
 
 pub link-init : goal.link-init
 link-init g c =
@@ -47,12 +42,9 @@ link-init g c =
     let next = passed_by c.chain.advancer c.advance.new.self (g.Q.PtrCore.index c.in-Some.p) rises
     after in
     let way =
-    way_taken g.Q.PtrCore.index g.Q.PtrCore.generation g.P.PtrCore.index g.P.PtrCore.generation
-    (goal.F-step g) c.args.map
-    g.Q.Gen.PtrGenCore.last c.args.source.now (g.P.Gen.PtrGenCore.number c.args.generation)
-    c.args.target.now.room
-    c.requires.chained c.chain.advancer (g.Q.PtrCore.index c.in-Some.p)
-    (g.Q.PtrCore.generation c.in-Some.p) (g.Q.Inx.PtrInxCore.number c.inx.result)
+    way_taken _ _ _ _ _ _ _ _ _ _ c.requires.chained c.chain.advancer
+    (g.Q.PtrCore.index c.in-Some.p) (g.Q.PtrCore.generation c.in-Some.p)
+    (g.Q.Inx.PtrInxCore.number c.inx.result)
     (g.Q.Inx.PtrInxCore.number c.chain_start-start.result)
     (g.P.Inx.PtrInxCore.number c.behind-first.result) c.chain.map c.chain.source c.chain.target
     c.chain.invariant.moved (c.in-Some.ensures).given.0 rises c.inx.ensures
@@ -85,15 +77,7 @@ link_done : (g : Over) (c : After-append_link g)
     c.append_link.new.target
 link_done g c =
     let room = ap capacity c.link.invariant.way.2.moved.placed.own in
-    link_moved g.Q.PtrCore.index g.Q.PtrCore.generation g.P.PtrCore.index g.P.PtrCore.generation
-    (goal.F-step g) c.args.map
-    g.Q.Gen.PtrGenCore.last c.args.source.now (g.P.Gen.PtrGenCore.number c.args.generation)
-    c.args.target.now.room
-    c.requires.chained c.link.invariant.way.0 (g.Q.Inx.PtrInxCore.number c.chain_start-start.result)
-    (g.Q.Inx.PtrInxCore.number c.link.at)
-    (g.P.Inx.PtrInxCore.number c.behind-first.result)
-    (option_map g.P.Inx.PtrInxCore.number c.link.last) c.link.map c.link.source c.link.target
-    c.link.invariant.way.2
+    link_moved _ _ _ _ _ _ _ _ _ _ c.requires.chained _ _ _ _ _ _ _ _ c.link.invariant.way.2
     c.map-t.new.self c.take_link-taken.new.source c.append_link.new.target
     c.take_link-taken.result.0 c.take_link-taken.result.1
     (option_map g.Q.Inx.PtrInxCore.number c.take_link-taken.result.2)
@@ -120,14 +104,7 @@ link_done g c =
 pub behind-place-requires-clause-fits : goal.behind-place-requires-clause-fits
 behind-place-requires-clause-fits g c =
     let fits =
-    way_fits g.Q.PtrCore.index g.Q.PtrCore.generation g.P.PtrCore.index g.P.PtrCore.generation
-    (goal.F-step g) c.args.map
-    g.Q.Gen.PtrGenCore.last c.args.source.now (g.P.Gen.PtrGenCore.number c.args.generation)
-    c.args.target.now.room
-    c.requires.chained c.link.invariant.way.0 (g.Q.Inx.PtrInxCore.number c.chain_start-start.result)
-    (g.Q.Inx.PtrInxCore.number c.link.at) (g.P.Inx.PtrInxCore.number c.behind-first.result)
-    (option_map g.P.Inx.PtrInxCore.number c.link.last) c.link.map c.link.source c.link.target
-    c.link.invariant.way.2 in
+    way_fits _ _ _ _ _ _ _ _ _ _ c.requires.chained _ _ _ _ _ _ _ _ c.link.invariant.way.2 in
     omega (
       arith,
       fits,
@@ -180,73 +157,34 @@ chain-preserved g c =
 
 nothing : (g : Over) (c : goal.After-drop-map g) (j : ℕ) → entry_at c.chain.source j ≡ None
 nothing g c =
-    none_at_all g.Q.PtrCore.index g.Q.PtrCore.generation g.P.PtrCore.index g.P.PtrCore.generation
-    (goal.F-step g) c.args.map
-    g.Q.Gen.PtrGenCore.last c.args.source.now (g.P.Gen.PtrGenCore.number c.args.generation)
-    c.args.target.now.room
-    c.requires.chained c.chain.advancer c.chain.map c.chain.source c.chain.target
-    c.chain.invariant.moved (c.in_default.ensures).given.0 c.chain.invariant.reaches
+    none_at_all _ _ _ _ _ _ _ _ _ _ c.requires.chained c.chain.advancer _ _ _
+    c.chain.invariant.moved
+    (c.in_default.ensures).given.0 c.chain.invariant.reaches
 
 pub returns-clause-moved : goal.returns-clause-moved
 returns-clause-moved g c =
-    moved_in_order g.Q.PtrCore.index g.Q.PtrCore.generation g.P.PtrCore.index g.P.PtrCore.generation
-    (goal.F-step g) c.args.map
-    g.Q.Gen.PtrGenCore.last c.args.source.now (g.P.Gen.PtrGenCore.number c.args.generation)
-    c.args.target.now.room
-    c.chain.advancer.low c.chain.map c.chain.source c.chain.target c.requires.chained
-    c.chain.invariant.moved (nothing g c)
+    moved_in_order c.requires.chained c.chain.invariant.moved (nothing g c)
 
 pub returns-clause-formed : goal.returns-clause-formed
 returns-clause-formed g c =
-    moved_chained g.Q.PtrCore.index g.Q.PtrCore.generation g.P.PtrCore.index g.P.PtrCore.generation
-    (goal.F-step g) c.args.map
-    g.Q.Gen.PtrGenCore.last c.args.source.now (g.P.Gen.PtrGenCore.number c.args.generation)
-    c.args.target.now.room
-    c.chain.advancer.low c.chain.map c.chain.source c.chain.target c.requires.chained
-    c.chain.invariant.moved (nothing g c)
+    moved_chained c.requires.chained c.chain.invariant.moved (nothing g c)
 
 pub returns-clause-emptied : goal.returns-clause-emptied
 returns-clause-emptied g c =
-    nothing_left g.Q.PtrCore.index g.Q.PtrCore.generation g.P.PtrCore.index g.P.PtrCore.generation
-    (goal.F-step g) c.args.map
-    g.Q.Gen.PtrGenCore.last c.args.source.now (g.P.Gen.PtrGenCore.number c.args.generation)
-    c.args.target.now.room
-    c.chain.advancer.low c.chain.map c.chain.source c.chain.target c.requires.chained
-    c.chain.invariant.moved (nothing g c)
+    nothing_left c.requires.chained c.chain.invariant.moved (nothing g c)
 
 pub returns-clause-counter : goal.returns-clause-counter
 returns-clause-counter g c =
-    stepped_for_each g.Q.PtrCore.index g.Q.PtrCore.generation g.P.PtrCore.index
-    g.P.PtrCore.generation (goal.F-step g)
-    c.args.map
-    g.Q.Gen.PtrGenCore.last c.args.source.now (g.P.Gen.PtrGenCore.number c.args.generation)
-    c.args.target.now.room
-    c.chain.advancer.low c.chain.map c.chain.source c.chain.target c.requires.chained
-    c.chain.invariant.moved (nothing g c)
+    stepped_for_each c.requires.chained c.chain.invariant.moved (nothing g c)
 
 pub returns-clause-room : goal.returns-clause-room
 returns-clause-room g c =
-    room_left g.Q.PtrCore.index g.Q.PtrCore.generation g.P.PtrCore.index g.P.PtrCore.generation
-    (goal.F-step g) c.args.map
-    g.Q.Gen.PtrGenCore.last c.args.source.now (g.P.Gen.PtrGenCore.number c.args.generation)
-    c.args.target.now.room
-    c.chain.advancer.low c.chain.map c.chain.source c.chain.target c.requires.chained
-    c.chain.invariant.moved (nothing g c)
+    room_left c.requires.chained c.chain.invariant.moved (nothing g c)
 
 pub returns-clause-filled : goal.returns-clause-filled
 returns-clause-filled g c =
-    moved_filled g.Q.PtrCore.index g.Q.PtrCore.generation g.P.PtrCore.index g.P.PtrCore.generation
-    (goal.F-step g) c.args.map
-    g.Q.Gen.PtrGenCore.last c.args.source.now (g.P.Gen.PtrGenCore.number c.args.generation)
-    c.args.target.now.room
-    c.chain.advancer.low c.chain.map c.chain.source c.chain.target c.requires.chained
-    c.chain.invariant.moved (nothing g c) c.args.target.now
+    moved_filled c.requires.chained c.chain.invariant.moved (nothing g c) c.args.target.now
 
 pub returns-clause-source_formed : goal.returns-clause-source_formed
 returns-clause-source_formed g c =
-    left_chained g.Q.PtrCore.index g.Q.PtrCore.generation g.P.PtrCore.index g.P.PtrCore.generation
-    (goal.F-step g) c.args.map
-    g.Q.Gen.PtrGenCore.last c.args.source.now (g.P.Gen.PtrGenCore.number c.args.generation)
-    c.args.target.now.room
-    c.requires.chained c.chain.advancer.low c.chain.map c.chain.source c.chain.target
-    c.chain.invariant.moved
+    left_chained _ _ _ _ _ _ _ _ _ _ c.requires.chained _ _ _ _ c.chain.invariant.moved

@@ -1,6 +1,6 @@
 use Rattle.std.proofs.Common.{option_map}
 use Rattle.std.proofs.Common.{◌≡◌, ◌≤◌, Some, IsSome, sym, ap, subst, ◌∙◌}
-use Rattle.triple_arena_chain.specs.Chains.{next_at}
+use Rattle.linked_lists.specs.LinkedLists.{next_at}
 use Rattle.triple_arena.specs.Content.{entry_at}
 use Rattle.triple_arena.specs.Walk.{past}
 use Rattle.triple_arena_chain.specs.Links.{ends_in}

@@ -1,7 +1,7 @@
 use Rattle.std.proofs.Common.{◌≡◌, ◌≤◌, Some, IsSome, option_map, sym, subst, ◌∙◌}
 use Rattle.triple_arena.specs.Content.{entry_at}
 use Rattle.triple_arena.specs.Walk.{past}
-use Rattle.triple_arena_chain.specs.Chains.{next_at}
+use Rattle.linked_lists.specs.LinkedLists.{next_at}
 use Rattle.triple_arena_chain.specs.Links.{ends_in}
 use Rattle.triple_arena.specs.WalkLaws.{passed_by}
 use Rattle.triple_arena_chain.proofs.PassLemmas.{found_live, IsJoined, unchanged, live_as}

@@ -1,6 +1,6 @@
 use Rattle.std.proofs.Common.{refl, sym, ap, ◌∙◌, subst, arith}
 use Rattle.std.specs.Option.{option_map}
-use Rattle.triple_arena_ord.specs.Ordered.{Ordered, IsAscending, order_in}
+use Rattle.triple_arena_ord.specs.Ordered.{Ordered, IsAscending, order_in, ordered_by}
 use Rattle.triple_arena_ord.proofs.LinearLemmas.{empty_ascends}
 use Rattle.triple_arena_ord.proofs.ord_arena.SimpleOrdArena._check_invariants.Goals as goal
 
@@ -10,7 +10,7 @@ returns-in_default-clause-ascends g c =
     let cmp = g.T.Key.Ord.cmp in
     let key = g.T.SimpleOrdItem.key_of in
     let o : Ordered g.row.T.Denot =
-    record { chains = c.this.inside.chains; root = option_map number c.this.inside.root } in
+    ordered_by number c.this.inside.chains c.this.inside.root in
     let empty = empty_ascends cmp key o
     (sym c.this.invariant.1 ∙ ap (option_map number) c.in_default.is) in
     (λ _. subst (λ z. IsAscending cmp key z) c.this.view_is empty, λ _. refl)
@@ -21,7 +21,7 @@ returns-then-ascends-clause-ascends g c =
     let cmp = g.T.Key.Ord.cmp in
     let key = g.T.SimpleOrdItem.key_of in
     let o : Ordered g.row.T.Denot =
-    record { chains = c.this.inside.chains; root = option_map number c.this.inside.root } in
+    ordered_by number c.this.inside.chains c.this.inside.root in
     let is = c.this.invariant.0 in
     let counted = is.counted in
     let most = c.len-most.ensures.value in
@@ -38,7 +38,7 @@ returns-else-ascends-clause-ascends g c =
     let cmp = g.T.Key.Ord.cmp in
     let key = g.T.SimpleOrdItem.key_of in
     let o : Ordered g.row.T.Denot =
-    record { chains = c.this.inside.chains; root = option_map number c.this.inside.root } in
+    ordered_by number c.this.inside.chains c.this.inside.root in
     let is = c.this.invariant.0 in
     let counted = is.counted in
     let most = c.len-most.ensures.value in

@@ -1,21 +1,17 @@
 use Rattle.std.proofs.Common.{rules, sym, ap, ◌∙◌, None, inl, inr, subst}
-use Rattle.std.specs.Option.{option_map}
 use Rattle.triple_arena_ptr.specs.Generation.{second_generation}
 use Rattle.triple_arena.specs.ArenaRoom.{room_of}
 use Rattle.triple_arena.specs.Content.{empty}
-use Rattle.triple_arena_chain.specs.Chains.{first_or, last_or}
+use Rattle.linked_lists.specs.LinkedLists.{first_or, last_or}
 use Rattle.triple_arena_ord.specs.Copies.{last_inx, IsClone}
 use Rattle.triple_arena_ord.specs.Indexed.{listed_item}
-use Rattle.triple_arena_ord.specs.Ordered.{Ordered}
+use Rattle.triple_arena_ord.specs.Ordered.{Ordered, ordered_by}
 use Rattle.triple_arena_ord.proofs.CloneLemmas.{Cloned, cloned, error_kept, listed_as_item}
 use Rattle.triple_arena_ord.proofs.ord_arena.SimpleOrdArena.clone.Goals as goal
 use Rattle.triple_arena_ord.proofs.ord_arena.SimpleOrdArena.clone.Goals.{In-Ok}
 
 abbrev source : (g : _) (c : In-Ok g) → Ordered g.row.T.Denot
-source g c = record {
-  chains = c.self.inside.chains;
-  root = option_map g.P.Inx.PtrInxCore.number c.self.inside.root;
-}
+source g c = ordered_by g.P.Inx.PtrInxCore.number c.self.inside.chains c.self.inside.root
 
 abbrev clone_of : (g : _) (c : In-Ok g) (s : Ordered g.row.T.Denot)
     → Ordered g.row.T.Denot → Type 0

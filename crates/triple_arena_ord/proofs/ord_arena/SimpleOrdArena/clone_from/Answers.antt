@@ -1,17 +1,13 @@
 use Rattle.std.proofs.Common.{rules, sym, ap, ◌∙◌, None}
-use Rattle.std.specs.Option.{option_map}
-use Rattle.triple_arena_chain.specs.Chains.{first_or, last_or}
+use Rattle.linked_lists.specs.LinkedLists.{first_or, last_or}
 use Rattle.triple_arena_ord.specs.Indexed.{listed_item}
-use Rattle.triple_arena_ord.specs.Ordered.{Ordered}
+use Rattle.triple_arena_ord.specs.Ordered.{Ordered, ordered_by}
 use Rattle.triple_arena_ord.proofs.CloneLemmas.{Cloned, cloned, listed_as_item, unmade_none}
 use Rattle.triple_arena_ord.proofs.ord_arena.SimpleOrdArena.clone_from.Goals as goal
 use Rattle.triple_arena_ord.proofs.ord_arena.SimpleOrdArena.clone_from.Goals.{In-Ok}
 
 abbrev given : (g : _) (c : In-Ok g) → Ordered g.row.T.Denot
-given g c = record {
-  chains = c.source.inside.chains;
-  root = option_map g.P.Inx.PtrInxCore.number c.source.inside.root;
-}
+given g c = ordered_by g.P.Inx.PtrInxCore.number c.source.inside.chains c.source.inside.root
 
 made : (g : _) (c : In-Ok g)
     → Cloned c.self.inside.chains (given g c)
@@ -40,7 +36,7 @@ pub returns-then-is_empty-clause-unmade : goal.returns-then-is_empty-clause-unma
 returns-then-is_empty-clause-unmade g c =
     let number = g.P.Inx.PtrInxCore.number in
     let o : Ordered g.row.T.Denot =
-    record { chains = c.self.inside.chains; root = option_map number c.self.inside.root } in
+    ordered_by number c.self.inside.chains c.self.inside.root in
     rw (← c.self.view_is, ← c.source.view_is)
     (λ failed. unmade_none o c.clone_from.new.self c.self.invariant.0 _ _ _ _ _
     (λ refuses never. refuses (λ k e at.

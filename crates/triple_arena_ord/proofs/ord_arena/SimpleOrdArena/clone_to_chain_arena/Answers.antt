@@ -1,7 +1,7 @@
 use Rattle.std.proofs.Common.{inl, inr, subst}
 use Rattle.triple_arena.specs.Copy.{IsMappedCopy, IsRefusedCopy}
 use Rattle.triple_arena_chain.specs.Listed.{listed_values}
-use Rattle.triple_arena_chain.specs.Lists.{Linear}
+use Rattle.linked_lists.specs.Chains.{Linear}
 use Rattle.triple_arena_chain.specs.LinkCopyLaws.{on_ok, chains_where}
 use Rattle.triple_arena_ord.proofs.ItemCopyLemmas.{items-listed}
 use Rattle.triple_arena_ord.proofs.ord_arena.SimpleOrdArena.clone_to_chain_arena.Goals as goal

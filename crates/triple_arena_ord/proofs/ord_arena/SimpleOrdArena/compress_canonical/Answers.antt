@@ -1,8 +1,7 @@
 use Rattle.std.proofs.Common.{◌≡◌, None, sym, ap, subst, ◌∙◌}
 use Rattle.std.specs.List.{range_with_len}
-use Rattle.std.specs.Option.{option_map}
-use Rattle.triple_arena_chain.specs.Chains.{first_or, last_or}
-use Rattle.triple_arena_ord.specs.Ordered.{Ordered, size_in}
+use Rattle.linked_lists.specs.LinkedLists.{first_or, last_or}
+use Rattle.triple_arena_ord.specs.Ordered.{Ordered, size_in, ordered_by}
 use Rattle.triple_arena_ord.specs.CanonicalLayout.{IsLaidInOrder}
 use Rattle.triple_arena_ord.proofs.CanonicalLayoutLemmas.{Laid, laid_by, run_linear}
 use Rattle.triple_arena_ord.proofs.ord_arena.SimpleOrdArena.compress_canonical.Goals as goal
@@ -12,28 +11,23 @@ pub rebuild_run-self-inside-requires-clause-linear :
 rebuild_run-self-inside-requires-clause-linear g c =
     let number = g.P.Inx.PtrInxCore.number in
     let o : Ordered g.row.T.Denot =
-    record { chains = c.self.inside.chains; root = option_map number c.self.inside.root } in
+    ordered_by number c.self.inside.chains c.self.inside.root in
     run_linear g.P.Gen.PtrGenCore.last c.args.reset o c.compress_canonical-answer.new.self
     c.self.invariant.0
     c.compress_canonical-answer.ensures.canonical
 
 done : (g : _) (c : goal.After-self-3-1 g)
     → Laid g.P.Gen.PtrGenCore.last c.args.reset
-    (record {
-      chains = c.self.inside.chains;
-      root = option_map g.P.Inx.PtrInxCore.number c.self.inside.root;
-    })
+    (ordered_by g.P.Inx.PtrInxCore.number c.self.inside.chains c.self.inside.root)
     c.compress_canonical-answer.new.self c.self.invariant.0
     c.compress_canonical-answer.ensures.canonical
-    (record {
-      chains = c.rebuild_run-self-inside.new.chains;
-      root = option_map g.P.Inx.PtrInxCore.number c.rebuild_run-self-inside.result;
-    })
+    (ordered_by g.P.Inx.PtrInxCore.number c.rebuild_run-self-inside.new.chains
+    c.rebuild_run-self-inside.result)
 done g c =
     let number = g.P.Inx.PtrInxCore.number in
     let last = g.P.Gen.PtrGenCore.last in
     let o : Ordered g.row.T.Denot =
-    record { chains = c.self.inside.chains; root = option_map number c.self.inside.root } in
+    ordered_by number c.self.inside.chains c.self.inside.root in
     laid_by last c.args.reset o c.compress_canonical-answer.new.self c.self.invariant.0
     c.compress_canonical-answer.ensures.canonical _
     c.rebuild_run-self-inside.ensures.keeps c.rebuild_run-self-inside.ensures.rebuilt
@@ -42,7 +36,7 @@ pub invariant_of-self : goal.invariant_of-self
 invariant_of-self g c =
     let number = g.P.Inx.PtrInxCore.number in
     let o : Ordered g.row.T.Denot =
-    record { chains = c.self.inside.chains; root = option_map number c.self.inside.root } in
+    ordered_by number c.self.inside.chains c.self.inside.root in
     let d = done g c in
     let size : c.len.result ≡ size_in o = c.len.ensures.value
     ∙ c.compress_canonical-answer.ensures.canonical.live in (
@@ -57,10 +51,7 @@ pub returns-clause-laid : goal.returns-clause-laid
 returns-clause-laid g c =
     let number = g.P.Inx.PtrInxCore.number in
     let p : Ordered g.row.T.Denot =
-    record {
-      chains = c.rebuild_run-self-inside.new.chains;
-      root = option_map number c.rebuild_run-self-inside.result;
-    } in
+    ordered_by number c.rebuild_run-self-inside.new.chains c.rebuild_run-self-inside.result in
     subst (λ z. IsLaidInOrder g.P.Gen.PtrGenCore.last c.args.reset z p) c.self.view_is
     (done g c).laid
 

@@ -1,9 +1,10 @@
-use Rattle.std.proofs.Common.{◌≡◌, ◌∙◌, ℕ, IsSome, Option, Some, None, refl, ap, subst, option_map}
+use Rattle.std.proofs.Common.{◌≡◌, ◌∙◌, ℕ, IsSome, Option, Some, refl, ap, subst}
 use Rattle.std.specs.declared.cmp.Ordering.{Ordering}
 use Rattle.std.specs.declared.cmp.Ordering.TheVariants.{Less, Equal, Greater}
 use Rattle.rank_tree.specs.Search.{IsAnswer}
-use Rattle.triple_arena_ord.specs.Bounds.{IsBound, compares_past}
+use Rattle.triple_arena_ord.specs.Bounds.{compares_past}
 use Rattle.triple_arena_ord.specs.Ordered.{asked_at, entry_in, tree_in}
+use Rattle.triple_arena_ord.specs.Found.{place_by}
 use Rattle.triple_arena_ord.proofs.BoundLemmas.{bound_behind, bound_here, bound_never, bound_none}
 use Rattle.triple_arena_ord.proofs.LiveLemmas.{counted_entry}
 use Rattle.triple_arena_ord.proofs.SeekLemmas.{few}
@@ -17,7 +18,7 @@ lives g c =
     let number = g.P.Inx.PtrInxCore.number in
     counted_entry c.args.self.now c.seek_past.ensures.ordered (number c.in-Some.last.0)
     (c.seek_past.ensures.answer.lives (number c.in-Some.last.0) c.in-Some.last.1
-    (ap (option_map {U = ℕ × Ordering} (λ a. (number a.0, a.1))) c.in-Some.is))
+    (ap (place_by number) c.in-Some.is))
 
 -- and the last answer was this
 ended : (g : _) (c : In-Some g) (d : Ordering) → c.in-Some.last.1 ≡ d
@@ -28,7 +29,7 @@ ended g c d same =
     let number = g.P.Inx.PtrInxCore.number in
     subst (IsAnswer (asked_at (compares_past c.args.past g.T.Key.Ord.cmp)
     g.T.SimpleOrdItem.key_of c.args.k.now c.args.self.now) (tree_in c.args.self.now))
-    (ap (option_map {U = ℕ × Ordering} (λ a. (number a.0, a.1))) c.in-Some.is
+    (ap (place_by number) c.in-Some.is
     ∙ ap (λ e. (let o : Option (ℕ × Ordering) = Some (number c.in-Some.last.0, e) in o)) same)
     c.seek_past.ensures.answer
 
@@ -85,5 +86,5 @@ returns-in-None-clause-bound g c = λ ascending.
     c.args.self.now c.seek_past.ensures.ordered g.P.PtrCore.index g.P.PtrCore.generation
     (subst (IsAnswer (asked_at (compares_past c.args.past g.T.Key.Ord.cmp)
     g.T.SimpleOrdItem.key_of c.args.k.now c.args.self.now) (tree_in c.args.self.now))
-    (ap (option_map {U = ℕ × Ordering} (λ a. (number a.0, a.1))) c.in-None.is)
+    (ap (place_by number) c.in-None.is)
     c.seek_past.ensures.answer)

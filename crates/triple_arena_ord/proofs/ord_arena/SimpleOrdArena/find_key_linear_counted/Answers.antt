@@ -4,7 +4,7 @@ use Rattle.std.specs.declared.cmp.Ordering.{Ordering}
 use Rattle.std.specs.declared.cmp.Ordering.TheVariants.{Equal}
 use Rattle.triple_arena_ord.specs.Near.{IsEndNear, EndsWithin}
 use Rattle.triple_arena_ord.specs.Ordered.{Ordered, IsOrdered, IsAscending, order_in, entry_in}
-use Rattle.triple_arena_ord.specs.Ordered.{asked_at}
+use Rattle.triple_arena_ord.specs.Ordered.{asked_at, ordered_by}
 use Rattle.triple_arena_ord.proofs.SeekLemmas.{parts_at}
 use Rattle.triple_arena_ord.proofs.FoundLemmas.{found_from}
 use Rattle.triple_arena_ord.proofs.LinearLemmas.{pointed_lives, not_missed, on_chain, stops_live}
@@ -16,10 +16,7 @@ use Rattle.triple_arena_ord.proofs.ord_arena.SimpleOrdArena.find_key_linear_coun
 
 module _ (g : Over) (c : After-inx g) where
   abbrev inside : Ordered g.row.T.Denot
-  inside = record {
-    chains = c.self.inside.chains;
-    root = option_map g.P.Inx.PtrInxCore.number c.self.inside.root;
-  }
+  inside = ordered_by g.P.Inx.PtrInxCore.number c.self.inside.chains c.self.inside.root
 
   -- the walk begins at an entry
   lives : IsSome (entry_in inside (g.P.Inx.PtrInxCore.number c.inx.result))
@@ -78,7 +75,7 @@ returns-in-Some-clause-found g c =
     c.found_at.ensures.live))
 
 pub returns-in-None-clause-near : goal.returns-in-None-clause-near
-returns-in-None-clause-near g c = λ ascending there end.
+returns-in-None-clause-near g c = λ ascending there near.
     let number = g.P.Inx.PtrInxCore.number in
     let cmp = g.T.Key.Ord.cmp in
     let key = g.T.SimpleOrdItem.key_of in
@@ -91,7 +88,7 @@ returns-in-None-clause-near g c = λ ascending there end.
     (c.found_at.ensures.none c.in-None.is)
     (parts_at cmp key k g.met.T.Key.Ord.total o (ordered g start) ascending)
     (subst (IsEndNear c.args.num (asked_at cmp key k o) (order_in o)) (sym c.inx.ensures)
-    end))
+    near))
 
 pub returns-in-Some-clause-gone : goal.returns-in-Some-clause-gone
 returns-in-Some-clause-gone g c =

@@ -31,14 +31,15 @@ returns-clause-bound g c =
     few_more _ _ _ _ c.seek_linear-place.ensures.ordered c.seek_linear-place.ensures.ticks
 
 pub returns-clause-near : goal.returns-clause-near
-returns-clause-near g c = λ ascending lives hand.
+returns-clause-near g c = λ ascending lives near.
     let cmp = g.T.Key.Ord.cmp in
     let key = g.T.SimpleOrdItem.key_of in
     let k = c.args.k.now in
     let o = c.args.self.now in
-    c.seek_linear-place.ensures.near
-    (parts_at cmp key k g.met.T.Key.Ord.total o c.seek_linear-place.ensures.ordered
-    ascending) lives hand
+    c.seek_linear-place.ensures.near lives (
+      parts_at cmp key k g.met.T.Key.Ord.total o c.seek_linear-place.ensures.ordered ascending,
+      near,
+    )
 
 pub returns-clause-ends : goal.returns-clause-ends
 returns-clause-ends g c = λ i d ends.

@@ -13,6 +13,5 @@ returns-clause-asked g c =
           (entry_in c.args.self.now) (order_in c.args.self.now) c.args.f
           c.find_similar_with_counted.result z c.find_similar_with_counted.new.probes)
           none c.find_similar_with_counted.ensures.asked,
-      omega (arith, none, rank),
-      omega (arith, none, bound),
+      (omega (arith, none, rank), omega (arith, none, bound)),
     )

@@ -15,6 +15,5 @@ returns-clause-asked g c =
           c.find_with_counted.ensures.asked.0 z c.find_with_counted.new.probes)
           none c.find_with_counted.ensures.asked.1,
       c.find_with_counted.ensures.asked.2,
-      omega (arith, none, rank),
-      omega (arith, none, bound),
+      (omega (arith, none, rank), omega (arith, none, bound)),
     )

@@ -1,20 +1,22 @@
 use Rattle.std.proofs.Common.{refl, sym, ap, ◌∙◌, None}
-use Rattle.std.specs.Option.{option_map}
-use Rattle.triple_arena_chain.specs.Chains.{first_or, last_or}
-use Rattle.triple_arena_ord.specs.Ordered.{Ordered}
+use Rattle.linked_lists.specs.LinkedLists.{first_or, last_or}
+use Rattle.triple_arena_ord.specs.Ordered.{ordered_by}
+use Rattle.triple_arena_ord.proofs.SameListLemmas.{Reordered}
 use Rattle.triple_arena_ord.proofs.StateLemmas.{same_slots_list}
+use Rattle.triple_arena_ord.proofs.ord_arena.SimpleOrdArena.inc_generation.Goals.{After-inc_generation}
 use Rattle.triple_arena_ord.proofs.ord_arena.SimpleOrdArena.inc_generation.Goals as goal
+
+same : (g : _) (c : After-inc_generation g)
+    → Reordered
+    (ordered_by g.P.Inx.PtrInxCore.number c.self.inside.chains c.self.inside.root)
+    (ordered_by g.P.Inx.PtrInxCore.number c.inc_generation.new.self c.self.inside.root)
+same g c =
+    same_slots_list _ _ refl (ap (λ c. c.slots) c.inc_generation.ensures.exact)
+    c.self.invariant.0
 
 pub invariant_of-self : goal.invariant_of-self
 invariant_of-self g c =
-    let number = g.P.Inx.PtrInxCore.number in
-    let o : Ordered g.row.T.Denot =
-    record { chains = c.self.inside.chains; root = option_map number c.self.inside.root } in
-    let p : Ordered g.row.T.Denot =
-    record { chains = c.inc_generation.new.self; root = option_map number c.self.inside.root }
-    in
-    let r = same_slots_list o p refl (ap (λ c. c.slots) c.inc_generation.ensures.exact)
-    c.self.invariant.0 in (
+    let r = same g (goal.at.invariant_of-self g c).After-inc_generation in (
       r.ordered,
       c.self.invariant.1 ∙ ap (λ l. first_or l None) (sym r.order),
       c.self.invariant.2 ∙ ap (last_or None) (sym r.order),
@@ -22,12 +24,4 @@ invariant_of-self g c =
 
 pub returns-clause-ordered : goal.returns-clause-ordered
 returns-clause-ordered g c =
-    let number = g.P.Inx.PtrInxCore.number in
-    let o : Ordered g.row.T.Denot =
-    record { chains = c.self.inside.chains; root = option_map number c.self.inside.root } in
-    let p : Ordered g.row.T.Denot =
-    record { chains = c.inc_generation.new.self; root = option_map number c.self.inside.root }
-    in
-    let r = same_slots_list o p refl (ap (λ c. c.slots) c.inc_generation.ensures.exact)
-    c.self.invariant.0 in
-    r.ordered
+    (same g (goal.at.returns-clause-ordered g c).After-inc_generation).ordered

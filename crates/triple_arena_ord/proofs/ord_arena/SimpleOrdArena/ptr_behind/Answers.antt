@@ -1,5 +1,5 @@
 use Rattle.std.proofs.Common.{◌≡◌, ◌∙◌, ap, sym, subst, option_map, IsSome, Some}
-use Rattle.triple_arena_chain.specs.Chains.{next_in, next_at}
+use Rattle.linked_lists.specs.LinkedLists.{next_in, next_at}
 use Rattle.triple_arena_chain.specs.Links.{ends_in}
 use Rattle.triple_arena_ord.specs.Node.{nodes_in}
 use Rattle.triple_arena_ord.specs.Ordered.{Ordered}

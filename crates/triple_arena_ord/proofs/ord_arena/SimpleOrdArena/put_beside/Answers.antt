@@ -1,6 +1,5 @@
 use Rattle.std.proofs.Common.{sym, ◌∙◌, subst}
-use Rattle.std.specs.Option.{option_map}
-use Rattle.triple_arena_ord.specs.Ordered.{Ordered, StandsBeside, order_in}
+use Rattle.triple_arena_ord.specs.Ordered.{Ordered, StandsBeside, order_in, ordered_by}
 use Rattle.triple_arena_ord.proofs.EndLemmas.{first_moved, last_moved}
 use Rattle.triple_arena_ord.proofs.ord_arena.SimpleOrdArena.put_beside.Goals as goal
 
@@ -8,12 +7,9 @@ pub invariant_of-self : goal.invariant_of-self
 invariant_of-self g c =
     let number = g.P.Inx.PtrInxCore.number in
     let o : Ordered g.row.T.Denot =
-    record { chains = c.self.inside.chains; root = option_map number c.self.inside.root } in
+    ordered_by number c.self.inside.chains c.self.inside.root in
     let p : Ordered g.row.T.Denot =
-    record {
-      chains = c.insert_leaf-p.new.chains;
-      root = option_map number c.insert_leaf-p.new.root;
-    } in
+    ordered_by number c.insert_leaf-p.new.chains c.insert_leaf-p.new.root in
     let s : StandsBeside c.args.side (order_in o) (order_in p) (number c.args.holder)
     (number c.inx-inx.result) =
     subst (λ z. StandsBeside c.args.side (order_in o) (order_in p)

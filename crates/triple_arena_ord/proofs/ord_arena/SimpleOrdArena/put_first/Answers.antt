@@ -1,8 +1,8 @@
-use Rattle.std.proofs.Common.{◌≡◌, Some, None, ap, sym, subst, ◌∙◌, option_map}
+use Rattle.std.proofs.Common.{Some, None, ap, sym, subst, ◌∙◌}
 use Rattle.triple_arena_chain.specs.declared.gap.Gap.TheVariants.{Between}
-use Rattle.triple_arena_chain.specs.Chains.{first_or, last_or}
+use Rattle.linked_lists.specs.LinkedLists.{first_or, last_or}
 use Rattle.triple_arena_chain.specs.Links.{IsLinkInserted}
-use Rattle.triple_arena_ord.specs.Ordered.{Ordered}
+use Rattle.triple_arena_ord.specs.Ordered.{Ordered, ordered_by}
 use Rattle.triple_arena_ord.specs.Inserted.{AddsAt}
 use Rattle.triple_arena_ord.proofs.FirstLemmas.{first_order, first_ordered, first_added}
 use Rattle.triple_arena_ord.proofs.ord_arena.SimpleOrdArena.put_first.Goals as goal
@@ -11,7 +11,7 @@ pub invariant_of-self : goal.invariant_of-self
 invariant_of-self g c =
     let number = g.P.Inx.PtrInxCore.number in
     let o : Ordered g.row.T.Denot =
-    record { chains = c.self.inside.chains; root = option_map number c.self.inside.root } in
+    ordered_by number c.self.inside.chains c.self.inside.root in
     let put = subst (λ v. IsLinkInserted (Between None None) (g.P.PtrCore.index c.in-Ok.p)
     (g.P.PtrCore.generation c.in-Ok.p) v c.self.inside.chains
     c.insert_in_gap_within_capacity.new.self) c.under-node.ensures c.in-Ok.ensures.inserted in
@@ -27,7 +27,7 @@ pub returns : goal.returns
 returns g c =
     let number = g.P.Inx.PtrInxCore.number in
     let o : Ordered g.row.T.Denot =
-    record { chains = c.self.inside.chains; root = option_map number c.self.inside.root } in
+    ordered_by number c.self.inside.chains c.self.inside.root in
     let made : Ordered g.row.T.Denot =
     record {
       chains = c.insert_in_gap_within_capacity.new.self;

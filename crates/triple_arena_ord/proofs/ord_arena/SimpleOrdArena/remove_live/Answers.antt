@@ -1,9 +1,9 @@
 use Rattle.std.proofs.Common.{◌≡◌, Some, ap, sym, ◌∙◌, subst}
 use Rattle.std.specs.Option.{option_map}
 use Rattle.triple_arena_ptr.specs.Generation.{next_wraps}
-use Rattle.triple_arena_chain.specs.Chains.{next_in, next_at}
+use Rattle.linked_lists.specs.LinkedLists.{next_in, next_at}
 use Rattle.triple_arena_chain.specs.Links.{ends_in}
-use Rattle.triple_arena_ord.specs.Ordered.{Ordered}
+use Rattle.triple_arena_ord.specs.Ordered.{Ordered, ordered_by}
 use Rattle.triple_arena_ord.specs.Removal.{IsEntryRemoved}
 use Rattle.triple_arena_ord.proofs.LostEnds.{first_lost, last_lost}
 use Rattle.triple_arena_ord.proofs.UprootingLemmas.{removed}
@@ -19,12 +19,9 @@ pub invariant_of-self : goal.invariant_of-self
 invariant_of-self g c =
     let number = g.P.Inx.PtrInxCore.number in
     let o : Ordered g.row.T.Denot =
-    record { chains = c.self.inside.chains; root = option_map number c.self.inside.root } in
+    ordered_by number c.self.inside.chains c.self.inside.root in
     let p : Ordered g.row.T.Denot =
-    record {
-      chains = c.take_entry-taken.new.chains;
-      root = option_map number c.take_entry-taken.new.root;
-    } in
+    ordered_by number c.take_entry-taken.new.chains c.take_entry-taken.new.root in
     let h = number c.args.gone in
     let prev = option_map number c.args.prev in
     let next = option_map number c.args.next in
@@ -42,12 +39,9 @@ pub returns-clause-removed : goal.returns-clause-removed
 returns-clause-removed g c =
     let number = g.P.Inx.PtrInxCore.number in
     let o : Ordered g.row.T.Denot =
-    record { chains = c.self.inside.chains; root = option_map number c.self.inside.root } in
+    ordered_by number c.self.inside.chains c.self.inside.root in
     let p : Ordered g.row.T.Denot =
-    record {
-      chains = c.take_entry-taken.new.chains;
-      root = option_map number c.take_entry-taken.new.root;
-    } in
+    ordered_by number c.take_entry-taken.new.chains c.take_entry-taken.new.root in
     let h = number c.args.gone in
     let last = g.P.Gen.PtrGenCore.last in
     let done = c.take_entry-taken.ensures in

@@ -1,19 +1,18 @@
-use Rattle.std.proofs.Common.{◌≡◌, ℕ, ◌+◌, Bool, Option, Some, None, IsSome, refl, sym, ap, ◌∙◌}
+use Rattle.std.proofs.Common.{◌≡◌, ℕ, ◌+◌, Bool, Option, Some, IsSome, refl, sym, ap, ◌∙◌}
 use Rattle.std.proofs.Common.{subst, option_map, arith, true, false, true≢false}
 use Rattle.std.specs.Ordering.{is_eq, is_lt}
 use Rattle.std.specs.declared.cmp.Ordering.{Ordering}
 use Rattle.std.specs.declared.cmp.Ordering.TheVariants.{Less, Equal, Greater}
-use Rattle.rank_tree.specs.Store.{Store}
 use Rattle.rank_tree.specs.Tree.{Tree}
 use Rattle.rank_tree.specs.Search.{IsAnswer, IsFreeAt}
 use Rattle.rank_tree.specs.NodeView.{NodeView}
 use Rattle.triple_arena_chain.specs.Links.{values_in}
 use Rattle.triple_arena_ord.specs.Node.{nodes_in}
 use Rattle.triple_arena_ord.specs.Ordered.{asked_at}
-use Rattle.rank_tree.specs.DescentLaws.{Descent, falls_down, descent_ends, descent_asked}
+use Rattle.rank_tree.specs.DescentLaws.{falls_down, descent_ends, descent_asked}
 use Rattle.rank_tree.specs.DescentLaws.{descent_lives}
 use Rattle.triple_arena_ord.proofs.SeekLemmas.{Step, seek_begins, seek_step, seek_ends, no_child}
-use Rattle.triple_arena_ord.proofs.SeekLemmas.{leaf_ends}
+use Rattle.triple_arena_ord.proofs.SeekLemmas.{leaf_ends, less_of, named_so, some_of}
 use Rattle.triple_arena_ord.proofs.ord_arena.SimpleOrdArena.seek.Goals.{After-cmp-answer}
 use Rattle.triple_arena_ord.proofs.ord_arena.SimpleOrdArena.seek.Goals as goal
 
@@ -22,23 +21,11 @@ equal_of Less is e h = absurd (true≢false (sym h ∙ e))
 equal_of Equal is e h = refl
 equal_of Greater is e h = absurd (true≢false (sym h ∙ e))
 
-less_of : (o : Ordering) (is : Bool) → is ≡ is_lt o → is ≡ true → o ≡ Less
-less_of Less is e h = refl
-less_of Equal is e h = absurd (true≢false (sym h ∙ e))
-less_of Greater is e h = absurd (true≢false (sym h ∙ e))
-
 greater_of : (o : Ordering) (is less : Bool) → is ≡ is_eq o → is ≡ false → less ≡ is_lt o
     → less ≡ false → o ≡ Greater
 greater_of Less is less e h f k = absurd (true≢false (sym f ∙ k))
 greater_of Equal is less e h f k = absurd (true≢false (sym e ∙ h))
 greater_of Greater is less e h f k = refl
-
--- an answer by another name
-named_so : (n : Store) (f : ℕ → Ordering) (t : Tree) (link : Option ℕ) (i : ℕ) (d e : Ordering)
-    (asked : ℕ)
-    → d ≡ e → Descent n f t link (Some (i, e)) asked → Descent n f t link (Some (i, d)) asked
-named_so n f t link i d e asked same =
-    subst (λ o. Descent n f t link (Some (i, o)) asked) (sym same)
 
 answered_so : (f : ℕ → Ordering) (t : Tree) (i : ℕ) (d e : Ordering) → d ≡ e
     → IsAnswer f t (Some (i, e)) → IsAnswer f t (Some (i, d))
@@ -46,10 +33,6 @@ answered_so f t i d e same = subst (λ o. IsAnswer f t (Some (i, o))) (sym same)
 
 lives_so : (v : Option NodeView) (d : Ordering) → d ≡ Equal → IsSome v → IsFreeAt d v
 lives_so v d same = subst (λ o. IsFreeAt o v) (sym same)
-
-some_of : {A B : Type 0} (f : A → B) (v : Option A) → IsSome (option_map f v) → IsSome v
-some_of f None h = absurd (cc)
-some_of f (Some a) h = refl
 
 pub get_inx_unwrap-node-requires : goal.get_inx_unwrap-node-requires
 get_inx_unwrap-node-requires g c =

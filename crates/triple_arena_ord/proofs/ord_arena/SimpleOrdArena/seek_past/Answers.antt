@@ -1,41 +1,23 @@
-use Rattle.std.proofs.Common.{◌≡◌, ◌≢◌, ℕ, ◌+◌, Bool, Option, Some, None, IsSome, refl, sym, ap}
-use Rattle.std.proofs.Common.{◌∙◌}
-use Rattle.std.proofs.Common.{subst, option_map, arith, true, false, true≢false}
+use Rattle.std.proofs.Common.{◌≡◌, ◌≢◌, ◌+◌, Bool, IsSome, refl, sym, ap, ◌∙◌}
+use Rattle.std.proofs.Common.{subst, option_map, arith, false, true≢false}
 use Rattle.std.specs.Ordering.{is_lt}
 use Rattle.std.specs.declared.cmp.Ordering.{Ordering}
 use Rattle.std.specs.declared.cmp.Ordering.TheVariants.{Less, Equal, Greater}
-use Rattle.rank_tree.specs.Store.{Store}
-use Rattle.rank_tree.specs.Tree.{Tree}
 use Rattle.triple_arena_chain.specs.Links.{values_in}
 use Rattle.triple_arena_ord.specs.Bounds.{compares_past, way_past}
 use Rattle.triple_arena_ord.specs.Node.{nodes_in}
 use Rattle.triple_arena_ord.specs.Ordered.{asked_at}
-use Rattle.rank_tree.specs.DescentLaws.{Descent, falls_down, descent_ends, descent_asked}
+use Rattle.rank_tree.specs.DescentLaws.{falls_down, descent_ends, descent_asked}
 use Rattle.rank_tree.specs.DescentLaws.{descent_lives}
-use Rattle.triple_arena_ord.proofs.SeekLemmas.{Step, seek_begins, seek_step}
+use Rattle.triple_arena_ord.proofs.SeekLemmas.{Step, seek_begins, seek_step, less_of}
+use Rattle.triple_arena_ord.proofs.SeekLemmas.{named_so, some_of}
 use Rattle.triple_arena_ord.proofs.ord_arena.SimpleOrdArena.seek_past.Goals.{After-way_past-answer}
 use Rattle.triple_arena_ord.proofs.ord_arena.SimpleOrdArena.seek_past.Goals as goal
-
-less_of : (o : Ordering) (is : Bool) → is ≡ is_lt o → is ≡ true → o ≡ Less
-less_of Less is e h = refl
-less_of Equal is e h = absurd (true≢false (sym h ∙ e))
-less_of Greater is e h = absurd (true≢false (sym h ∙ e))
 
 greater_of : (o : Ordering) (less : Bool) → less ≡ is_lt o → less ≡ false → o ≢ Equal → o ≡ Greater
 greater_of Less less f k turns = absurd (true≢false (sym f ∙ k))
 greater_of Equal less f k turns = absurd (turns refl)
 greater_of Greater less f k turns = refl
-
--- an answer by another name
-named_so : (n : Store) (f : ℕ → Ordering) (t : Tree) (link : Option ℕ) (i : ℕ) (d e : Ordering)
-    (asked : ℕ)
-    → d ≡ e → Descent n f t link (Some (i, e)) asked → Descent n f t link (Some (i, d)) asked
-named_so n f t link i d e asked same =
-    subst (λ o. Descent n f t link (Some (i, o)) asked) (sym same)
-
-some_of : {A B : Type 0} (f : A → B) (v : Option A) → IsSome (option_map f v) → IsSome v
-some_of f None h = absurd (cc)
-some_of f (Some a) h = refl
 
 pub get_inx_unwrap-node-requires : goal.get_inx_unwrap-node-requires
 get_inx_unwrap-node-requires g c =

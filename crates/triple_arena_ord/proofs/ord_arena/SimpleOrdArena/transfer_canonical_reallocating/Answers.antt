@@ -1,9 +1,9 @@
-use Rattle.std.proofs.Common.{◌≡◌, None, option_map, sym, ap, ◌∙◌}
+use Rattle.std.proofs.Common.{◌≡◌, None, sym, ap, ◌∙◌}
 use Rattle.std.specs.List.{range_with_len}
 use Rattle.triple_arena.specs.ArenaRoom.{room_with}
 use Rattle.triple_arena.specs.Content.{live_count}
-use Rattle.triple_arena_chain.specs.Chains.{first_or, last_or}
-use Rattle.triple_arena_ord.specs.Ordered.{Ordered, size_in}
+use Rattle.linked_lists.specs.LinkedLists.{first_or, last_or}
+use Rattle.triple_arena_ord.specs.Ordered.{Ordered, size_in, ordered_by}
 use Rattle.triple_arena_ord.proofs.CanonicalTransferLemmas.{Transferred, transferred_by}
 use Rattle.triple_arena_ord.proofs.CanonicalTransferLemmas.{transferred_along, nodes_are}
 use Rattle.triple_arena_ord.proofs.CanonicalTransferLemmas.{run_linear}
@@ -14,35 +14,29 @@ pub rebuild_run-self-inside-requires-clause-linear :
 rebuild_run-self-inside-requires-clause-linear g c =
     let before = g.Q.Inx.PtrInxCore.number in
     let o : Ordered g.row.U.Denot =
-    record { chains = c.source.inside.chains; root = option_map before c.source.inside.root } in
+    ordered_by before c.source.inside.chains c.source.inside.root in
     let m = c.in_ok-move_items.ensures.moved in
     run_linear o c.source.invariant.0 c.move_items.new.target m.0
     m.1.0 c.in_ok-move_items.ensures.filled.live
 
 done : (g : _) (c : goal.After-self-3-1 g)
     → Transferred
-    (record {
-      chains = c.source.inside.chains;
-      root = option_map g.Q.Inx.PtrInxCore.number c.source.inside.root;
-    }) c.source.invariant.0
+    (ordered_by g.Q.Inx.PtrInxCore.number c.source.inside.chains c.source.inside.root)
+    c.source.invariant.0
     c.move_items.new.target
     c.in_ok-move_items.ensures.moved.0 c.in_ok-move_items.ensures.moved.1.0
     c.in_ok-move_items.ensures.filled.live
     (g.P.Gen.PtrGenCore.number c.args.new_generation)
     (room_with (live_count c.source.inside.chains) c.self.inside.chains.room)
     c.self.inside.chains
-    (record {
-      chains = c.self.inside.chains;
-      root = option_map g.P.Inx.PtrInxCore.number c.self.inside.root;
-    }) c.in_ok-move_items.ensures.filled
-    (record {
-      chains = c.rebuild_run-self-inside.new.chains;
-      root = option_map g.P.Inx.PtrInxCore.number c.rebuild_run-self-inside.result;
-    })
+    (ordered_by g.P.Inx.PtrInxCore.number c.self.inside.chains c.self.inside.root)
+    c.in_ok-move_items.ensures.filled
+    (ordered_by g.P.Inx.PtrInxCore.number c.rebuild_run-self-inside.new.chains
+    c.rebuild_run-self-inside.result)
 done g c =
     let before = g.Q.Inx.PtrInxCore.number in
     let o : Ordered g.row.U.Denot =
-    record { chains = c.source.inside.chains; root = option_map before c.source.inside.root } in
+    ordered_by before c.source.inside.chains c.source.inside.root in
     let m = c.in_ok-move_items.ensures.moved in
     transferred_by o c.source.invariant.0 c.move_items.new.target m.0 m.1.0
     c.in_ok-move_items.ensures.filled.live _ _ _ _
@@ -52,10 +46,7 @@ done g c =
 pub invariant_of-self-2 : goal.invariant_of-self-2
 invariant_of-self-2 g c =
     let o : Ordered g.row.U.Denot =
-    record {
-      chains = c.source.inside.chains;
-      root = option_map g.Q.Inx.PtrInxCore.number c.source.inside.root;
-    } in
+    ordered_by g.Q.Inx.PtrInxCore.number c.source.inside.chains c.source.inside.root in
     let d = done g c in
     let size : c.len.result ≡ size_in o = c.len.ensures.value
     ∙ c.in_ok-move_items.ensures.filled.live in (
@@ -71,7 +62,7 @@ returns-clause-moved g c =
     let before = g.Q.Inx.PtrInxCore.number in
     let number = g.P.Inx.PtrInxCore.number in
     let o : Ordered g.row.U.Denot =
-    record { chains = c.source.inside.chains; root = option_map before c.source.inside.root } in
+    ordered_by before c.source.inside.chains c.source.inside.root in
     let d = done g c in
     let m = c.in_ok-move_items.ensures.moved in
     rw (← c.source.view_is) (record {

@@ -1,8 +1,8 @@
 use Rattle.std.proofs.Common.{rules, ◌≡◌, Some}
-use Rattle.triple_arena_chain.specs.Chains.{linked}
+use Rattle.linked_lists.specs.LinkedLists.{linked}
 use Rattle.triple_arena_chain.specs.Kinds.{at_bridge, gap_by}
 use Rattle.triple_arena_chain.specs.Links.{ends_in, ends_found, with_next_of, with_prev_of}
-use Rattle.triple_arena_chain.proofs.ListLemmas.{is_appended}
+use Rattle.linked_lists.specs.JoinLaws.{is_appended}
 use Rattle.triple_arena_chain.proofs.ConnectionLemmas.{connected, Relinked}
 use Rattle.triple_arena_chain.proofs.chain_arena.chain_calls.ChainArenaChainArenaTrait.connect.Given.{Over}
 use Rattle.triple_arena_chain.proofs.chain_arena.chain_calls.ChainArenaChainArenaTrait.connect.Goals as goal

@@ -1,11 +1,11 @@
 use Rattle.std.proofs.Common.{map, None, sym, ap, subst, ◌∙◌}
-use Rattle.std.specs.Option.{option_map}
 use Rattle.triple_arena.specs.Changes.{IsCompressed}
 use Rattle.triple_arena.specs.Compression.{value_of}
-use Rattle.triple_arena_chain.specs.Chains.{first_or, last_or}
+use Rattle.linked_lists.specs.LinkedLists.{first_or, last_or}
 use Rattle.triple_arena_ord.specs.Compressed.{IsCompressedInOrder}
 use Rattle.triple_arena_ord.specs.Indexed.{indexed}
 use Rattle.triple_arena_ord.specs.Ordered.{Ordered, entry_in, size_in, counter_in, room_in}
+use Rattle.triple_arena_ord.specs.Ordered.{ordered_by}
 use Rattle.triple_arena_ord.proofs.CompressedLemmas.{Compressed, compressed_by, mapped_by, moved}
 use Rattle.triple_arena_ord.proofs.CompressedLemmas.{moved_linear, moved_long, moved_all}
 use Rattle.triple_arena_ord.proofs.ord_arena.arena_calls.SimpleOrdArenaArenaTrait.compress_with.Goals as goal
@@ -15,7 +15,7 @@ rebuild-self-inside-requires g c =
     let number = g.P.Inx.PtrInxCore.number in
     let last = g.P.Gen.PtrGenCore.last in
     let o : Ordered g.row.T.Denot =
-    record { chains = c.self.inside.chains; root = option_map number c.self.inside.root } in
+    ordered_by number c.self.inside.chains c.self.inside.root in
     let mid = c.compact_nodes-answer.new.arena in
     let made = c.compact_nodes-answer.ensures in
     let w = moved last c.args.reset o mid c.self.invariant.0 made.compressed made.exact in
@@ -30,16 +30,12 @@ rebuild-self-inside-requires g c =
 
 done : (g : _) (c : goal.After-len g)
     → Compressed g.P.Gen.PtrGenCore.last c.args.reset
-    (record {
-      chains = c.self.inside.chains;
-      root = option_map g.P.Inx.PtrInxCore.number c.self.inside.root;
-    }) c.compact_nodes-answer.new.arena
+    (ordered_by g.P.Inx.PtrInxCore.number c.self.inside.chains c.self.inside.root)
+    c.compact_nodes-answer.new.arena
     c.self.invariant.0
     c.compact_nodes-answer.ensures.compressed c.compact_nodes-answer.ensures.exact
-    (record {
-      chains = c.rebuild-self-inside.new.chains;
-      root = option_map g.P.Inx.PtrInxCore.number c.rebuild-self-inside.result;
-    })
+    (ordered_by g.P.Inx.PtrInxCore.number c.rebuild-self-inside.new.chains
+    c.rebuild-self-inside.result)
 done g c =
     let made = c.compact_nodes-answer.ensures in
     let linear = moved_linear _ _ _ _ c.self.invariant.0 made.compressed made.exact in
@@ -68,10 +64,8 @@ returns-clause-mapped g c =
 pub returns-clause-compressed : goal.returns-clause-compressed
 returns-clause-compressed g c =
     let p : Ordered g.row.T.Denot =
-    record {
-      chains = c.rebuild-self-inside.new.chains;
-      root = option_map g.P.Inx.PtrInxCore.number c.rebuild-self-inside.result;
-    } in
+    ordered_by g.P.Inx.PtrInxCore.number c.rebuild-self-inside.new.chains
+    c.rebuild-self-inside.result in
     subst (λ z. IsCompressed entry_in size_in counter_in room_in g.P.Gen.PtrGenCore.last indexed
     c.args.reset z p) c.self.view_is (done g c).compressed
 
@@ -79,10 +73,7 @@ pub returns-clause-exact : goal.returns-clause-exact
 returns-clause-exact g c =
     let number = g.P.Inx.PtrInxCore.number in
     let p : Ordered g.row.T.Denot =
-    record {
-      chains = c.rebuild-self-inside.new.chains;
-      root = option_map number c.rebuild-self-inside.result;
-    } in
+    ordered_by number c.rebuild-self-inside.new.chains c.rebuild-self-inside.result in
     subst (λ z. IsCompressedInOrder g.P.Gen.PtrGenCore.last c.args.reset
     (map value_of (indexed p)) z p) c.self.view_is (done g c).exact
 

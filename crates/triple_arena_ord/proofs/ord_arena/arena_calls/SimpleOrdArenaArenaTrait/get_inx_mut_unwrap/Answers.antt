@@ -1,7 +1,6 @@
 use Rattle.std.proofs.Common.{sym, ap, ◌∙◌, None}
-use Rattle.std.specs.Option.{option_map}
-use Rattle.triple_arena_chain.specs.Chains.{first_or, last_or}
-use Rattle.triple_arena_ord.specs.Ordered.{Ordered}
+use Rattle.linked_lists.specs.LinkedLists.{first_or, last_or}
+use Rattle.triple_arena_ord.specs.Ordered.{Ordered, ordered_by}
 use Rattle.triple_arena_ord.proofs.StateLemmas.{lent_list}
 use Rattle.triple_arena_ord.proofs.ord_arena.arena_calls.SimpleOrdArenaArenaTrait.get_inx_mut_unwrap.Goals as goal
 
@@ -9,7 +8,7 @@ pub invariant_of-self-lent : goal.invariant_of-self-lent
 invariant_of-self-lent g c w =
     let number = g.P.Inx.PtrInxCore.number in
     let o : Ordered g.row.T.Denot =
-    record { chains = c.self.inside.chains; root = option_map number c.self.inside.root } in
+    ordered_by number c.self.inside.chains c.self.inside.root in
     let r = lent_list o (number c.args.i) c.get_inx_mut_unwrap.result.now w
     c.get_inx_mut_unwrap.ensures.value c.self.invariant.0 in (
       r.ordered,

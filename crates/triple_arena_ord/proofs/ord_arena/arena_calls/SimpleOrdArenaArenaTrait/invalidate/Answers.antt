@@ -1,7 +1,6 @@
 use Rattle.std.proofs.Common.{refl, sym, ap, ◌∙◌, None}
-use Rattle.std.specs.Option.{option_map}
-use Rattle.triple_arena_chain.specs.Chains.{first_or, last_or}
-use Rattle.triple_arena_ord.specs.Ordered.{Ordered}
+use Rattle.linked_lists.specs.LinkedLists.{first_or, last_or}
+use Rattle.triple_arena_ord.specs.Ordered.{Ordered, ordered_by}
 use Rattle.triple_arena_ord.proofs.StateLemmas.{invalidates_list}
 use Rattle.triple_arena_ord.proofs.ord_arena.arena_calls.SimpleOrdArenaArenaTrait.invalidate.Goals as goal
 
@@ -9,9 +8,9 @@ pub invariant_of-self : goal.invariant_of-self
 invariant_of-self g c =
     let number = g.P.Inx.PtrInxCore.number in
     let o : Ordered g.row.T.Denot =
-    record { chains = c.self.inside.chains; root = option_map number c.self.inside.root } in
+    ordered_by number c.self.inside.chains c.self.inside.root in
     let p : Ordered g.row.T.Denot =
-    record { chains = c.invalidate.new.self; root = option_map number c.self.inside.root } in
+    ordered_by number c.invalidate.new.self c.self.inside.root in
     let r = invalidates_list g.P.Gen.PtrGenCore.last o p (g.P.PtrCore.index c.args.p) _ refl
     c.invalidate.ensures.exact c.invalidate.ensures.invalid c.self.invariant.0 in (
       r.ordered,

@@ -1,8 +1,7 @@
 use Rattle.std.proofs.Common.{ap, ◌∙◌, None}
-use Rattle.std.specs.Option.{option_map}
 use Rattle.triple_arena.specs.ArenaRoom.{room_with}
-use Rattle.triple_arena_chain.specs.Chains.{first_or, last_or}
-use Rattle.triple_arena_ord.specs.Ordered.{Ordered}
+use Rattle.linked_lists.specs.LinkedLists.{first_or, last_or}
+use Rattle.triple_arena_ord.specs.Ordered.{Ordered, ordered_by}
 use Rattle.triple_arena_ord.proofs.GrowthLemmas.{still_ordered, same_order}
 use Rattle.triple_arena_ord.proofs.ord_arena.arena_calls.SimpleOrdArenaArenaTrait.reallocate_min_capacity.Goals as goal
 
@@ -10,7 +9,7 @@ pub invariant_of-self : goal.invariant_of-self
 invariant_of-self g c =
     let number = g.P.Inx.PtrInxCore.number in
     let o : Ordered g.row.T.Denot =
-    record { chains = c.self.inside.chains; root = option_map number c.self.inside.root } in
+    ordered_by number c.self.inside.chains c.self.inside.root in
     let d = c.reallocate_min_capacity.new.self in
     let r = room_with c.args.min o.chains.room in
     let order = same_order o d r c.reallocate_min_capacity.result

@@ -1,7 +1,6 @@
 use Rattle.std.proofs.Common.{sym, ap, ◌∙◌, None}
-use Rattle.std.specs.Option.{option_map}
-use Rattle.triple_arena_chain.specs.Chains.{first_or, last_or}
-use Rattle.triple_arena_ord.specs.Ordered.{Ordered}
+use Rattle.linked_lists.specs.LinkedLists.{first_or, last_or}
+use Rattle.triple_arena_ord.specs.Ordered.{Ordered, ordered_by}
 use Rattle.triple_arena_ord.proofs.KeptTreeLemmas.{recast_kept}
 use Rattle.triple_arena_ord.proofs.ord_arena.recast.SimpleOrdArenaRecast.recast.Goals as goal
 
@@ -10,7 +9,7 @@ invariant_of-self g c =
     let number = g.P.Inx.PtrInxCore.number in
     let image = g.R.Recaster.image c.args.recaster.now in
     let o : Ordered g.row.T.Denot =
-    record { chains = c.self.inside.chains; root = option_map number c.self.inside.root } in
+    ordered_by number c.self.inside.chains c.self.inside.root in
     let r = recast_kept g.T.Recast.items image (g.T.Recast.recasted image) o
     c.recast.new.self c.recast.ensures.value c.self.invariant.0 in (
       r.ordered,

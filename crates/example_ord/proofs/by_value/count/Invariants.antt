@@ -1,6 +1,0 @@
-use Rattle.std.specs.Prelude.{◌≡◌, ◌+◌, length}
-use Rattle.example_ord.proofs.by_value.count.Given as goal
-
-abbrev pub invariant-loop-entry : goal.invariant-loop-entry
-invariant-loop-entry g l =
-    l.count + length l._entry-iterator ≡ l.len
