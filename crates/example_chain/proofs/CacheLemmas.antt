@@ -4,15 +4,13 @@ use Rattle.std.proofs.Common.{option_map, refl, sym, ap, subst, ◌∙◌, inl, 
 use Rattle.std.proofs.Common.{true≢false, ◌⊎◌}
 use Rattle.std.proofs.lemmas.Bool.Decides.{eqb_tells}
 use Rattle.triple_arena.specs.Content.{Content, get, entry_at}
-use Rattle.triple_arena.specs.Entries.{generation_at, value_if, with_entry, without}
-use Rattle.triple_arena_chain.specs.declared.kind.InsertKind.TheVariants.{PrevTo}
+use Rattle.triple_arena.specs.Entries.{generation_at, value_if, with_entry}
 use Rattle.triple_arena_chain.specs.LinkShape.{IndexLink}
-use Rattle.linked_lists.specs.LinkedLists.{Ends, On, Off, IsRing, Apart, first_or, last_or}
+use Rattle.linked_lists.specs.LinkedLists.{On, Off, IsRing, Apart, first_or}
 use Rattle.linked_lists.specs.LinkedLists.{prev_in, prev_at, taken_out}
 use Rattle.linked_lists.specs.LinkedListLaws.{On-cons, Off-not_on, last_is, last_or-append}
 use Rattle.triple_arena_chain.specs.KindLaws.{put-prev_to}
 use Rattle.linked_lists.specs.ChainLaws.{turned}
-use Rattle.linked_lists.specs.Chains.{IsPutIn}
 use Rattle.triple_arena_chain.specs.Links.{valued, values_in, ends_in, ends_found, gap_among}
 use Rattle.triple_arena_chain.specs.Links.{IsLinkInserted, IsTakenOut}
 use Rattle.triple_arena_chain.specs.Moves.{gap_before, IsMoved}

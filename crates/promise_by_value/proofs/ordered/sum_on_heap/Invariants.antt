@@ -1,4 +1,3 @@
-use Rattle.std.specs.Int.NonZero.{non_zero_usize_get}
 use Rattle.std.specs.Prelude.{◌≡◌, ◌+◌, ◌%◌, ◌^◌, map}
 use Rattle.std.specs.List.{sum}
 use Rattle.triple_arena.specs.Compression.{value_of}

@@ -1,6 +1,5 @@
 use Rattle.std.proofs.Common.{rules, ◌≡◌, ◌≢◌, ◌++◌, ◌∷◌, Some, IsSome, subst}
 use Rattle.triple_arena.specs.Content.{get}
-use Rattle.triple_arena_chain.specs.Moves.{gap_before, IsMoved}
 use Rattle.example_chain.specs.Caches.{AreByUse, IsCache}
 use Rattle.example_chain.proofs.CacheLemmas.{value_of_get, get_of_value, touched, touched_cache}
 use Rattle.example_chain.proofs.CacheLemmas.{stays}
