@@ -147,23 +147,26 @@ module _ {T : Type 0} (c : Content (IndexLink T)) (o p : ℕ) where
         → IsChainOf (ends_in d) l
     pub values : (k : ℕ) → values_in d k ≡ values_in c k
 
-module _ {I T : Type 0} (number : I → ℕ) (c m : Content (IndexLink T)) (o p q go g h : ℕ)
-    (chained : IsChained c)
-    (to_p : next_in (ends_found c o go) ≡ Some p)
-    (to_q : next_in (ends_found c p g) ≡ Some q)
-    (at_q : generation_at (values_in c) q ≡ Some h)
-    (relinked : (s t : ℕ) → next_at (ends_in c) o ≡ Some s
-    → next_at (ends_in c) p ≡ Some t
-    → IsRelinked (exchanged (ends_in c) o p s t) c m)
-    (first : IsExchanged o p (ends_in c) (ends_in m)) where
+-- an exchange took `p` out from between `o` and `q`
+pub record IsTakenOut {T : Type 0} (c m : Content (IndexLink T)) (o p q go g h : ℕ) : Type 0 where
+  pub chained : IsChained c
+  pub to_p : next_in (ends_found c o go) ≡ Some p
+  pub to_q : next_in (ends_found c p g) ≡ Some q
+  pub at_q : generation_at (values_in c) q ≡ Some h
+  pub relinked : (s t : ℕ) → next_at (ends_in c) o ≡ Some s → next_at (ends_in c) p ≡ Some t
+      → IsRelinked (exchanged (ends_in c) o p s t) c m
+  pub first : IsExchanged o p (ends_in c) (ends_in m)
+
+module _ {T : Type 0} {c m : Content (IndexLink T)} {o p q go g h : ℕ}
+    (taken : IsTakenOut c m o p q go g h) where
   next_o : next_at (ends_in c) o ≡ Some p
-  next_o = next_found c o go p to_p
+  next_o = next_found c o go p taken.to_p
 
   next_p : next_at (ends_in c) p ≡ Some q
-  next_p = next_found c p g q to_q
+  next_p = next_found c p g q taken.to_q
 
   once : IsRelinked (exchanged (ends_in c) o p p q) c m
-  once = relinked p q next_o next_p
+  once = taken.relinked p q next_o next_p
 
   own : next_at (ends_in m) p ≡ Some p
   own = ap next_in (once.ends p)
@@ -171,14 +174,14 @@ module _ {I T : Type 0} (number : I → ℕ) (c m : Content (IndexLink T)) (o p 
 
   at_p : generation_at (values_in m) p ≡ Some g
   at_p = ap (option_map (λ v. v.0)) (once.values p)
-      ∙ generation_of c p g (live_next_in (ends_found c p g) q to_q)
+      ∙ generation_of c p g (live_next_in (ends_found c p g) q taken.to_q)
 
   -- after the first exchange the first of the two is its own next
   pub still_next : next_in (ends_found m p g) ≡ Some p
   still_next = ap next_in (finds m p g at_p) ∙ own
 
   found_q : ends_found m q h ≡ ends_in m q
-  found_q = finds m q h (ap (option_map (λ v. v.0)) (once.values q) ∙ at_q)
+  found_q = finds m q h (ap (option_map (λ v. v.0)) (once.values q) ∙ taken.at_q)
 
   off_o : (l : Chain) → IsChainOf (ends_in c) l → Off (members l) p → Off (members l) o
   off_o l chain off = off_or_not (members l) o
@@ -189,7 +192,7 @@ module _ {I T : Type 0} (number : I → ℕ) (c m : Content (IndexLink T)) (o p 
   off_q l chain off =
       off_or_not (members l) q
       (λ on. on_differs (members l) p p
-      (holds_prev (ends_in c) l q p chain on (chained.agreed.forward p q next_p)) off
+      (holds_prev (ends_in c) l q p chain on (taken.chained.agreed.forward p q next_p)) off
       refl)
 
   linear_of : (n : ℕ → Option Ends)
@@ -222,38 +225,40 @@ module _ {I T : Type 0} (number : I → ℕ) (c m : Content (IndexLink T)) (o p 
   -- and the two are rings of one each after the first exchange
   parted_two : (r : IsRing (ends_in c) (o ∷ p ∷ [])) → o ≢ p
       → IsRing (ends_in m) (o ∷ []) × IsRing (ends_in m) (p ∷ [])
-  parted_two r o_not_p = (first.first o_not_p).parted [] [] r
+  parted_two r o_not_p = (taken.first.first o_not_p).parted [] [] r
 
   -- a ring of one is its own second one, and the one before it
   second_alone : IsRing (ends_in c) (p ∷ []) → q ≡ p
   second_alone r = let both : Some q ≡ Some p = sym next_p ∙ ap next_in r.stands.0 in cc
 
   before_alone : IsRing (ends_in c) (p ∷ []) → o ≡ p
-  before_alone r = let both : Some o ≡ Some p = sym (chained.agreed.forward o p next_o)
+  before_alone r = let both : Some o ≡ Some p = sym (taken.chained.agreed.forward o p next_o)
       ∙ ap prev_in r.stands.0 in cc
 
   -- where the second one has a next it is put in again by another exchange
-  pub exchanged_back : (d : Content (IndexLink T)) → IsSome (next_in (ends_found m q h))
-      → ((s t : ℕ) → next_at (ends_in m) q ≡ Some s → next_at (ends_in m) p ≡ Some t
+  pub exchanged_back : {A : Type 0} (r : Option A) (d : Content (IndexLink T)) → IsSome r
+      → IsSome (next_in (ends_found m q h))
+      → OnSome r ((s t : ℕ) → next_at (ends_in m) q ≡ Some s → next_at (ends_in m) p ≡ Some t
       → IsRelinked (exchanged (ends_in m) q p s t) m d)
-      → IsExchanged q p (ends_in m) (ends_in d) → Reversed c o p d
-  exchanged_back d there again second =
+      → OnSome r (IsExchanged q p (ends_in m) (ends_in d)) → Reversed c o p d
+  exchanged_back r d came there again on_second =
       let s = some_next (ends_found m q h) there in
-      let twice = again s.0 p (ap next_in (sym found_q) ∙ s.1) own in
+      let twice = on_some r came again s.0 p (ap next_in (sym found_q) ∙ s.1) own in
+      let second = on_some r came on_second in
       let old = ends_in c in
       let between = ends_in m in
       let new = ends_in d in
       record {
-        linear = linear_of new (linear-reversed old between new o p q first second);
-        ring = ring_of new (ring-reversed old between new o p q first second);
+        linear = linear_of new (linear-reversed old between new o p q taken.first second);
+        ring = ring_of new (ring-reversed old between new o p q taken.first second);
         ring_of_two = λ r.
             let o_not_p : o ≢ p = λ same. r.apart.0.0 (sym same) in
             let parts = parted_two r o_not_p in
             let again_o = subst (λ x. IsExchanged x p between new) (second_of_two r) second in
             (again_o.first o_not_p).merged [] [] parts.0 parts.1 (o_not_p, tt);
         alone = λ r. second.itself (second_alone r) (Cyclic (p ∷ []))
-            (first.itself (before_alone r) (Cyclic (p ∷ [])) r);
-        others = λ l chain off. second.others l (first.others l chain (off_o l chain off) off)
+            (taken.first.itself (before_alone r) (Cyclic (p ∷ [])) r);
+        others = λ l chain off. second.others l (taken.first.others l chain (off_o l chain off) off)
             (off_q l chain off) off;
         values = λ k. twice.values k ∙ once.values k;
       }
@@ -284,14 +289,13 @@ module _ {I T : Type 0} (number : I → ℕ) (c m : Content (IndexLink T)) (o p 
     open_q = (breaks p own).ends q ∙ parted_other (ends_in m) p q differs
 
     -- else it is the end, behind which the first one fits
-    pub fits : {P : Type 0} (index generation : P → ℕ) (first second : P) → index first ≡ p
-        → generation first ≡ g → index second ≡ q
-        → generation second ≡ h
+    pub fits : {P I : Type 0} (number : I → ℕ) (index generation : P → ℕ) (first second : P)
+        → index first ≡ p → generation first ≡ g → index second ≡ q → generation second ≡ h
         → IsSome (gap_among index generation number b (Bridge second first))
-    fits index generation first second first_is gen_is second_is gen_is' =
+    fits number index generation first second first_is gen_is second_is gen_is' =
         rw (first_is, gen_is, second_is, gen_is')
         (let before : generation_at (values_in b) q ≡ Some h =
-        ap (option_map (λ v. v.0)) ((breaks p own).values q ∙ once.values q) ∙ at_q in
+        ap (option_map (λ v. v.0)) ((breaks p own).values q ∙ once.values q) ∙ taken.at_q in
         let after : generation_at (values_in b) p ≡ Some g =
         ap (option_map (λ v. v.0)) ((breaks p own).values p) ∙ at_p in
         let q_is = finds b q h before in
@@ -324,8 +328,8 @@ module _ {I T : Type 0} (number : I → ℕ) (c m : Content (IndexLink T)) (o p 
         let parted = splits p own in
         record {
           linear = linear_of new
-              (λ front rest. linear-reversed_end old between broken new o p q first parted appended
-              front rest ends);
+              (λ front rest. linear-reversed_end old between broken new o p q taken.first parted
+              appended front rest ends);
           ring = ring_of new (λ rest r. absurd (no_ring rest r));
           ring_of_two = λ r.
               let parts = parted_two r (λ same. r.apart.0.0 (sym same)) in
@@ -334,15 +338,16 @@ module _ {I T : Type 0} (number : I → ℕ) (c m : Content (IndexLink T)) (o p 
               absurd (cc);
           alone = λ r. absurd (differs (second_alone r));
           others = λ l chain off.
-              appended.others l (parted.others l (first.others l chain (off_o l chain off) off) off
-              off) (off_q l chain off) off;
+              appended.others l (parted.others l (taken.first.others l chain (off_o l chain off)
+              off) off off) (off_q l chain off) off;
           values = λ k. joined.values k ∙ (breaks p own).values k ∙ once.values k;
         }
       where
         -- a ring has no end
         no_ring : (rest : List ℕ) → IsRing (ends_in c) (o ∷ p ∷ q ∷ rest) → ⊥
         no_ring rest r =
-            let parts = (first.first (λ same. r.apart.0.0 (sym same))).parted [] (q ∷ rest) r in
+            let parts = (taken.first.first (λ same. r.apart.0.0 (sym same))).parted [] (q ∷ rest) r
+            in
             by rest (sym (ap next_in parts.0.stands.1.0) ∙ ends)
           where
             by : (xs : List ℕ) → first_or xs (Some o) ≡ None → ⊥

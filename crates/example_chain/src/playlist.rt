@@ -11,6 +11,7 @@ ghost use Rattle.linked_lists.specs.Chains.{Chain, members, IsChainOf};
 ghost use Rattle.triple_arena_chain.specs.Walks.{IsWalkFrom};
 ghost use Rattle.example_chain.specs.Playlists.{length_at};
 
+use proof_marks::recall;
 use triple_arena::{Advancer, ArenaTrait, PtrCore};
 use triple_arena_chain::{
     ChainArena, ChainArenaTrait, ChainInsertionError, ChainSlots, LinkInsertKind,
@@ -46,7 +47,7 @@ pub fn add_after<P: PtrCore, T: Drop, S: ChainSlots<P, T>>(
     ensures err { OnErr result (songs.new ≡ songs.old) }
 {
     // The interlinks agree.
-    let _ = songs.len();
+    recall!(songs.len());
     songs.insert_within_capacity(LinkInsertKind::NextTo(p), song)
 }
 
@@ -80,7 +81,7 @@ pub fn reverse_pair<P: PtrCore, T: Drop, S: ChainSlots<P, T>>(
     ensures none { IfNone result (songs.new ≡ songs.old) }
 {
     // The interlinks agree.
-    let _ = songs.len();
+    recall!(songs.len());
     if !songs.are_neighbors(before, p) {
         return None;
     }

@@ -8,6 +8,7 @@ ghost use Rattle.triple_arena.specs.LiveEntries.{live_entries};
 ghost use Rattle.example_chain.specs.Scene.{node_at as node_of, given, IsFull};
 
 use crate::follow::{Moved, compress_with_table};
+use proof_marks::recall;
 use std::alloc::Global;
 use std::marker::Model;
 use std::mem;
@@ -132,6 +133,6 @@ impl<P: Ptr> Scene<P> {
     {
         compress_with_table(&mut self.nodes, &mut self.pointers);
         // Well-formed after.
-        let _ = self.nodes.len();
+        recall!(self.nodes.len());
     }
 }

@@ -17,6 +17,7 @@ ghost use Rattle.example_ord.specs.OrderBooks.{IsBestBid, IsNext, IsLast};
 ghost use Rattle.triple_arena_ord.specs.Found.{place_by, IsLivePlace};
 ghost use Rattle.triple_arena.specs.Steps.{Finds};
 
+use proof_marks::recall;
 use std::cmp::Ordering;
 use triple_arena::{
     Advancer, ArenaSlot, ArenaTrait, NonZeroInxGenericStack, PtrCore, ReallocationError,
@@ -65,7 +66,7 @@ fn place_behind<P: PtrCore, V: Drop, S: NonZeroInxGenericStack<Item = OrderSlot<
     ensures ordered { IsOrdered book.now }
 {
     // The book is ordered.
-    let _ = book.len();
+    recall!(book.len());
     match book.upper_bound(&price) {
         Some(next) => Some((next.inx(), Ordering::Less)),
         None => match book.last() {
@@ -139,7 +140,7 @@ pub fn best_ask<P: PtrCore, V: Drop, S: NonZeroInxGenericStack<Item = OrderSlot<
 {
     keys_ascend_along_the_list::<P, OrdPair<u64, V>>();
     // The book is ordered.
-    let _ = book.len();
+    recall!(book.len());
     book.first()
 }
 
@@ -155,7 +156,7 @@ pub fn best_bid<P: PtrCore, V: Drop, S: NonZeroInxGenericStack<Item = OrderSlot<
 {
     keys_ascend_along_the_list::<P, OrdPair<u64, V>>();
     // The book is ordered.
-    let _ = book.len();
+    recall!(book.len());
     let last = book.last()?;
     let price = *book.get(last)?.k();
     book.lower_bound(&price)

@@ -1,25 +1,22 @@
 -- What insertions, removals and writes of an arena make of its list.
-use Rattle.std.proofs.Common.{◌≡◌, ◌≢◌, ◌∙◌, sym, ap, subst, refl, ℕ, zero, suc, ◌+◌}
-use Rattle.std.proofs.Common.{List, []}
-use Rattle.std.proofs.Common.{◌∷◌}
-use Rattle.std.proofs.Common.{◌++◌, true, Option, Some, None, Result, Ok, Err}
-use Rattle.std.proofs.Common.{option_map, inl, inr, ◌⊎◌}
+use Rattle.std.proofs.Common.{◌≡◌, ◌≢◌, ◌∙◌, sym, ap, subst, refl, ℕ, zero, suc, ◌+◌, ◌≤◌, List, []}
+use Rattle.std.proofs.Common.{◌∷◌, ◌++◌, true, Option, Some, None, Result, Ok, Err, option_map, inl}
+use Rattle.std.proofs.Common.{inr, ◌⊎◌}
 use Rattle.std.specs.Cmp.{ranked, nat_cmp_is}
-use Rattle.std.specs.Int.NonZero.{non_zero_u32_get}
+use Rattle.std.specs.Result.{IsErrOf}
 use Rattle.std.specs.Ordering.{nat_cmp}
 use Rattle.std.specs.declared.cmp.Ordering.TheVariants.{Equal}
 use Rattle.std.proofs.lemmas.Bool.{eq-eqb, ne_eqb}
 use Rattle.std.proofs.lemmas.Bool.Decides.{eqb_tells}
 use Rattle.rank_tree.specs.Tree.{walk}
 use Rattle.rank_tree.specs.Whole.{tree_of}
-use Rattle.triple_arena.specs.Content.{entry_at}
+use Rattle.triple_arena.specs.Content.{arena_capacity, entry_at}
 use Rattle.triple_arena.specs.Entries.{value_if, with_entry}
 use Rattle.triple_arena_ptr.specs.declared.errors.OrdInsertionError.{OrdInsertionError}
 use Rattle.triple_arena_ptr.specs.declared.errors.OrdInsertionError.TheVariants.{BeyondMaxCapacity}
 use Rattle.triple_arena_ptr.specs.declared.errors.OrdInsertionError.TheVariants.{FailedOrdRequirement}
 use Rattle.triple_arena_ptr.specs.declared.errors.OrdInsertionError.TheVariants.{NotWithinCapacity}
 use Rattle.triple_arena_ptr.specs.declared.errors.OrdInsertionError.TheVariants.{AllocError}
-use Rattle.std.specs.declared.num.NonZeroU32.{NonZeroU32}
 use Rattle.triple_arena_chain.specs.Links.{valued}
 use Rattle.triple_arena_chain.specs.LinkShape.{IndexLink}
 use Rattle.triple_arena_ord.specs.Ascending.{entries_along}
@@ -31,10 +28,12 @@ use Rattle.triple_arena_ord.specs.Inserted.{growing_room}
 use Rattle.triple_arena_ord.specs.Ordered.{IsOrdered, entry_in, order_in, size_in}
 use Rattle.triple_arena_ord.specs.Removal.{IsEntryRemoved}
 use Rattle.ord_map_c.specs.Changes.{IsPut, as_put}
-use Rattle.ord_map_c.specs.Entries.{Pair, KeysRise, value_of, pair, with_key}
-use Rattle.ord_map_c.specs.Entries.{pointer_of}
-use Rattle.ord_map_c.specs.Entries.{put_in, without_key}
+use Rattle.ord_map_c.specs.Entries.{Pair, KeysRise, value_of, pair, with_key, pointer_of, put_in}
+use Rattle.ord_map_c.specs.Entries.{without_key}
 use Rattle.ord_map_c.specs.State.{Arena, IsMap, listed}
+use Rattle.ord_map_c.specs.declared.handle.Handle.{Handle}
+use Rattle.ord_map_c.specs.declared.refusal.Refusal.{Refusal}
+use Rattle.ord_map_c.specs.declared.refusal.Refusal.TheVariants.{NoMemory, Full}
 use Rattle.ord_map_c.proofs.AlongLemmas.{AllStand, apart_of, along, along_split, along_same}
 use Rattle.ord_map_c.proofs.AlongLemmas.{along-append, above_along, below_along, ascends, key_in}
 use Rattle.ord_map_c.proofs.AlongLemmas.{pair_is, some_same}
@@ -274,52 +273,46 @@ module _ (old new : Arena) (map : IsMap old) (law : AllStand) where
             (inserts.inserted.absent e is (ascends old map.rise)) in
             refusal e is why same absent
           where
+            Is : Refusal → Refusal → Type 0
+            Is x y = IsErrOf {T = Handle × Option ℕ} (Err x) y
+
+            stays : (x : Refusal) → arena_capacity old.chains ≤ size_in old
+                → (Is x Full → old.chains.room.limit ≡ Some (size_in old))
+                → (Is x NoMemory → old.chains.room.limit ≢ Some (size_in old))
+                → Is x NoMemory ⊎ Is x Full → new ≡ old → with_key (listed old) key ≡ None
+                → IsPut key value (Err x) old new
+            stays x full limit memory refusals same absent = record {
+              entries = tt;
+              was = tt;
+              pairs = tt;
+              added = tt;
+              replaced = tt;
+              same = tt;
+              found = tt;
+              others = tt;
+              counter = inserts.counter;
+              room = tt;
+              limited = tt;
+              absent = absent;
+              full = full;
+              limit = limit;
+              memory = memory;
+              refusals = refusals;
+              refused = same;
+              map = subst IsMap (sym same) map;
+            }
+
             refusal : (e : OrdInsertionError) → made ≡ Err e
                 → growing_room true (size_in old) old.chains.room (Some e)
                 → new ≡ old → with_key (listed old) key ≡ None
                 → IsPut key value (as_put made index generation) old new
             refusal FailedOrdRequirement is why same absent = absurd why.1
             refusal NotWithinCapacity is why same absent = absurd why.1
-            refusal BeyondMaxCapacity is why same absent = rw is (record {
-              entries = tt;
-              was = tt;
-              pairs = tt;
-              added = tt;
-              replaced = tt;
-              same = tt;
-              found = tt;
-              others = tt;
-              counter = inserts.counter;
-              room = tt;
-              limited = tt;
-              absent = absent;
-              full = why.0;
-              limit = λ _. why.1;
-              memory = λ never. absurd (cc);
-              refusals = inr refl;
-              refused = same;
-              map = subst IsMap (sym same) map;
-            })
-            refusal AllocError is why same absent = rw is (record {
-              entries = tt;
-              was = tt;
-              pairs = tt;
-              added = tt;
-              replaced = tt;
-              same = tt;
-              found = tt;
-              others = tt;
-              counter = inserts.counter;
-              room = tt;
-              limited = tt;
-              absent = absent;
-              full = why.0;
-              limit = λ never. absurd (cc);
-              memory = λ _. why.1.1;
-              refusals = inl refl;
-              refused = same;
-              map = subst IsMap (sym same) map;
-            })
+            refusal BeyondMaxCapacity is why same absent =
+                rw is (stays Full why.0 (λ _. why.1) (λ never. absurd (cc)) (inr refl) same absent)
+            refusal AllocError is why same absent =
+                rw is (stays NoMemory why.0 (λ never. absurd (cc)) (λ _. why.1.1) (inl refl) same
+                absent)
 
 -- ---- facts of the answers
 

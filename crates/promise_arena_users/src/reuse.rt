@@ -3,6 +3,7 @@ ghost use Rattle.std.specs.Prelude.{◌≡◌, ◌↔◌, ℕ, Option, Some, IsS
 ghost use Rattle.triple_arena.specs.Entries.{value_if, with_entry, without, counter_wraps, IsOneOf};
 ghost use Rattle.triple_arena.specs.Steps.{Finds, Happens, History, IsReached, all_given, reached};
 
+use proof_marks::recall;
 use triple_arena::laws::{ended_pointers_find_nothing, pointers_are_given_once};
 use triple_arena::{ArenaInsertTrait, InvalidationResult, PtrCore};
 
@@ -42,7 +43,7 @@ pub fn replace<P: PtrCore, T: Drop, A: ArenaInsertTrait<P, T>>(
     pointers_are_given_once::<P, T, A>();
     ended_pointers_find_nothing::<P, T, A>();
     // No more entries are live than fit.
-    let _ = arena.len();
+    recall!(arena.len());
     match arena.remove(p) {
         InvalidationResult::InvalidPtr => None,
         _ => match arena.insert_within_capacity(t) {

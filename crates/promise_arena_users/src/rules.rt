@@ -4,8 +4,9 @@ ghost use Rattle.std.specs.Prelude.{if◌then◌else◌};
 ghost use Rattle.triple_arena_ptr.specs.InvalidationResult.{answer_of};
 ghost use Rattle.triple_arena.specs.DirectContent.{entry_at as direct_entry_at};
 ghost use Rattle.triple_arena.specs.DirectContent.{live_count as direct_live_count};
-ghost use Rattle.triple_arena.specs.Content.{entry_at, live_count, next_index, IsWellFormed};
+ghost use Rattle.triple_arena.specs.Content.{entry_at, live_count, next_index};
 
+use proof_marks::recall;
 use triple_arena::{
     Arena, ArenaInsertTrait, ArenaSlots, ArenaTrait, DirectArena, DirectSlots,
     DisjointableArenaTrait, GetDisjointMutError, InvalidationOption, InvalidationResult,
@@ -23,7 +24,7 @@ pub fn insert<P: PtrCore, T: Drop, S: ArenaSlots<P, T>>(
     ensures free { OnOk result (arena.new.free ≡ drop 1 arena.old.free) }
 {
     // Well-formed before.
-    let _ = arena.len();
+    recall!(arena.len());
     arena.insert_within_capacity(t)
 }
 

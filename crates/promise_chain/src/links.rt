@@ -1,14 +1,14 @@
 //! Interlinks, read and changed.
-ghost use Rattle.std.specs.Prelude.{◌≡◌, ◌↔◌, ℕ, None, Some, IsSome, IsTrue, IfSome, IfNone};
+ghost use Rattle.std.specs.Prelude.{◌≡◌, ◌↔◌, ℕ, Some, IsSome, IsTrue, IfSome, IfNone};
 ghost use Rattle.std.specs.Prelude.{OnSome};
 ghost use Rattle.std.specs.Option.{option_map};
 ghost use Rattle.triple_arena.specs.Content.{get};
 ghost use Rattle.triple_arena.specs.Entries.{value_if};
-ghost use Rattle.triple_arena_chain.specs.declared.kind.InsertKind.TheVariants.{Bridge};
 ghost use Rattle.linked_lists.specs.LinkedLists.{next_in, next_at, prev_at};
-ghost use Rattle.triple_arena_chain.specs.Links.{ends_in, ends_found, values_in, gap_among};
+ghost use Rattle.triple_arena_chain.specs.Links.{ends_in, ends_found, values_in};
 ghost use Rattle.triple_arena_chain.specs.Links.{IsChained, Connects, BreaksNext, BreaksPrev};
-ghost use Rattle.triple_arena_chain.specs.Links.{ExchangesNexts, HasNext, HasPrev};
+ghost use Rattle.triple_arena_chain.specs.Links.{ExchangesNexts, HasNext, HasPrev, AreConnectable};
+ghost use Rattle.triple_arena_chain.specs.Links.{HaveNexts};
 ghost use Rattle.linked_lists.specs.Chains.{IsAppended, IsSplit, IsExchanged};
 ghost use Rattle.triple_arena_chain.specs.Values.{IsLivePtr};
 
@@ -49,8 +49,7 @@ pub fn connect<P: PtrCore, T: Drop, C: ChainArenaTrait<P, T>>(
     p: P,
     q: P,
 ) -> Option<()>
-    ensures variant { IsSome result
-        ↔ IsSome (gap_among P.index P.generation P.Inx.number (C.links chains.old) (Bridge p q)) }
+    ensures variant { IsSome result ↔ AreConnectable P.index P.generation (C.links chains.old) p q }
     ensures relinked { OnSome result
         (Connects (P.index p) (P.index q) (C.links chains.old) (C.links chains.new)) }
     ensures lists { OnSome result (IsAppended (P.index p) (P.index q)
@@ -98,9 +97,7 @@ pub fn exchange_next<P: PtrCore, T: Drop, C: ChainArenaTrait<P, T>>(
     p: P,
     q: P,
 ) -> Option<()>
-    ensures variant { IsSome result
-        ↔ (HasNext P.index P.generation (C.links chains.old) p
-        × HasNext P.index P.generation (C.links chains.old) q) }
+    ensures variant { IsSome result ↔ HaveNexts P.index P.generation (C.links chains.old) p q }
     ensures relinked { OnSome result
         (ExchangesNexts (P.index p) (P.index q) (C.links chains.old) (C.links chains.new)) }
     ensures lists { OnSome result (IsExchanged (P.index p) (P.index q)

@@ -11,7 +11,7 @@ use Rattle.rank_tree.specs.Store.{Store, rank_in, rank_or_zero, rank_or_link}
 use Rattle.rank_tree.specs.Tree.{Tree, leaf, node, walk, rank_of, IsRanked}
 use Rattle.rank_tree.specs.Shape.{node_view, root_of, Context, top, under, plug, holder, Represents}
 use Rattle.rank_tree.specs.Shape.{Hangs, RepresentsTree, count, count_round}
-use Rattle.rank_tree.specs.Search.{Before, IsParted, EndsAt, IsAnswer, IsFreeAt, led_by}
+use Rattle.rank_tree.specs.Search.{MayPrecede, IsParted, EndsAt, IsAnswer, IsFreeAt, led_by}
 use Rattle.rank_tree.specs.Search.{asked_down}
 use Rattle.rank_tree.specs.FrameLaws.{one-same, plug-count, plug-opens, root-counted}
 use Rattle.rank_tree.specs.SpotLaws.{root-lives, rank_link}
@@ -58,15 +58,15 @@ all-map P Q f [] p = tt
 all-map P Q f (x ∷ xs) p = (f x p.0, all-map P Q f xs p.1)
 
 pub parted-after : (f : ℕ → Ordering) (xs : List ℕ) (i : ℕ) (ys : List ℕ)
-    → IsParted f (xs ++ i ∷ ys) → AllByRecursion (λ y. Before (f i) (f y)) ys
+    → IsParted f (xs ++ i ∷ ys) → AllByRecursion (λ y. MayPrecede (f i) (f y)) ys
 parted-after f [] i ys s = s.0
 parted-after f (x ∷ xs) i ys s = parted-after f xs i ys s.1
 
 pub parted-before : (f : ℕ → Ordering) (xs : List ℕ) (i : ℕ) (ys : List ℕ)
-    → IsParted f (xs ++ i ∷ ys) → AllByRecursion (λ y. Before (f y) (f i)) xs
+    → IsParted f (xs ++ i ∷ ys) → AllByRecursion (λ y. MayPrecede (f y) (f i)) xs
 parted-before f [] i ys s = tt
 parted-before f (x ∷ xs) i ys s
-    = ((all-back (λ y. Before (f x) (f y)) xs (i ∷ ys) s.0).0, parted-before f xs i ys s.1)
+    = ((all-back (λ y. MayPrecede (f x) (f y)) xs (i ∷ ys) s.0).0, parted-before f xs i ys s.1)
 
 some_pair : (x i : ℕ) (d e : Ordering) → ◌≡◌ {A = Option (ℕ × Ordering)} (Some (x, d)) (Some (i, e))
     → (x ≡ i) × (d ≡ e)
@@ -264,9 +264,9 @@ here_at n f c l i k r asked v e h ranked over asks parted =
               (
                 q,
                 all-append (λ y. f y ≡ Less) (walk r) (after c)
-                    (all-map (λ y. Before (f i) (f y)) (λ y. f y ≡ Less)
+                    (all-map (λ y. MayPrecede (f i) (f y)) (λ y. f y ≡ Less)
                     (λ y z. z.less q) (walk r)
-                    (all-front (λ y. Before (f i) (f y)) (walk r) (after c) up)) o.1,
+                    (all-front (λ y. MayPrecede (f i) (f y)) (walk r) (after c) up)) o.1,
               ),
             );
       };
@@ -287,8 +287,8 @@ here_at n f c l i k r asked v e h ranked over asks parted =
             (subst (IsParted f) flat s) in (
               all-append (λ y. f y ≡ Greater) (before c) (walk l ++ i ∷ []) o.0
                   (all-append (λ y. f y ≡ Greater) (walk l) (i ∷ [])
-                  (all-map (λ y. Before (f y) (f i)) (λ y. f y ≡ Greater) (λ y z. z.greater q)
-                  (walk l) (all-back (λ y. Before (f y) (f i)) (before c) (walk l) down))
+                  (all-map (λ y. MayPrecede (f y) (f i)) (λ y. f y ≡ Greater) (λ y z. z.greater q)
+                  (walk l) (all-back (λ y. MayPrecede (f y) (f i)) (before c) (walk l) down))
                   (q, tt)),
               o.1,
             );

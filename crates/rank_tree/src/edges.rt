@@ -3,8 +3,9 @@
 ghost use Rattle.std.specs.Prelude.{◌≡◌, ℕ, Some, None, IsSome};
 ghost use Rattle.std.specs.Option.{option_map};
 ghost use Rattle.rank_tree.specs.Tree.{walk};
-ghost use Rattle.rank_tree.specs.Repair.{Replacement, FreeSide, filled, new_below, Grown, Loose};
-ghost use Rattle.rank_tree.specs.Repair.{Pending, KeptOff, Becomes, walk_without, substituted};
+ghost use Rattle.rank_tree.specs.Repair.{ReplacementBy, FreeSideBy, filled, new_below, GrownBy};
+ghost use Rattle.rank_tree.specs.Repair.{LooseBy, PendingBy, KeptOff, Becomes, walk_without};
+ghost use Rattle.rank_tree.specs.Repair.{substituted};
 
 use crate::node_store::{relink, reparent};
 use crate::{NodeLinks, NodeStore, Side};
@@ -18,15 +19,11 @@ pub(crate) fn attach<N, P: PtrCore, K: NodeStore<N, P>>(
     side: Side,
     new: P::Inx,
 )
-    requires free { FreeSide (K.nodes nodes.old) (option_map P.Inx.number root)
-        (P.Inx.number holder) side (P.Inx.number new) }
+    requires free { FreeSideBy P.Inx.number (K.nodes nodes.old) root holder side new }
     requires slot { K.nodes nodes.old (P.Inx.number new) ≡ Some (new_below (P.Inx.number holder)) }
-    ensures does { (free : FreeSide (K.nodes nodes.old) (option_map P.Inx.number root)
-        (P.Inx.number holder) side (P.Inx.number new))
-        → Grown (K.nodes nodes.new) (option_map P.Inx.number root) (P.Inx.number new)
-        (walk (filled free)) }
-    ensures elsewhere { (free : FreeSide (K.nodes nodes.old) (option_map P.Inx.number root)
-        (P.Inx.number holder) side (P.Inx.number new))
+    ensures does { (free : FreeSideBy P.Inx.number (K.nodes nodes.old) root holder side new)
+        → GrownBy P.Inx.number (K.nodes nodes.new) root new (walk (filled free)) }
+    ensures elsewhere { (free : FreeSideBy P.Inx.number (K.nodes nodes.old) root holder side new)
         → KeptOff (walk (filled free)) (K.nodes nodes.old) (K.nodes nodes.new) }
     ensures slot { K.nodes nodes.new (P.Inx.number new) ≡ Some (new_below (P.Inx.number holder)) }
     ensures keeps { K.rest nodes.new ≡ K.rest nodes.old }
@@ -41,13 +38,11 @@ pub(crate) fn detach<N, P: PtrCore, K: NodeStore<N, P>>(
     root: &mut Option<P::Inx>,
     gone: P::Inx,
 ) -> (Option<P::Inx>, Option<P::Inx>)
-    requires { Loose (K.nodes nodes.old) (option_map P.Inx.number root.old) (P.Inx.number gone) }
-    ensures does { (loose : Loose (K.nodes nodes.old) (option_map P.Inx.number root.old)
-        (P.Inx.number gone))
-        → Pending (K.nodes nodes.new) (option_map P.Inx.number root.new)
-        (option_map P.Inx.number result.0) (option_map P.Inx.number result.1) (walk_without loose) }
-    ensures elsewhere { (loose : Loose (K.nodes nodes.old) (option_map P.Inx.number root.old)
-        (P.Inx.number gone))
+    requires { LooseBy P.Inx.number (K.nodes nodes.old) root.old gone }
+    ensures does { (loose : LooseBy P.Inx.number (K.nodes nodes.old) root.old gone)
+        → PendingBy P.Inx.number (K.nodes nodes.new) root.new result.0 result.1
+        (walk_without loose) }
+    ensures elsewhere { (loose : LooseBy P.Inx.number (K.nodes nodes.old) root.old gone)
         → KeptOff (walk_without loose) (K.nodes nodes.old) (K.nodes nodes.new) }
     ensures keeps { K.rest nodes.new ≡ K.rest nodes.old }
 {
@@ -65,11 +60,9 @@ pub fn replace<N, P: PtrCore, K: NodeStore<N, P>>(
     old: P::Inx,
     new: P::Inx,
 )
-    requires place { Replacement (K.nodes nodes.old) (option_map P.Inx.number root.old)
-        (P.Inx.number old) (P.Inx.number new) }
+    requires place { ReplacementBy P.Inx.number (K.nodes nodes.old) root.old old new }
     requires slot { IsSome (K.nodes nodes.old (P.Inx.number new)) }
-    ensures does { (place : Replacement (K.nodes nodes.old) (option_map P.Inx.number root.old)
-        (P.Inx.number old) (P.Inx.number new))
+    ensures does { (place : ReplacementBy P.Inx.number (K.nodes nodes.old) root.old old new)
         → Becomes P.Inx.number (substituted place) (K.nodes nodes.old) (K.nodes nodes.new)
         root.new }
     ensures keeps { K.rest nodes.new ≡ K.rest nodes.old }

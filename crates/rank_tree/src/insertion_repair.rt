@@ -1,9 +1,9 @@
 //! The rank rules are restored after an insertion.
 ghost use Rattle.std.specs.Prelude.{◌≡◌, ℕ, ◌+◌, ◌<◌, List, Some, Option, IsTrue, ◌↔◌, ⊤};
-ghost use Rattle.std.specs.Option.{option_map};
 ghost use Rattle.rank_tree.specs.Tree.{walk, rank_of};
 ghost use Rattle.rank_tree.specs.Named.{named};
-ghost use Rattle.rank_tree.specs.Repair.{Leaning, Grown, FreeSide, filled, new_below, Restores};
+ghost use Rattle.rank_tree.specs.Repair.{LeaningBy, GrownBy, FreeSideBy, filled, new_below};
+ghost use Rattle.rank_tree.specs.Repair.{Restores};
 ghost use Rattle.rank_tree.specs.ClimbLaws.{GrownTo};
 
 use crate::edges::attach;
@@ -15,11 +15,9 @@ use triple_arena_ptr::PtrCore;
 
 /// `low` turns up over its parent of the same rank, or its inner child does, twice.
 fn lean<N, P: PtrCore, K: NodeStore<N, P>>(nodes: &mut K, root: &mut Option<P::Inx>, low: P::Inx)
-    requires leaning { (w : List ℕ)
-        × Leaning (K.nodes nodes.old) (option_map P.Inx.number root.old) (P.Inx.number low) w }
+    requires leaning { (w : List ℕ) × LeaningBy P.Inx.number (K.nodes nodes.old) root.old low w }
     requires no_more { ⊤ }
-    ensures does { (w : List ℕ)
-        → Leaning (K.nodes nodes.old) (option_map P.Inx.number root.old) (P.Inx.number low) w
+    ensures does { (w : List ℕ) → LeaningBy P.Inx.number (K.nodes nodes.old) root.old low w
         → Restores P.Inx.number w (K.nodes nodes.old) (K.nodes nodes.new) root.new }
     ensures keeps { K.rest nodes.new ≡ K.rest nodes.old }
 {
@@ -67,11 +65,9 @@ pub(crate) fn repair_inserted<N, P: PtrCore, K: NodeStore<N, P>>(
     root: &mut Option<P::Inx>,
     start: P::Inx,
 )
-    requires grown { (w : List ℕ)
-        × Grown (K.nodes nodes.old) (option_map P.Inx.number root.old) (P.Inx.number start) w }
+    requires grown { (w : List ℕ) × GrownBy P.Inx.number (K.nodes nodes.old) root.old start w }
     requires no_more { ⊤ }
-    ensures does { (w : List ℕ)
-        → Grown (K.nodes nodes.old) (option_map P.Inx.number root.old) (P.Inx.number start) w
+    ensures does { (w : List ℕ) → GrownBy P.Inx.number (K.nodes nodes.old) root.old start w
         → Restores P.Inx.number w (K.nodes nodes.old) (K.nodes nodes.new) root.new }
     ensures keeps { K.rest nodes.new ≡ K.rest nodes.old }
 {
@@ -102,11 +98,9 @@ pub fn bring_in<N, P: PtrCore, K: NodeStore<N, P>>(
     side: Side,
     new: P::Inx,
 )
-    requires free { FreeSide (K.nodes nodes.old) (option_map P.Inx.number root.old)
-        (P.Inx.number holder) side (P.Inx.number new) }
+    requires free { FreeSideBy P.Inx.number (K.nodes nodes.old) root.old holder side new }
     requires slot { K.nodes nodes.old (P.Inx.number new) ≡ Some (new_below (P.Inx.number holder)) }
-    ensures does { (free : FreeSide (K.nodes nodes.old) (option_map P.Inx.number root.old)
-        (P.Inx.number holder) side (P.Inx.number new))
+    ensures does { (free : FreeSideBy P.Inx.number (K.nodes nodes.old) root.old holder side new)
         → Restores P.Inx.number (walk (filled free)) (K.nodes nodes.old) (K.nodes nodes.new)
         root.new }
     ensures keeps { K.rest nodes.new ≡ K.rest nodes.old }

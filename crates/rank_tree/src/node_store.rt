@@ -1,7 +1,7 @@
 //! Where the nodes of a tree are kept, and changes of its links.
 ghost use Rattle.std.specs.Prelude.{◌≡◌, ℕ, Some, None, IsSome, IfSome, ⊤};
 ghost use Rattle.std.specs.Option.{option_map};
-ghost use Rattle.rank_tree.specs.Store.{Store, Written, Reparented, Relinked, with_child};
+ghost use Rattle.rank_tree.specs.Store.{Store, Written, Reparented, RelinkedBy, with_child};
 ghost use Rattle.rank_tree.specs.Store.{with_parent, with_rank};
 ghost use Rattle.rank_tree.specs.NodeView.{NodeView};
 ghost use Rattle.rank_tree.specs.Named.{named};
@@ -87,9 +87,8 @@ pub(crate) fn relink<N, P: PtrCore, K: NodeStore<N, P>>(
 )
     requires live { IfSome holder (λ i. IsSome (K.nodes nodes.old (P.Inx.number i))) }
     requires no_more { ⊤ }
-    ensures does { Relinked (K.nodes nodes.old) (K.nodes nodes.new)
-        (option_map P.Inx.number root.old) (option_map P.Inx.number root.new)
-        (option_map P.Inx.number holder) (P.Inx.number from) (option_map P.Inx.number to) }
+    ensures does { RelinkedBy P.Inx.number (K.nodes nodes.old) (K.nodes nodes.new) root.old root.new
+        holder from to }
     ensures keeps { K.rest nodes.new ≡ K.rest nodes.old }
 {
     match holder {

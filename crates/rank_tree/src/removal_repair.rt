@@ -1,9 +1,8 @@
 //! The rank rules are restored after a removal.
 ghost use Rattle.std.specs.Prelude.{◌≡◌, ℕ, ◌<◌, ◌≤◌, List, Some, IfSome, IsTrue, ◌↔◌, ⊤};
-ghost use Rattle.std.specs.Option.{option_map};
 ghost use Rattle.rank_tree.specs.Store.{rank_in};
 ghost use Rattle.rank_tree.specs.Named.{named};
-ghost use Rattle.rank_tree.specs.Repair.{Short, Broken, Pending, Loose, KeptOff, Restores};
+ghost use Rattle.rank_tree.specs.Repair.{ShortBy, BrokenBy, PendingBy, LooseBy, KeptOff, Restores};
 ghost use Rattle.rank_tree.specs.Repair.{IsFitAbove, walk_without};
 
 use crate::around::look_around;
@@ -16,11 +15,9 @@ use triple_arena_ptr::{PtrCore, PtrInxCore};
 
 /// The higher child `low` turns up, or its inner child does, twice.
 fn shorten<N, P: PtrCore, K: NodeStore<N, P>>(nodes: &mut K, root: &mut Option<P::Inx>, low: P::Inx)
-    requires short { (w : List ℕ)
-        × Short (K.nodes nodes.old) (option_map P.Inx.number root.old) (P.Inx.number low) w }
+    requires short { (w : List ℕ) × ShortBy P.Inx.number (K.nodes nodes.old) root.old low w }
     requires no_more { ⊤ }
-    ensures does { (w : List ℕ)
-        → Short (K.nodes nodes.old) (option_map P.Inx.number root.old) (P.Inx.number low) w
+    ensures does { (w : List ℕ) → ShortBy P.Inx.number (K.nodes nodes.old) root.old low w
         → Restores P.Inx.number w (K.nodes nodes.old) (K.nodes nodes.new) root.new }
     ensures keeps { K.rest nodes.new ≡ K.rest nodes.old }
 {
@@ -65,19 +62,13 @@ fn mend<N, P: PtrCore, K: NodeStore<N, P>>(
     high: P::Inx,
     near: Option<P::Inx>,
 ) -> Option<P::Inx>
-    requires { (w : List ℕ)
-        × Broken (K.nodes nodes.old) (option_map P.Inx.number root.old) (P.Inx.number high)
-        (option_map P.Inx.number near) w }
-    ensures pending { (w : List ℕ)
-        → Broken (K.nodes nodes.old) (option_map P.Inx.number root.old) (P.Inx.number high)
-        (option_map P.Inx.number near) w
-        → Pending (K.nodes nodes.new) (option_map P.Inx.number root.new)
-        (option_map P.Inx.number result) (Some (P.Inx.number high)) w }
+    requires { (w : List ℕ) × BrokenBy P.Inx.number (K.nodes nodes.old) root.old high near w }
+    ensures pending { (w : List ℕ) → BrokenBy P.Inx.number (K.nodes nodes.old) root.old high near w
+        → PendingBy P.Inx.number (K.nodes nodes.new) root.new result (Some high) w }
     ensures rises { IfSome result (λ i. rank_in (K.nodes nodes.old) (P.Inx.number high)
         < rank_in (K.nodes nodes.new) (P.Inx.number i)) }
     ensures elsewhere { (w : List ℕ)
-        → Broken (K.nodes nodes.old) (option_map P.Inx.number root.old) (P.Inx.number high)
-        (option_map P.Inx.number near) w
+        → BrokenBy P.Inx.number (K.nodes nodes.old) root.old high near w
         → KeptOff w (K.nodes nodes.old) (K.nodes nodes.new) }
     ensures keeps { K.rest nodes.new ≡ K.rest nodes.old }
 {
@@ -117,12 +108,9 @@ pub(crate) fn repair_removed<N, P: PtrCore, K: NodeStore<N, P>>(
     child: Option<P::Inx>,
 )
     requires pending { (w : List ℕ)
-        × Pending (K.nodes nodes.old) (option_map P.Inx.number root.old)
-        (option_map P.Inx.number start) (option_map P.Inx.number child) w }
+        × PendingBy P.Inx.number (K.nodes nodes.old) root.old start child w }
     requires no_more { ⊤ }
-    ensures does { (w : List ℕ)
-        → Pending (K.nodes nodes.old) (option_map P.Inx.number root.old)
-        (option_map P.Inx.number start) (option_map P.Inx.number child) w
+    ensures does { (w : List ℕ) → PendingBy P.Inx.number (K.nodes nodes.old) root.old start child w
         → Restores P.Inx.number w (K.nodes nodes.old) (K.nodes nodes.new) root.new }
     ensures keeps { K.rest nodes.new ≡ K.rest nodes.old }
 {
@@ -141,11 +129,9 @@ pub fn bring_out<N, P: PtrCore, K: NodeStore<N, P>>(
     root: &mut Option<P::Inx>,
     gone: P::Inx,
 )
-    requires loose { Loose (K.nodes nodes.old) (option_map P.Inx.number root.old)
-        (P.Inx.number gone) }
+    requires loose { LooseBy P.Inx.number (K.nodes nodes.old) root.old gone }
     requires no_more { ⊤ }
-    ensures does { (loose : Loose (K.nodes nodes.old) (option_map P.Inx.number root.old)
-        (P.Inx.number gone))
+    ensures does { (loose : LooseBy P.Inx.number (K.nodes nodes.old) root.old gone)
         → Restores P.Inx.number (walk_without loose) (K.nodes nodes.old) (K.nodes nodes.new)
         root.new }
     ensures keeps { K.rest nodes.new ≡ K.rest nodes.old }

@@ -1,7 +1,6 @@
 //! A node turns up over its parent.
 ghost use Rattle.std.specs.Prelude.{◌≡◌, ℕ, Option, ⊤};
-ghost use Rattle.std.specs.Option.{option_map};
-ghost use Rattle.rank_tree.specs.Repair.{Spot, turned, Becomes};
+ghost use Rattle.rank_tree.specs.Repair.{Spot, SpotBy, turned, Becomes};
 
 use crate::node_store::{relink, reparent};
 use crate::{NodeLinks, NodeStore, Side, side_of};
@@ -16,10 +15,9 @@ pub(crate) fn turn<N, P: PtrCore, K: NodeStore<N, P>>(
     low_rank: u8,
     high_rank: u8,
 )
-    requires spot { Spot (K.nodes nodes.old) (option_map P.Inx.number root.old) (P.Inx.number low) }
+    requires spot { SpotBy P.Inx.number (K.nodes nodes.old) root.old low }
     requires no_more { ⊤ }
-    ensures does { (spot : Spot (K.nodes nodes.old) (option_map P.Inx.number root.old)
-        (P.Inx.number low))
+    ensures does { (spot : SpotBy P.Inx.number (K.nodes nodes.old) root.old low)
         → Becomes P.Inx.number (turned spot low_rank high_rank) (K.nodes nodes.old)
         (K.nodes nodes.new) root.new }
     ensures keeps { K.rest nodes.new ≡ K.rest nodes.old }
@@ -56,11 +54,10 @@ fn turn_on<N, P: PtrCore, K: NodeStore<N, P>>(
     low_rank: u8,
     high_rank: u8,
 )
-    requires spot { Spot (K.nodes nodes.old) (option_map P.Inx.number root.old) (P.Inx.number low) }
-    requires side { (spot : Spot (K.nodes nodes.old) (option_map P.Inx.number root.old)
-        (P.Inx.number low)) → side ≡ spot.side }
-    ensures does { (spot : Spot (K.nodes nodes.old) (option_map P.Inx.number root.old)
-        (P.Inx.number low))
+    requires spot { SpotBy P.Inx.number (K.nodes nodes.old) root.old low }
+    requires side { (spot : SpotBy P.Inx.number (K.nodes nodes.old) root.old low)
+        → side ≡ spot.side }
+    ensures does { (spot : SpotBy P.Inx.number (K.nodes nodes.old) root.old low)
         → Becomes P.Inx.number (turned spot low_rank high_rank) (K.nodes nodes.old)
         (K.nodes nodes.new) root.new }
     ensures keeps { K.rest nodes.new ≡ K.rest nodes.old }

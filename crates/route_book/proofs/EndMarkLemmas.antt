@@ -1,7 +1,7 @@
 -- What the removal of a mark leaves of what is held, and of what ties a store's parts. No reference
 -- is to a mark.
 use Rattle.std.proofs.Common.{◌≡◌, ◌≢◌, ◌∙◌, sym, ap, subst, refl, ◌==◌, if◌then◌else◌, ℕ, ◌+◌, ◌≤◌}
-use Rattle.std.proofs.Common.{List, length, Option, Some, None, IsSome, is_some, arith}
+use Rattle.std.proofs.Common.{List, length, Option, Some, None, IsSome, arith}
 use Rattle.std.specs.Option.{option_map}
 use Rattle.triple_arena_stack.specs.Room.{capacity}
 use Rattle.triple_arena.specs.Changes.{IsRemoved}
@@ -14,23 +14,18 @@ use Rattle.triple_arena_ord.specs.Ordered.{Ordered}
 use Rattle.ticket_book.specs.declared.entry.Kind.{Kind}
 use Rattle.ticket_book.specs.declared.entry.Kind.TheVariants.{Place as OfPlace, Stop as OfStop}
 use Rattle.ticket_book.specs.declared.entry.Kind.TheVariants.{Mark as OfMark}
-use Rattle.ticket_book.specs.Tickets.{Entry, lookup, without_ticket}
+use Rattle.ticket_book.specs.Tickets.{Entry, without_ticket}
 use Rattle.route_lines.specs.Calls.{without_mark}
 use Rattle.route_lines.specs.Routes.{next_stop}
 use Rattle.route_lines.specs.Sound.{IsSound}
-use Rattle.route_lines.specs.State.{State, Rooms, Place, Stop, Mark, place_of, stop_of, mark_of}
+use Rattle.route_lines.specs.State.{State, Rooms, Place, Mark, place_of, stop_of, mark_of}
 use Rattle.route_lines.specs.State.{stop_list}
 use Rattle.route_book.specs.Book.{found_in, in_order, IsBook}
 use Rattle.route_book.specs.Item.{StopView, MarkView}
-use Rattle.route_book.specs.Holds.{Found, state_stop, state_mark, mark_under, place_at, stop_at}
-use Rattle.route_book.specs.Holds.{mark_at, IsFilled, entry, Rise, IsHeld}
-use Rattle.route_book.proofs.EndLemmas.{others_stay, was_other, still_found, IsKept, other_kind}
-use Rattle.route_book.proofs.EndLemmas.{other_ticket}
-use Rattle.route_book.proofs.EndLemmas.{still_filled, places_still, stops_still, marks_still}
-use Rattle.route_book.proofs.EndLemmas.{none_there, unchanged, rise_without, length_without}
-use Rattle.route_book.proofs.HoldLemmas.{booked_once}
+use Rattle.route_book.specs.Holds.{Found, state_mark, mark_under, mark_at, IsFilled, IsHeld}
+use Rattle.route_book.proofs.EndLemmas.{IsKept, Shrinks, shrinks, others_stay, length_without}
 use Rattle.route_book.proofs.OrderLemmas.{differ_of_rise}
-use Rattle.route_book.proofs.OptionLemmas.{found_has, some_same, stands_under}
+use Rattle.route_book.proofs.OptionLemmas.{found_has, stands_at}
 
 -- ---- what is held
 
@@ -50,80 +45,45 @@ module _ (s s' : State) (f : Found) (order : List Place) (ends : ℕ → Option 
   abbrev τ : MarkView → ℕ
   τ w = w.ticket
 
-  pub own_mark : (j k : ℕ) (w : MarkView) → f.marks j ≡ Some (k, w) → w.ticket ≡ t → j ≡ i
-  own_mark j k w is same = booked_once τ OfMark f.marks book h.marks_in j i k g w v is stood same
+  kept : (k : Kind) (j n : ℕ) → IsFilled f k j n → (k ≡ OfMark → at j ≡ f.marks j)
+      → IsKept f now (λ o. o) (λ o. o) k j n
+  kept OfPlace j n filled same = record { place = refl; stop = refl; mark = refl; filled = filled }
+  kept OfStop j n filled same = record { place = refl; stop = refl; mark = refl; filled = filled }
+  kept OfMark j n filled same =
+      let found = ap (value_if n) (same refl) in
+      record {
+        place = refl;
+        stop = refl;
+        mark = ap (option_map (state_mark f)) found;
+        filled = subst IsSome (sym found) filled;
+      }
 
-  booked : lookup book t ≡ Some (entry t OfMark i g)
-  booked = h.marks_in i g v stood
-
-  abbrev same_stop : Stop → Stop
-  same_stop x = x
-
-  abbrev same_mark : Mark → Mark
-  same_mark x = x
-
-  kept : (u : ℕ) (e : Entry) → lookup book u ≡ Some e → u ≢ t
-      → IsKept s s' f now order ends book h t same_stop same_mark e.kind e.index e.generation
-  kept u e is other = by e.kind refl (h.filled u e is)
-    where
-      by : (k : Kind) → e.kind ≡ k → IsFilled f k e.index e.generation
-          → IsKept s s' f now order ends book h t same_stop same_mark k e.index e.generation
-      by OfPlace kind filled = record { place = refl; stop = refl; mark = refl; filled = filled }
-      by OfStop kind filled =
-          record {
-            place = refl;
-            stop = unchanged (option_map (state_stop f) (value_if e.generation (f.stops e.index)));
-            mark = refl;
-            filled = filled;
-          }
-      by OfMark kind filled =
-          let st = stands_under f.marks e.index e.generation filled in
-          let named : st.0.ticket ≡ u =
-          found_has (λ (x : Mark). x.ticket) u s.marks (state_mark f st.0)
-          (h.marks u ∙ ap (mark_at f) is ∙ ap (λ k. mark_under f k e.index e.generation) kind
-          ∙ ap (option_map (state_mark f)) st.1.0) in
-          let still = still_found τ f.marks at i g v stood entries own_mark e.index e.generation
-          st.0 st.1.0 (λ same. other (sym named ∙ same)) in
-          record {
-            place = refl;
-            stop = refl;
-            mark = ap (option_map (state_mark f)) still
-                ∙ unchanged (option_map (state_mark f) (value_if e.generation (f.marks e.index)));
-            filled = subst IsSome (sym still) filled;
-          }
+  shrunk : Shrinks τ OfMark s f now book (without_ticket t book) f.marks at i g t (λ o. o) (λ o. o)
+  shrunk = shrinks MarkView τ OfMark s f now order ends book h f.marks at i g v stood entries
+      h.marks_in (λ j n is. is)
+      (λ u e w is kind found. found_has (λ (x : Mark). x.ticket) u s.marks (state_mark f w)
+      (h.marks u ∙ ap (mark_at f) is ∙ ap (λ k. mark_under f k e.index e.generation) kind
+      ∙ ap (option_map (state_mark f)) found)) (λ o. o) (λ o. o) refl refl kept
 
   pub mark_ended : s'.last ≡ s.last → s'.places ≡ s.places → s'.routes ≡ s.routes
       → ((u : ℕ) → mark_of s'.marks u ≡ (if u == t then None else mark_of s.marks u))
       → IsHeld s' now order ends (without_ticket t book)
   mark_ended last_same places routes marks = record {
-    rise = subst (Rise 0 (without_ticket t book)) (sym last_same)
-        (rise_without t book 0 s.last h.rise);
-    filled = still_filled s s' f now order ends book h t same_stop same_mark kept;
-    places_in = λ j k q is. other_kind book t _ booked OfPlace
-        (λ same. absurd (let no : OfPlace ≡ OfMark = same in cc)) q.ticket j k
+    rise = shrunk.rise s'.last last_same;
+    filled = shrunk.filled;
+    places_in = λ j k q is. shrunk.others OfPlace (λ same. absurd cc) q.ticket j k
         (h.places_in j k q is);
-    stops_in = λ j k w is. other_kind book t _ booked OfStop
-        (λ same. absurd (let no : OfStop ≡ OfMark = same in cc)) w.ticket j k
+    stops_in = λ j k w is. shrunk.others OfStop (λ same. absurd cc) w.ticket j k
         (h.stops_in j k w is);
-    marks_in = λ j k w is. (let was =
-        was_other τ f.marks at i g v stood entries own_mark j k w is in
-        other_ticket book t w.ticket _ (h.marks_in j k w was.0) was.1);
+    marks_in = shrunk.items;
     stop_place = h.stop_place;
-    mark_place = λ j k w is. h.mark_place j k w
-        (was_other τ f.marks at i g v stood entries own_mark j k w is).0;
-    mark_stop = λ j k w is. h.mark_stop j k w
-        (was_other τ f.marks at i g v stood entries own_mark j k w is).0;
+    mark_place = λ j k w is. h.mark_place j k w (shrunk.stood j k w is);
+    mark_stop = λ j k w is. h.mark_stop j k w (shrunk.stood j k w is);
     places_up_to = h.places_up_to;
     stops_up_to = h.stops_up_to;
-    places = places_still s s' f now order ends book h t same_stop same_mark kept
-        (none_there t (place_of s'.places) (place_of s.places)
-        (λ u. ap (λ ps. place_of ps u) places) (h.places t ∙ ap (place_at f) booked));
-    stops = stops_still s s' f now order ends book h t same_stop same_mark kept
-        (none_there t (stop_of s'.routes) (λ u. option_map same_stop (stop_of s.routes u))
-        (λ u. ap (λ rs. stop_of rs u) routes ∙ unchanged (stop_of s.routes u))
-        (ap (option_map same_stop) (h.stops t ∙ ap (stop_at f) booked)));
-    marks = marks_still s s' f now order ends book h t same_stop same_mark kept
-        (λ u. marks u ∙ ap (λ o. if u == t then None else o) (unchanged (mark_of s.marks u)));
+    places = shrunk.places_kept refl (place_of s'.places) (λ u. ap (λ ps. place_of ps u) places);
+    stops = shrunk.stops_kept refl (stop_of s'.routes) (λ u. ap (λ rs. stop_of rs u) routes);
+    marks = shrunk.marks (mark_of s'.marks) marks;
     in_order = places ∙ h.in_order;
     routes = λ j k w is. ap (λ rs. next_stop rs w.ticket) routes ∙ h.routes j k w is;
   }
@@ -144,18 +104,13 @@ module _ (rooms : Rooms) (last : ℕ) (s : State)
     (final : Option ℕ) (removed : IsRemoved entry_at live_count some_counter
     (λ (c : Content MarkView). c.room) final i marks marks') where
   stood : entry_at marks i ≡ Some (g, v)
-  stood = let st = stands_under (entry_at marks) i g (ap is_some found) in st.1.1
-      ∙ ap (λ w. Some (g, w)) (some_same (sym st.1.0 ∙ found))
-
-  own : (j k : ℕ) (w : MarkView) → entry_at marks j ≡ Some (k, w) → w.ticket ≡ v.ticket → j ≡ i
-  own = own_mark s s (found_in places stops marks) (in_order places) (ends_in stops)
-      book b.held i g v stood (entry_at marks') removed.entries
+  stood = stands_at (entry_at marks) i g v found
 
   -- the other marks keep their pointers
   pub marks_stay : (k h : ℕ) (w : MarkView) → entry_at marks k ≡ Some (h, w) → w.ticket ≢ v.ticket
       → entry_at marks' k ≡ Some (h, w)
-  marks_stay = others_stay (λ (w : MarkView). w.ticket) (entry_at marks) (entry_at marks') i g v
-      stood removed.entries own
+  marks_stay = others_stay (λ (w : MarkView). w.ticket) OfMark (entry_at marks) (entry_at marks')
+      i g v stood removed.entries book b.held.marks_in
 
   module _ (s' : State) (laws : IsMarkGone s s' v.ticket) (sound : IsSound s') where
     held : IsHeld s' (found_in places stops marks') (in_order places) (ends_in stops)

@@ -1,7 +1,7 @@
 -- What the removal of a place leaves of what is held, and of what ties a store's parts.
 use Rattle.std.proofs.Common.{◌≡◌, ◌≢◌, ◌∙◌, sym, ap, subst, refl, false, not, ◌==◌, if◌then◌else◌}
 use Rattle.std.proofs.Common.{ℕ, ◌+◌, ◌≤◌, List, [], ◌∷◌, ◌++◌, length, filter, Option, Some}
-use Rattle.std.proofs.Common.{None, IsSome, is_some, arith}
+use Rattle.std.proofs.Common.{None, IsSome, arith}
 use Rattle.std.specs.Option.{option_map}
 use Rattle.std.proofs.lemmas.Bool.{ne_eqb, eq-eqb}
 use Rattle.triple_arena_ptr.specs.Generation.{next_wraps}
@@ -19,7 +19,7 @@ use Rattle.ticket_book.specs.AlongLaws.{along}
 use Rattle.ticket_book.specs.declared.entry.Kind.{Kind}
 use Rattle.ticket_book.specs.declared.entry.Kind.TheVariants.{Place as OfPlace, Stop as OfStop}
 use Rattle.ticket_book.specs.declared.entry.Kind.TheVariants.{Mark as OfMark}
-use Rattle.ticket_book.specs.Tickets.{Entry, lookup, without_ticket}
+use Rattle.ticket_book.specs.Tickets.{Entry, without_ticket}
 use Rattle.route_lines.specs.Calls.{clear_mark, clear_stop, unless_is, without_place}
 use Rattle.route_lines.specs.Routes.{next_stop}
 use Rattle.route_lines.specs.Sound.{IsSound}
@@ -27,16 +27,12 @@ use Rattle.route_lines.specs.State.{State, Rooms, Place, place_of, stop_of, mark
 use Rattle.route_book.specs.Book.{found_in, in_order, IsBook}
 use Rattle.route_book.specs.Item.{StopView, MarkView}
 use Rattle.route_book.specs.Holds.{Found, found_by, state_stop, state_mark, place_under, place_at}
-use Rattle.route_book.specs.Holds.{IsFilled, entry, Rise, IsSettled, stop_at, mark_at, IsHeld}
+use Rattle.route_book.specs.Holds.{IsFilled, IsSettled, IsHeld}
 use Rattle.route_book.proofs.SettledLemmas.{settled_left, up_to_left}
-use Rattle.route_book.proofs.EndLemmas.{unnamed, others_stay, was_other, still_found, IsKept}
-use Rattle.route_book.proofs.EndLemmas.{other_kind, other_ticket, still_filled, places_still}
-use Rattle.route_book.proofs.EndLemmas.{stops_still}
-use Rattle.route_book.proofs.EndLemmas.{marks_still, none_there, each_mapped, rise_without}
-use Rattle.route_book.proofs.EndLemmas.{length_without}
+use Rattle.route_book.proofs.EndLemmas.{IsKept, Shrinks, shrinks, own, unnamed, others_stay}
+use Rattle.route_book.proofs.EndLemmas.{each_mapped, length_without}
 use Rattle.route_book.proofs.OrderLemmas.{differ_of_rise, one_up}
-use Rattle.route_book.proofs.HoldLemmas.{booked_once}
-use Rattle.route_book.proofs.OptionLemmas.{found_has, some_same, stands_under}
+use Rattle.route_book.proofs.OptionLemmas.{found_has, stands_at}
 
 -- ---- the list of the places without one
 
@@ -98,20 +94,13 @@ module _ (s s' : State) (f : Found) (order order' : List Place) (ends : ℕ → 
   abbrev τ : Place → ℕ
   τ q = q.ticket
 
-  pub own_place : (j k : ℕ) (q : Place) → f.places j ≡ Some (k, q) → q.ticket ≡ t → j ≡ i
-  own_place j k q is same =
-      booked_once τ OfPlace f.places book h.places_in j i k g q p is stood same
-
-  booked : lookup book t ≡ Some (entry t OfPlace i g)
-  booked = h.places_in i g p stood
-
   settled : (r : Option (ℕ × ℕ)) → IsSettled f.places f.place_counter r → IsSettled at counter r
   settled = settled_left f.places at i g f.place_counter counter p stood entries steps
       h.places_up_to
 
   forgot : (r : Option (ℕ × ℕ))
       → option_map τ (found_by at r) ≡ unless_is t (option_map τ (found_by f.places r))
-  forgot = unnamed τ f.places at i g p stood entries own_place
+  forgot = unnamed τ OfPlace f.places at i g p stood entries book h.places_in
 
   stop_now : (v : StopView) → state_stop now v ≡ clear_stop t (state_stop f v)
   stop_now v = ap (λ r. record { ticket = v.ticket; place = r }) (forgot v.place)
@@ -123,42 +112,33 @@ module _ (s s' : State) (f : Found) (order order' : List Place) (ends : ℕ → 
     stop = option_map (λ (q : StopView). q.ticket) (found_by f.stops v.stop);
   }) (forgot v.place)
 
-  kept : (u : ℕ) (e : Entry) → lookup book u ≡ Some e → u ≢ t
-      → IsKept s s' f now order ends book h t (clear_stop t) (clear_mark t) e.kind e.index
-      e.generation
-  kept u e is other = by e.kind refl (h.filled u e is)
-    where
-      by : (k : Kind) → e.kind ≡ k → IsFilled f k e.index e.generation
-          → IsKept s s' f now order ends book h t (clear_stop t) (clear_mark t) k e.index
-          e.generation
-      by OfPlace kind filled =
-          let st = stands_under f.places e.index e.generation filled in
-          let named : st.0.ticket ≡ u =
-          found_has τ u s.places st.0
-          (h.places u ∙ ap (place_at f) is ∙ ap (λ k. place_under f k e.index e.generation) kind
-          ∙ st.1.0) in
-          let still = still_found τ f.places at i g p stood entries own_place e.index e.generation
-          st.0 st.1.0 (λ same. other (sym named ∙ same)) in
-          record {
-            place = still;
-            stop = refl;
-            mark = refl;
-            filled = subst IsSome (sym still) filled;
-          }
-      by OfStop kind filled = record {
-        place = refl;
-        stop = each_mapped (clear_stop t) (state_stop now) (state_stop f) stop_now
-            (value_if e.generation (f.stops e.index));
-        mark = refl;
-        filled = filled;
-      }
-      by OfMark kind filled = record {
-        place = refl;
-        stop = refl;
-        mark = each_mapped (clear_mark t) (state_mark now) (state_mark f) mark_now
-            (value_if e.generation (f.marks e.index));
-        filled = filled;
-      }
+  kept : (k : Kind) (j n : ℕ) → IsFilled f k j n → (k ≡ OfPlace → at j ≡ f.places j)
+      → IsKept f now (option_map (clear_stop t)) (option_map (clear_mark t)) k j n
+  kept OfPlace j n filled same =
+      let found = ap (value_if n) (same refl) in
+      record { place = found; stop = refl; mark = refl; filled = subst IsSome (sym found) filled }
+  kept OfStop j n filled same = record {
+    place = refl;
+    stop = each_mapped (clear_stop t) (state_stop now) (state_stop f) stop_now
+        (value_if n (f.stops j));
+    mark = refl;
+    filled = filled;
+  }
+  kept OfMark j n filled same = record {
+    place = refl;
+    stop = refl;
+    mark = each_mapped (clear_mark t) (state_mark now) (state_mark f) mark_now
+        (value_if n (f.marks j));
+    filled = filled;
+  }
+
+  shrunk : Shrinks τ OfPlace s f now book (without_ticket t book) f.places at i g t
+      (option_map (clear_stop t)) (option_map (clear_mark t))
+  shrunk = shrinks Place τ OfPlace s f now order ends book h f.places at i g p stood entries
+      h.places_in (λ j n is. is)
+      (λ u e q is kind found. found_has τ u s.places q (h.places u ∙ ap (place_at f) is
+      ∙ ap (λ k. place_under f k e.index e.generation) kind ∙ found))
+      (option_map (clear_stop t)) (option_map (clear_mark t)) refl refl kept
 
   pub place_ended : s'.last ≡ s.last → order' ≡ s'.places
       → ((u : ℕ) → place_of s'.places u ≡ (if u == t then None else place_of s.places u))
@@ -167,17 +147,12 @@ module _ (s s' : State) (f : Found) (order order' : List Place) (ends : ℕ → 
       → ((u : ℕ) → next_stop s'.routes u ≡ next_stop s.routes u)
       → IsHeld s' now order' ends (without_ticket t book)
   place_ended last_same in_order places stops marks next = record {
-    rise = subst (Rise 0 (without_ticket t book)) (sym last_same)
-        (rise_without t book 0 s.last h.rise);
-    filled = still_filled s s' f now order ends book h t (clear_stop t) (clear_mark t) kept;
-    places_in = λ j k q is. (let was =
-        was_other τ f.places at i g p stood entries own_place j k q is in
-        other_ticket book t q.ticket _ (h.places_in j k q was.0) was.1);
-    stops_in = λ j k v is. other_kind book t _ booked OfStop
-        (λ same. absurd (let no : OfStop ≡ OfPlace = same in cc)) v.ticket j k
+    rise = shrunk.rise s'.last last_same;
+    filled = shrunk.filled;
+    places_in = shrunk.items;
+    stops_in = λ j k v is. shrunk.others OfStop (λ same. absurd cc) v.ticket j k
         (h.stops_in j k v is);
-    marks_in = λ j k v is. other_kind book t _ booked OfMark
-        (λ same. absurd (let no : OfMark ≡ OfPlace = same in cc)) v.ticket j k
+    marks_in = λ j k v is. shrunk.others OfMark (λ same. absurd cc) v.ticket j k
         (h.marks_in j k v is);
     stop_place = λ j k v is. settled v.place (h.stop_place j k v is);
     mark_place = λ j k v is. settled v.place (h.mark_place j k v is);
@@ -185,13 +160,9 @@ module _ (s s' : State) (f : Found) (order order' : List Place) (ends : ℕ → 
     places_up_to = up_to_left f.places at i g f.place_counter counter p stood entries steps
         h.places_up_to;
     stops_up_to = h.stops_up_to;
-    places = places_still s s' f now order ends book h t (clear_stop t) (clear_mark t) kept places;
-    stops = stops_still s s' f now order ends book h t (clear_stop t) (clear_mark t) kept
-        (none_there t (stop_of s'.routes) (λ u. option_map (clear_stop t) (stop_of s.routes u))
-        stops (ap (option_map (clear_stop t)) (h.stops t ∙ ap (stop_at f) booked)));
-    marks = marks_still s s' f now order ends book h t (clear_stop t) (clear_mark t) kept
-        (none_there t (mark_of s'.marks) (λ u. option_map (clear_mark t) (mark_of s.marks u)) marks
-        (ap (option_map (clear_mark t)) (h.marks t ∙ ap (mark_at f) booked)));
+    places = shrunk.places (place_of s'.places) places;
+    stops = shrunk.stops_kept refl (stop_of s'.routes) stops;
+    marks = shrunk.marks_kept refl (mark_of s'.marks) marks;
     in_order = sym in_order;
     routes = λ j k v is. next v.ticket ∙ h.routes j k v is;
   }
@@ -219,17 +190,10 @@ module _ (rooms : Rooms) (last : ℕ) (s : State)
     (calm : next_wraps final places.chains.counter ≡ false)
     (removed : IsEntryRemoved final i places places') where
   stood : entry_in places i ≡ Some (g, p)
-  stood = let st = stands_under (entry_in places) i g (ap is_some found) in st.1.1
-      ∙ ap (λ q. Some (g, q)) (some_same (sym st.1.0 ∙ found))
+  stood = stands_at (entry_in places) i g p found
 
   pub place_steps : places'.chains.counter ≡ places.chains.counter + 1
   place_steps = removed.counter ∙ one_up final places.chains.counter top counts calm
-
-  own : (j k : ℕ) (q : Place) → entry_in places j ≡ Some (k, q) → q.ticket ≡ p.ticket → j ≡ i
-  own = own_place s s (found_in places stops marks) (in_order places)
-      (in_order places) (ends_in stops) book b.held i g p stood (entry_in places')
-      removed.entries
-      places'.chains.counter place_steps
 
   apart : Off removed.order.before i × Off removed.order.after i
   apart = Apart-split removed.order.before removed.order.after i
@@ -240,7 +204,9 @@ module _ (rooms : Rooms) (last : ℕ) (s : State)
       ≡ filter (λ (q : Place). not (q.ticket == p.ticket)) (in_order places)
   order_is =
       ap (along (entry_in places')) removed.order.is
-      ∙ along_left (entry_in places) (entry_in places') i g p stood removed.entries own
+      ∙ along_left (entry_in places) (entry_in places') i g p stood removed.entries
+      (own (λ (q : Place). q.ticket) OfPlace (entry_in places) (entry_in places') i g p stood
+      removed.entries book b.held.places_in)
       removed.order.before removed.order.after apart.0 apart.1
       ∙ ap (λ w. filter (λ (q : Place). not (q.ticket == p.ticket)) (along (entry_in places) w))
       (sym removed.order.was)
@@ -248,8 +214,8 @@ module _ (rooms : Rooms) (last : ℕ) (s : State)
   -- the other places keep their pointers
   pub places_stay : (k h : ℕ) (q : Place) → entry_in places k ≡ Some (h, q) → q.ticket ≢ p.ticket
       → entry_in places' k ≡ Some (h, q)
-  places_stay = others_stay (λ (q : Place). q.ticket) (entry_in places) (entry_in places') i g p
-      stood removed.entries own
+  places_stay = others_stay (λ (q : Place). q.ticket) OfPlace (entry_in places) (entry_in places')
+      i g p stood removed.entries book b.held.places_in
 
   module _ (s' : State) (laws : IsPlaceGone s s' p.ticket) (sound : IsSound s') where
     held : IsHeld s' (found_in places' stops marks) (in_order places') (ends_in stops)

@@ -18,7 +18,7 @@ use Rattle.triple_arena_ord.specs.Ordered.{Ordered}
 use Rattle.ticket_book.specs.declared.entry.Kind.{Kind}
 use Rattle.ticket_book.specs.declared.entry.Kind.TheVariants.{Place as OfPlace, Stop as OfStop}
 use Rattle.ticket_book.specs.declared.entry.Kind.TheVariants.{Mark as OfMark}
-use Rattle.ticket_book.specs.Tickets.{Entry, lookup, without_ticket}
+use Rattle.ticket_book.specs.Tickets.{Entry, without_ticket}
 use Rattle.route_lines.specs.Calls.{clear_mark_stop, unless_is, without_stop}
 use Rattle.route_lines.specs.Routes.{next_stop, past}
 use Rattle.route_lines.specs.Sound.{IsSound}
@@ -27,19 +27,15 @@ use Rattle.route_lines.specs.State.{stop_list}
 use Rattle.route_book.specs.Book.{found_in, in_order, IsBook}
 use Rattle.route_book.specs.Follows.{ticket_at, LeadAs}
 use Rattle.route_book.specs.Item.{StopView, MarkView}
-use Rattle.route_book.specs.Holds.{Found, found_by, state_stop, state_mark, stop_under, place_at}
-use Rattle.route_book.specs.Holds.{stop_at, mark_at, IsFilled, entry, Rise, IsSettled, IsHeld}
+use Rattle.route_book.specs.Holds.{Found, found_by, state_stop, state_mark, stop_under, stop_at}
+use Rattle.route_book.specs.Holds.{IsFilled, IsSettled, IsHeld}
 use Rattle.route_book.proofs.FollowLemmas.{next_with_prev}
 use Rattle.route_book.proofs.LinkLemmas.{live_ends}
 use Rattle.route_book.proofs.SettledLemmas.{settled_left, up_to_left}
-use Rattle.route_book.proofs.EndLemmas.{unnamed, there, others_stay, was_other, still_found, IsKept}
-use Rattle.route_book.proofs.EndLemmas.{other_kind, other_ticket, still_filled, places_still}
-use Rattle.route_book.proofs.EndLemmas.{stops_still}
-use Rattle.route_book.proofs.EndLemmas.{marks_still, none_there, each_mapped, unchanged}
-use Rattle.route_book.proofs.EndLemmas.{rise_without, length_without}
+use Rattle.route_book.proofs.EndLemmas.{IsKept, Shrinks, shrinks, own, there, unnamed, was_other}
+use Rattle.route_book.proofs.EndLemmas.{others_stay, each_mapped, length_without}
 use Rattle.route_book.proofs.OrderLemmas.{differ_of_rise, one_up}
-use Rattle.route_book.proofs.HoldLemmas.{booked_once}
-use Rattle.route_book.proofs.OptionLemmas.{found_has, some_same, stands_under}
+use Rattle.route_book.proofs.OptionLemmas.{found_has, some_same, stands_at}
 
 -- ---- what follows once an index is taken out
 
@@ -139,18 +135,12 @@ module _ (s s' : State) (f : Found) (order : List Place) (ends ends' : ℕ → O
   abbrev τ : StopView → ℕ
   τ w = w.ticket
 
-  pub own_stop : (j k : ℕ) (w : StopView) → f.stops j ≡ Some (k, w) → w.ticket ≡ t → j ≡ i
-  own_stop j k w is same = booked_once τ OfStop f.stops book h.stops_in j i k g w v is stood same
-
-  booked : lookup book t ≡ Some (entry t OfStop i g)
-  booked = h.stops_in i g v stood
-
   settled : (r : Option (ℕ × ℕ)) → IsSettled f.stops f.stop_counter r → IsSettled at counter r
   settled = settled_left f.stops at i g f.stop_counter counter v stood entries steps h.stops_up_to
 
   forgot : (r : Option (ℕ × ℕ))
       → option_map τ (found_by at r) ≡ unless_is t (option_map τ (found_by f.stops r))
-  forgot = unnamed τ f.stops at i g v stood entries own_stop
+  forgot = unnamed τ OfStop f.stops at i g v stood entries book h.stops_in
 
   mark_now : (w : MarkView) → state_mark now w ≡ clear_mark_stop t (state_mark f w)
   mark_now w = ap (λ r. record {
@@ -159,42 +149,33 @@ module _ (s s' : State) (f : Found) (order : List Place) (ends ends' : ℕ → O
     stop = r;
   }) (forgot w.stop)
 
-  abbrev same_stop : Stop → Stop
-  same_stop x = x
+  kept : (k : Kind) (j n : ℕ) → IsFilled f k j n → (k ≡ OfStop → at j ≡ f.stops j)
+      → IsKept f now (λ o. o) (option_map (clear_mark_stop t)) k j n
+  kept OfPlace j n filled same = record { place = refl; stop = refl; mark = refl; filled = filled }
+  kept OfStop j n filled same =
+      let found = ap (value_if n) (same refl) in
+      record {
+        place = refl;
+        stop = ap (option_map (state_stop f)) found;
+        mark = refl;
+        filled = subst IsSome (sym found) filled;
+      }
+  kept OfMark j n filled same = record {
+    place = refl;
+    stop = refl;
+    mark = each_mapped (clear_mark_stop t) (state_mark now) (state_mark f) mark_now
+        (value_if n (f.marks j));
+    filled = filled;
+  }
 
-  kept : (u : ℕ) (e : Entry) → lookup book u ≡ Some e → u ≢ t
-      → IsKept s s' f now order ends book h t same_stop (clear_mark_stop t) e.kind e.index
-      e.generation
-  kept u e is other = by e.kind refl (h.filled u e is)
-    where
-      by : (k : Kind) → e.kind ≡ k → IsFilled f k e.index e.generation
-          → IsKept s s' f now order ends book h t same_stop (clear_mark_stop t) k e.index
-          e.generation
-      by OfPlace kind filled = record { place = refl; stop = refl; mark = refl; filled = filled }
-      by OfStop kind filled =
-          let st = stands_under f.stops e.index e.generation filled in
-          let named : st.0.ticket ≡ u =
-          found_has (λ (x : Stop). x.ticket) u (stop_list s.routes) (state_stop f st.0)
-          (h.stops u ∙ ap (stop_at f) is ∙ ap (λ k. stop_under f k e.index e.generation) kind
-          ∙ ap (option_map (state_stop f)) st.1.0) in
-          let still = still_found τ f.stops at i g v stood entries own_stop e.index e.generation
-          st.0 st.1.0 (λ same. other (sym named ∙ same)) in
-          record {
-            place = refl;
-            stop = ap (option_map (state_stop f)) still
-                ∙ unchanged (option_map (state_stop f) (value_if e.generation (f.stops e.index)));
-            mark = refl;
-            filled = subst IsSome (sym still) filled;
-          }
-      by OfMark kind filled =
-          record {
-            place = refl;
-            stop = refl;
-            mark =
-                each_mapped (clear_mark_stop t) (state_mark now) (state_mark f) mark_now
-                (value_if e.generation (f.marks e.index));
-            filled = filled;
-          }
+  shrunk : Shrinks τ OfStop s f now book (without_ticket t book) f.stops at i g t (λ o. o)
+      (option_map (clear_mark_stop t))
+  shrunk = shrinks StopView τ OfStop s f now order ends book h f.stops at i g v stood entries
+      h.stops_in (λ j n is. is)
+      (λ u e w is kind found. found_has (λ (x : Stop). x.ticket) u (stop_list s.routes)
+      (state_stop f w) (h.stops u ∙ ap (stop_at f) is
+      ∙ ap (λ k. stop_under f k e.index e.generation) kind ∙ ap (option_map (state_stop f)) found))
+      (λ o. o) (option_map (clear_mark_stop t)) refl refl kept
 
   module _ (agreed : IsAgreed ends) (live : (k : ℕ) → IsSome (f.stops k) → IsSome (ends k))
       (ends_are : (k : ℕ) → ends' k ≡ taken_out ends i k)
@@ -205,11 +186,12 @@ module _ (s s' : State) (f : Found) (order : List Place) (ends ends' : ℕ → O
     same_at None other = refl
     same_at (Some k) other =
         ap (option_map (λ (x : ℕ × StopView). x.1.ticket))
-        (there τ f.stops at i g v stood entries own_stop k (λ same. other (ap Some same)))
+        (there τ OfStop f.stops at i g v stood entries book h.stops_in k
+        (λ same. other (ap Some same)))
 
     lead_left : LeadAs τ at ends' (next_stop s'.routes)
     lead_left j k w is =
-        let was = was_other τ f.stops at i g v stood entries own_stop j k w is in
+        let was = was_other τ OfStop f.stops at i g v stood entries book h.stops_in j k w is in
         let apart : j ≢ i = λ same. (was.1
         (ap (λ (x : ℕ × StopView). x.1.ticket)
         (some_same (sym was.0 ∙ ap f.stops same ∙ stood)))) in
@@ -250,40 +232,31 @@ module _ (s s' : State) (f : Found) (order : List Place) (ends ends' : ℕ → O
                 ≡ option_map (λ (x : ℕ × StopView). x.1.ticket) (f.stops n)
             by_stop other None is = rw is refl
             by_stop other (Some x) is =
-                rw (is, ne_eqb x.1.ticket t (λ same. other (own_stop n x.0 x.1 is same))) refl
+                let apart : x.1.ticket ≢ t = λ same. other
+                (own τ OfStop f.stops at i g v stood entries book h.stops_in n x.0 x.1 is same) in
+                rw (is, ne_eqb x.1.ticket t apart) refl
 
     pub stop_ended : s'.last ≡ s.last → s'.places ≡ s.places
         → ((u : ℕ) → stop_of s'.routes u ≡ (if u == t then None else stop_of s.routes u))
         → ((u : ℕ) → mark_of s'.marks u ≡ option_map (clear_mark_stop t) (mark_of s.marks u))
         → IsHeld s' now order ends' (without_ticket t book)
     stop_ended last_same places stops marks = record {
-      rise = subst (Rise 0 (without_ticket t book)) (sym last_same)
-          (rise_without t book 0 s.last h.rise);
-      filled = still_filled s s' f now order ends book h t same_stop (clear_mark_stop t) kept;
-      places_in = λ j k q is. other_kind book t _ booked OfPlace
-          (λ same. absurd (let no : OfPlace ≡ OfStop = same in cc)) q.ticket j k
+      rise = shrunk.rise s'.last last_same;
+      filled = shrunk.filled;
+      places_in = λ j k q is. shrunk.others OfPlace (λ same. absurd cc) q.ticket j k
           (h.places_in j k q is);
-      stops_in = λ j k w is. (let was =
-          was_other τ f.stops at i g v stood entries own_stop j k w is in
-          other_ticket book t w.ticket _ (h.stops_in j k w was.0) was.1);
-      marks_in = λ j k w is. other_kind book t _ booked OfMark
-          (λ same. absurd (let no : OfMark ≡ OfStop = same in cc)) w.ticket j k
+      stops_in = shrunk.items;
+      marks_in = λ j k w is. shrunk.others OfMark (λ same. absurd cc) w.ticket j k
           (h.marks_in j k w is);
-      stop_place = λ j k w is. h.stop_place j k w
-          (was_other τ f.stops at i g v stood entries own_stop j k w is).0;
+      stop_place = λ j k w is. h.stop_place j k w (shrunk.stood j k w is);
       mark_place = h.mark_place;
       mark_stop = λ j k w is. settled w.stop (h.mark_stop j k w is);
       places_up_to = h.places_up_to;
       stops_up_to = up_to_left f.stops at i g f.stop_counter counter v stood entries steps
           h.stops_up_to;
-      places = places_still s s' f now order ends book h t same_stop (clear_mark_stop t) kept
-          (none_there t (place_of s'.places) (place_of s.places)
-          (λ u. ap (λ ps. place_of ps u) places) (h.places t ∙ ap (place_at f) booked));
-      stops = stops_still s s' f now order ends book h t same_stop (clear_mark_stop t) kept
-          (λ u. stops u ∙ ap (λ o. if u == t then None else o) (unchanged (stop_of s.routes u)));
-      marks = marks_still s s' f now order ends book h t same_stop (clear_mark_stop t) kept
-          (none_there t (mark_of s'.marks) (λ u. option_map (clear_mark_stop t) (mark_of s.marks u))
-          marks (ap (option_map (clear_mark_stop t)) (h.marks t ∙ ap (mark_at f) booked)));
+      places = shrunk.places_kept refl (place_of s'.places) (λ u. ap (λ ps. place_of ps u) places);
+      stops = shrunk.stops (stop_of s'.routes) stops;
+      marks = shrunk.marks_kept refl (mark_of s'.marks) marks;
       in_order = places ∙ h.in_order;
       routes = lead_left;
     }
@@ -310,22 +283,16 @@ module _ (rooms : Rooms) (last : ℕ) (s : State)
     (calm : next_wraps final stops.counter ≡ false)
     (taken : IsTakenOut final i stops stops') where
   stood : values_in stops i ≡ Some (g, v)
-  stood = let st = stands_under (values_in stops) i g (ap is_some found) in st.1.1
-      ∙ ap (λ w. Some (g, w)) (some_same (sym st.1.0 ∙ found))
+  stood = stands_at (values_in stops) i g v found
 
   pub stop_steps : stops'.counter ≡ stops.counter + 1
   stop_steps = taken.counter ∙ one_up final stops.counter top counts calm
 
-  own : (j k : ℕ) (w : StopView) → values_in stops j ≡ Some (k, w) → w.ticket ≡ v.ticket → j ≡ i
-  own = own_stop s s (found_in places stops marks) (in_order places) (ends_in stops)
-      (ends_in stops') book b.held i g v stood (values_in stops') taken.values
-      stops'.counter stop_steps
-
   -- the other stops keep their pointers
   pub stops_stay : (k h : ℕ) (w : StopView) → values_in stops k ≡ Some (h, w) → w.ticket ≢ v.ticket
       → values_in stops' k ≡ Some (h, w)
-  stops_stay = others_stay (λ (w : StopView). w.ticket) (values_in stops) (values_in stops') i g v
-      stood taken.values own
+  stops_stay = others_stay (λ (w : StopView). w.ticket) OfStop (values_in stops)
+      (values_in stops') i g v stood taken.values book b.held.stops_in
 
   module _ (s' : State) (laws : IsStopGone s s' v.ticket) (sound : IsSound s') where
     held : IsHeld s' (found_in places stops' marks) (in_order places) (ends_in stops')

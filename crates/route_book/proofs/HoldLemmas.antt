@@ -19,7 +19,7 @@ use Rattle.route_lines.specs.State.{stop_of, mark_of}
 use Rattle.route_book.specs.Holds.{Found, state_stop, state_mark, place_under, stop_under}
 use Rattle.route_book.specs.Holds.{mark_under, item_under, place_at, stop_at, mark_at, IsFilled}
 use Rattle.route_book.specs.Holds.{IsItem, entry, Rise, IsHeld}
-use Rattle.route_book.proofs.OptionLemmas.{some_same}
+use Rattle.route_book.proofs.OptionLemmas.{none_behind, some_same}
 
 no_some : {X : Type 0} {x : X} → ◌≡◌ {A = Option X} None (Some x) → ⊥
 no_some e = absurd (cc)
@@ -179,11 +179,7 @@ module _ (book : List Entry) (last : ℕ) (e : Entry) (rise : Rise 0 book last)
       let one : lookup (e ∷ []) t ≡ None =
       rw (ne_eqb e.ticket t (λ is. other (sym is ∙ next))) refl in
       find-append (λ (x : Entry). x.ticket == t) book (e ∷ []) ∙ ap (option_or (lookup book t)) one
-      ∙ by (lookup book t)
-    where
-      by : (o : Option Entry) → option_or o None ≡ o
-      by None = refl
-      by (Some x) = refl
+      ∙ none_behind (lookup book t)
 
   pub lookup_kept : (t : ℕ) (x : Entry) → lookup book t ≡ Some x
       → lookup (book ++ e ∷ []) t ≡ Some x

@@ -1,10 +1,9 @@
 -- What `mark` makes of what is held, and of what ties a store's parts.
 use Rattle.std.proofs.Common.{◌≡◌, ◌≢◌, ◌∙◌, sym, ap, subst, refl, Bool, true, false, ◌==◌, ◌||◌}
 use Rattle.std.proofs.Common.{nat_lt, ℕ, ◌+◌, ◌<◌, ◌≤◌, List, [], ◌∷◌, ◌++◌, length, Option, Some}
-use Rattle.std.proofs.Common.{None, IsSome, true≢false, Result, Ok, Err, arith, length-append, find}
-use Rattle.std.proofs.Common.{inl, inr}
+use Rattle.std.proofs.Common.{None, IsSome, Result, Ok, Err, arith, length-append, inl, inr}
 use Rattle.std.specs.Option.{option_map, option_or}
-use Rattle.std.proofs.lemmas.Bool.{ne_eqb, eq-eqb, leb-false}
+use Rattle.std.proofs.lemmas.Bool.{ne_eqb, eq-eqb}
 use Rattle.std.proofs.lemmas.Bool.Decides.{eqb_tells}
 use Rattle.std.proofs.lemmas.List.Folds.{find-append}
 use Rattle.triple_arena.specs.Entries.{value_if, with_entry}
@@ -30,8 +29,9 @@ use Rattle.route_book.specs.Holds.{IsFilled, IsLive, IsSettled}
 use Rattle.route_book.specs.Holds.{IsHeld}
 use Rattle.route_book.specs.Book.{MarksDiffer, found_in, in_order, IsBook, KeepsItems}
 use Rattle.route_book.proofs.AddedLemmas.{Grows, Kept, grows}
-use Rattle.route_book.proofs.SettledLemmas.{live_settled}
-use Rattle.route_book.proofs.OptionLemmas.{some_same, none_new, one_new}
+use Rattle.route_book.proofs.SettledLemmas.{found_added, live_settled}
+use Rattle.route_book.proofs.RoomLemmas.{room_left}
+use Rattle.route_book.proofs.OptionLemmas.{found_has, none_behind, none_new, one_new, each_stays}
 
 -- a mark more, at an index where there was none
 module _ (s : State) (f : Found) (order : List Place) (ends : ℕ → Option Ends) (book : List Entry)
@@ -52,27 +52,17 @@ module _ (s : State) (f : Found) (order : List Place) (ends : ℕ → Option End
   abbrev pub after_marked : State
   after_marked = record s { last = s.last + 1; marks = s.marks ++ m ∷ [] }
 
-  there : (k : ℕ) → k ≢ i → at k ≡ f.marks k
-  there k other = entries k ∙ rw (ne_eqb k i other) refl
-
-  -- a pointer that found a mark finds it still
-  value_kept : (j n : ℕ) → IsSome (value_if n (f.marks j))
-      → value_if n (at j) ≡ value_if n (f.marks j)
-  value_kept j n live = elim (eqb_tells j i) [
-    | inl same ↦ absurd (true≢false
-        (sym (subst (λ o. IsSome (value_if n o)) (ap f.marks same.1 ∙ vacant) live)))
-    | inr other ↦ ap (value_if n) (there j other.1)
-  ]
-
   kept : (k : Kind) (j n : ℕ) → IsFilled f k j n → Kept f now k j n
   kept OfPlace j n filled = record { place = refl; stop = refl; mark = refl; filled = filled }
   kept OfStop j n filled = record { place = refl; stop = refl; mark = refl; filled = filled }
-  kept OfMark j n filled = record {
-    place = refl;
-    stop = refl;
-    mark = ap (option_map (state_mark f)) (value_kept j n filled);
-    filled = subst IsSome (sym (value_kept j n filled)) filled;
-  }
+  kept OfMark j n filled =
+      let same = found_added f.marks at i g v vacant entries (Some (j, n)) (inl filled) in
+      record {
+        place = refl;
+        stop = refl;
+        mark = ap (option_map (state_mark f)) same;
+        filled = subst IsSome (sym same) filled;
+      }
 
   grown : Grows (λ (q : MarkView). q.ticket) OfMark s now book more f.marks at i g v
   grown = grows MarkView (λ q. q.ticket) OfMark s f now order ends book h f.marks at i g v entries
@@ -87,10 +77,6 @@ module _ (s : State) (f : Found) (order : List Place) (ends : ℕ → Option End
 
   pub no_mark_yet : mark_of s.marks m.ticket ≡ None
   no_mark_yet = h.marks m.ticket ∙ ap (mark_at f) (grown.none m.ticket ticket)
-
-  none_behind : (o : Option Mark) → option_or o None ≡ o
-  none_behind None = refl
-  none_behind (Some x) = refl
 
   pub mark_added : IsHeld after_marked now order ends more
   mark_added = record {
@@ -148,12 +134,8 @@ MarksDiffer-behind (x ∷ ms) m differ none = elim (eqb_tells x.ticket m.ticket)
       )
 ]
 
-left_false : (a b : Bool) → (a || b) ≡ false → a ≡ false
-left_false true b h = h
-left_false false b h = refl
-
 pub marks_not_full : (s : State) → is_full_of_marks s ≡ false → length s.marks < s.rooms.marks
-marks_not_full s is = leb-false s.rooms.marks (length s.marks) (left_false _ _ is)
+marks_not_full s is = room_left s.rooms.marks (length s.marks) _ is
 
 module _ (s : State) (at t : ℕ) where
   pub marked_new : (p : Place) (x : Stop) → place_holder s at ≡ Ok p → stop_holder s t ≡ Ok x
@@ -166,18 +148,6 @@ module _ (s : State) (at t : ℕ) where
   marked_new p x place stop free = (rw (place, stop, free) refl, rw (place, stop, free) refl)
 
 -- ---- the items that a mark names
-
-has_stop : (stops : List Stop) (t : ℕ) (x : Stop)
-    → find (λ (u : Stop). u.ticket == t) stops ≡ Some x → x.ticket ≡ t
-has_stop [] t x is = absurd (let no : ◌≡◌ {A = Option Stop} None (Some x) = is in cc)
-has_stop (u ∷ stops) t x is = elim (eqb_tells u.ticket t) [
-  | inl same ↦
-      let found : find (λ (v : Stop). v.ticket == t) (u ∷ stops) ≡ Some u = rw same.0 refl in
-      let one : u ≡ x = some_same (sym found ∙ is) in ap (λ (v : Stop). v.ticket) (sym one) ∙ same.1
-  | inr other ↦ let skip : find (λ (v : Stop). v.ticket == t) (u ∷ stops)
-      ≡ find (λ (v : Stop). v.ticket == t) stops = rw other.0 refl in
-      has_stop stops t x (sym skip ∙ is)
-]
 
 module _ (s : State) (t : ℕ) (x : Stop) (held : stop_holder s t ≡ Ok x) where
   held_stop : stop_of s.routes t ≡ Some x
@@ -204,7 +174,7 @@ module _ (s : State) (t : ℕ) (x : Stop) (held : stop_holder s t ≡ Ok x) wher
           three ∙ ap Some (let is : u ≡ x = cc in is)
 
   stop_ticket : x.ticket ≡ t
-  stop_ticket = has_stop (stop_list s.routes) t x held_stop
+  stop_ticket = found_has (λ (u : Stop). u.ticket) t (stop_list s.routes) x held_stop
 
 -- a mark where there is room
 module _ (rooms : Rooms) (last : ℕ) (s : State)
@@ -275,7 +245,7 @@ pub kept_mark : (s s' : State) (places : Ordered Place)
 kept_mark s s' places stops marks marks' v i g vacant entries own counter room = record {
   places = λ j n p is. (p, (is, (refl, refl)));
   stops = λ j n t is. is;
-  marks = stays;
+  marks = each_stays marks.counter (entry_at marks) (entry_at marks') i g v entries vacant;
   new_places = none_new _ _ _ (λ k. refl);
   new_stops = none_new _ _ _ (λ k. refl);
   new_marks = one_new marks.counter (entry_at marks) (entry_at marks') i g v entries own;
@@ -284,11 +254,3 @@ kept_mark s s' places stops marks marks' v i g vacant entries own counter room =
   mark_counter = counter;
   rooms = record { places = refl; stops = refl; marks = room };
 }
-  where
-    stays : (j n : ℕ) (u : MarkView) → entry_at marks j ≡ Some (n, u)
-        → entry_at marks' j ≡ Some (n, u)
-    stays j n u is = elim (eqb_tells j i) [
-      | inl same ↦ absurd (let no : ◌≡◌ {A = Option (ℕ × MarkView)} None (Some (n, u)) = sym vacant
-          ∙ sym (ap (entry_at marks) same.1) ∙ is in cc)
-      | inr other ↦ entries j ∙ rw other.0 is
-    ]

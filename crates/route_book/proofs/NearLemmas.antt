@@ -31,7 +31,7 @@ use Rattle.route_book.proofs.HoldLemmas.{booked_once}
 use Rattle.route_book.proofs.KeyLemmas.{GoesPast, above_behind, ascending}
 use Rattle.route_book.proofs.KeyLemmas.{live_along, newest_past, past_above, past_from}
 use Rattle.route_book.proofs.NeighborLemmas.{held_place}
-use Rattle.route_book.proofs.OptionLemmas.{found_has, some_same, stands_under}
+use Rattle.route_book.proofs.OptionLemmas.{found_has, stands_at}
 
 -- ---- positions in a list
 
@@ -340,9 +340,7 @@ module _ (rooms : Rooms) (last : ℕ) (s : State)
     → q.ticket < k.ticket) (near i g : ℕ) (p : Place)
     (value : value_if g (entry_in places i) ≡ Some p) (held : place_holder s near ≡ Ok p) where
   stands : entry_in places i ≡ Some (g, p)
-  stands =
-      let there = stands_under (entry_in places) i g (subst IsSome (sym value) refl) in
-      there.1.1 ∙ ap (λ q. Some (g, q)) (some_same (sym there.1.0 ∙ value))
+  stands = stands_at (entry_in places) i g p value
 
   has : p.ticket ≡ near
   has = found_has (λ (q : Place). q.ticket) near s.places p (held_place s near p held)

@@ -1,13 +1,18 @@
 -- What is known of an option, of what a pointer finds, and of what a search finds.
 use Rattle.std.proofs.Common.{◌≡◌, ◌==◌, if◌then◌else◌, false, ℕ, List, [], ◌∷◌, Option, Some}
-use Rattle.std.proofs.Common.{None, IsSome, find, option_map, true≢false, refl, sym, ap, subst, ◌∙◌}
-use Rattle.std.proofs.Common.{inl, inr}
+use Rattle.std.proofs.Common.{None, IsSome, is_some, find, option_map, true≢false, refl, sym, ap}
+use Rattle.std.proofs.Common.{subst, ◌∙◌, inl, inr}
+use Rattle.std.specs.Option.{option_or}
 use Rattle.std.proofs.lemmas.Bool.Decides.{eqb_tells}
 use Rattle.triple_arena.specs.Entries.{value_if, with_entry}
 use Rattle.route_book.specs.Book.{NewHave}
 
 pub some_same : {X : Type 0} {x y : X} → ◌≡◌ {A = Option X} (Some x) (Some y) → x ≡ y
 some_same e = cc
+
+pub none_behind : {X : Type 0} (o : Option X) → option_or o None ≡ o
+none_behind None = refl
+none_behind (Some x) = refl
 
 -- what stands under an option that is mapped
 pub mapped_some : {X Y : Type 0} (f : X → Y) (o : Option X) (y : Y) → option_map f o ≡ Some y
@@ -28,6 +33,12 @@ stands_under {T} at i g some = by (at i) refl some
       | inr other ↦ absurd (true≢false
           (sym (subst (λ b. IsSome (if b then Some x.1 else None)) other.0 some)))
     ]
+
+-- and where it stands
+pub stands_at : {T : Type 0} (at : ℕ → Option (ℕ × T)) (i g : ℕ) (x : T)
+    → value_if g (at i) ≡ Some x → at i ≡ Some (g, x)
+stands_at at i g x found = let st = stands_under at i g (ap is_some found) in st.1.1
+    ∙ ap (λ y. Some (g, y)) (some_same (sym st.1.0 ∙ found))
 
 -- what is found under a ticket has it
 pub found_has : {X : Type 0} (ticket : X → ℕ) (t : ℕ) (xs : List X) (x : X)
@@ -64,6 +75,14 @@ module _ {T : Type 0} (n : ℕ) (at at' : ℕ → Option (ℕ × T)) (k h : ℕ)
         let both : (h, y) ≡ (g, x) = some_same (sym here ∙ is) in
         sym (ap (λ (p : ℕ × T). p.0) both) ∙ own
     | inr other ↦ absurd (beside i g x other.0 none is)
+  ]
+
+  -- and had none before: each item stays
+  pub each_stays : at k ≡ None → (i g : ℕ) (x : T) → at i ≡ Some (g, x) → at' i ≡ Some (g, x)
+  each_stays none i g x is = elim (eqb_tells i k) [
+    | inl same ↦ absurd (let no : ◌≡◌ {A = Option (ℕ × T)} None (Some (g, x)) = sym none
+        ∙ sym (ap at same.1) ∙ is in cc)
+    | inr other ↦ entries i ∙ rw other.0 is
   ]
 
   -- and had one before

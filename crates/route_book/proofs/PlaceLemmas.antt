@@ -1,10 +1,10 @@
 -- What `place` makes of what ties a store's parts.
-use Rattle.std.proofs.Common.{◌≡◌, ◌∙◌, sym, ap, subst, refl, Bool, true, false, ◌||◌}
+use Rattle.std.proofs.Common.{◌≡◌, ◌∙◌, sym, ap, subst, refl, Bool, true, false}
 use Rattle.std.proofs.Common.{if◌then◌else◌, nat_lt, ℕ, ◌+◌, ◌<◌, ◌≤◌, List, [], ◌∷◌, ◌++◌, length}
 use Rattle.std.proofs.Common.{Option, Some, None, IsSome, Ok, arith, length-append, inl, inr}
 use Rattle.std.specs.Option.{option_map}
 use Rattle.std.specs.declared.cmp.Ordering.{Ordering}
-use Rattle.std.proofs.lemmas.Bool.{false≢true, leb-false}
+use Rattle.std.proofs.lemmas.Bool.{false≢true}
 use Rattle.std.proofs.lemmas.Bool.Decides.{eqb_tells}
 use Rattle.triple_arena.specs.Content.{Content, entry_at, live_count}
 use Rattle.triple_arena_stack.specs.Room.{capacity}
@@ -29,7 +29,9 @@ use Rattle.route_book.proofs.NeighborLemmas.{held_place}
 use Rattle.route_book.proofs.NewPlaceLemmas.{place_added}
 use Rattle.route_book.proofs.RewordLemmas.{reword_entry, length-reworded, along_reworded}
 use Rattle.route_book.proofs.RewordLemmas.{as_reworded, place_reworded}
-use Rattle.route_book.proofs.OptionLemmas.{found_has, some_same, none_new, one_new, replaced_new}
+use Rattle.route_book.proofs.RoomLemmas.{room_left}
+use Rattle.route_book.proofs.OptionLemmas.{found_has, some_same, none_new, one_new, each_stays}
+use Rattle.route_book.proofs.OptionLemmas.{replaced_new}
 
 -- ---- lists
 
@@ -42,13 +44,9 @@ length_put p (q ∷ ps) = by (nat_lt p.key q.key) (length_put p ps)
     by true rest = omega arith
     by false rest = omega (arith, rest)
 
-left_false : (a b : Bool) → (a || b) ≡ false → a ≡ false
-left_false true b h = h
-left_false false b h = refl
-
 -- where there is room, fewer live than the room holds
 pub not_full : (s : State) → is_full_of_places s ≡ false → length s.places < s.rooms.places
-not_full s is = leb-false s.rooms.places (length s.places) (left_false _ _ is)
+not_full s is = room_left s.rooms.places (length s.places) _ is
 
 -- each place has a ticket that was given
 pub ticket_given : (s : State) (f : Found) (order : List Place) (ends : ℕ → Option Ends)
@@ -237,7 +235,9 @@ module _ (s s' : State) (places places' : Ordered Place)
       → places'.chains.counter ≡ places.chains.counter → places'.chains.room ≡ places.chains.room
       → KeepsItems old new
   kept_added p i g added counter room = subst (λ (b : Book). KeepsItems b new) view (record {
-    places = λ j n q is. (q, (stays j n q is, (refl, refl)));
+    places = λ j n q is. let stays =
+        each_stays places.chains.counter (entry_in places) (entry_in places') i g p added.entries
+        added.vacant j n q is in (q, (stays, (refl, refl)));
     stops = λ j n v is. is;
     marks = λ j n v is. is;
     new_places = one_new places.chains.counter (entry_in places) (entry_in places') i g p
@@ -249,14 +249,6 @@ module _ (s s' : State) (places places' : Ordered Place)
     mark_counter = refl;
     rooms = record { places = room; stops = refl; marks = refl };
   })
-    where
-      stays : (j n : ℕ) (q : Place) → entry_in places j ≡ Some (n, q)
-          → entry_in places' j ≡ Some (n, q)
-      stays j n q is = elim (eqb_tells j i) [
-        | inl same ↦ absurd (let no : ◌≡◌ {A = Option (ℕ × Place)} None (Some (n, q)) =
-            sym added.vacant ∙ sym (ap (entry_in places) same.1) ∙ is in cc)
-        | inr other ↦ added.entries j ∙ rw other.0 is
-      ]
 
   pub kept_reworded : (p : Place) (word : List ℕ) (i g : ℕ)
       → IsReplaced i g (record p { word = word }) p places places' → KeepsItems old new

@@ -18,6 +18,7 @@ use Rattle.route_book.specs.Item.{StopView, MarkView}
 use Rattle.route_book.specs.Holds.{Found, found_by, state_stop, state_mark, place_under, stop_under}
 use Rattle.route_book.specs.Holds.{mark_under, place_at, stop_at, mark_at, IsFilled, entry}
 use Rattle.route_book.specs.Holds.{IsSettled, IsHeld}
+use Rattle.route_book.proofs.HoldLemmas.{booked_once}
 use Rattle.route_book.proofs.OptionLemmas.{some_same}
 
 -- a place with this word, where it has this ticket
@@ -77,11 +78,8 @@ module _ (s : State) (f : Found) (order order' : List Place) (ends : ℕ → Opt
     (entries : (k : ℕ) → at k ≡ with_entry f.places i (g, record p { word = word }) k) where
   -- one place has the ticket
   alone : (j n : ℕ) (q : Place) → f.places j ≡ Some (n, q) → q.ticket ≡ p.ticket → j ≡ i
-  alone j n q is same =
-      let both : entry q.ticket OfPlace j n ≡ entry p.ticket OfPlace i g =
-      some_same (sym (h.places_in j n q is) ∙ ap (lookup book) same ∙ h.places_in i g p stood)
-      in
-      ap (λ (e : Entry). e.index) both
+  alone j n q is = booked_once (λ (x : Place). x.ticket) OfPlace f.places book h.places_in j i n g q
+      p is stood
 
   -- each entry is as it was, but for the word under the ticket
   pub as_reworded : (k : ℕ) → at k ≡ option_map (reword_entry p.ticket word) (f.places k)

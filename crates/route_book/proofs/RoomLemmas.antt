@@ -1,7 +1,7 @@
 -- What accepted rooms mean for the parts of a store.
 use Rattle.std.proofs.Common.{◌≡◌, ◌∙◌, sym, ap, subst, refl, Bool, true, false, nat_lt, ℕ, ◌-◌}
-use Rattle.std.proofs.Common.{◌^◌, ◌<◌, ◌≤◌, ◌↔◌, Option, Some, None, arith, inl, inr}
-use Rattle.std.proofs.lemmas.Bool.{ltb-false, cases_lt, lt-ltb, le-ltb}
+use Rattle.std.proofs.Common.{◌^◌, ◌<◌, ◌≤◌, ◌↔◌, ◌||◌, nat_le, Option, Some, None, arith, inl, inr}
+use Rattle.std.proofs.lemmas.Bool.{leb-false, ltb-false, cases_lt, lt-ltb, le-ltb}
 use Rattle.triple_arena_ptr.specs.Index.{max_index_of}
 use Rattle.triple_arena_stack.specs.Room.{Room, IsBeyond, capacity}
 use Rattle.triple_arena.specs.Content.{Content, arena_capacity, empty}
@@ -13,6 +13,15 @@ use Rattle.route_book.specs.Rooms.{counts_short, is_past, refusal_of}
 
 no_some : {X : Type 0} {x : X} → ◌≡◌ {A = Option X} (Some x) None → ⊥
 no_some e = absurd (cc)
+
+-- a room that is not full has place for one item more
+pub room_left : (room count : ℕ) (ended : Bool) → (nat_le room count || ended) ≡ false
+    → count < room
+room_left room count ended is = leb-false room count (by (nat_le room count) is)
+  where
+    by : (b : Bool) → (b || ended) ≡ false → b ≡ false
+    by true full = full
+    by false free = refl
 
 module _ (last : Option ℕ) (greatest : ℕ) (limit : Option ℕ) (total : ℕ)
     (accepted : refusal_of last greatest limit total ≡ None) where

@@ -1,11 +1,9 @@
 -- What `start` makes of what ties a store's parts.
-use Rattle.std.proofs.Common.{◌≡◌, ◌≢◌, ◌∙◌, sym, ap, subst, refl, Bool, true, false, ◌==◌, ◌||◌, ℕ}
-use Rattle.std.proofs.Common.{◌+◌, ◌<◌, ◌≤◌, List, [], ◌∷◌, ◌++◌, length, Option, Some, None}
+use Rattle.std.proofs.Common.{◌≡◌, ◌≢◌, ◌∙◌, sym, ap, subst, refl, false, ◌==◌, ℕ}
+use Rattle.std.proofs.Common.{◌+◌, ◌<◌, ◌≤◌, List, [], ◌∷◌, ◌++◌, length, Some, None}
 use Rattle.std.proofs.Common.{IsSome, IfSome, Ok, arith, length-append, find, append_assoc}
-use Rattle.std.proofs.Common.{inl, inr}
 use Rattle.std.specs.Option.{option_map, option_or}
-use Rattle.std.proofs.lemmas.Bool.{ne_eqb, eq-eqb, leb-false}
-use Rattle.std.proofs.lemmas.Bool.Decides.{eqb_tells}
+use Rattle.std.proofs.lemmas.Bool.{ne_eqb, eq-eqb}
 use Rattle.std.proofs.lemmas.List.Folds.{find-append}
 use Rattle.triple_arena.specs.Entries.{value_if, with_entry}
 use Rattle.triple_arena.specs.Content.{Content, entry_at}
@@ -29,16 +27,13 @@ use Rattle.route_book.proofs.NeighborLemmas.{held_place}
 use Rattle.route_book.proofs.FollowLemmas.{lead_started}
 use Rattle.route_book.proofs.LinkLemmas.{live_ends, unknown}
 use Rattle.route_book.proofs.StopLemmas.{stop_added, no_stop_yet}
-use Rattle.route_book.proofs.OptionLemmas.{found_has, none_new, one_new}
-
-left_false : (a b : Bool) → (a || b) ≡ false → a ≡ false
-left_false true b h = h
-left_false false b h = refl
+use Rattle.route_book.proofs.RoomLemmas.{room_left}
+use Rattle.route_book.proofs.OptionLemmas.{found_has, none_behind, none_new, one_new, each_stays}
 
 -- where there is room, fewer stops live than the room holds
 pub stops_not_full : (s : State) → is_full_of_stops s ≡ false
     → length (stop_list s.routes) < s.rooms.stops
-stops_not_full s is = leb-false s.rooms.stops (length (stop_list s.routes)) (left_false _ _ is)
+stops_not_full s is = room_left s.rooms.stops (length (stop_list s.routes)) _ is
 
 pub stop_list-append : (rs : List Route) (r : Route)
     → stop_list (rs ++ r ∷ []) ≡ stop_list rs ++ r.stops
@@ -175,10 +170,6 @@ module _ (rooms : Rooms) (last : ℕ) (s : State)
       in_list u = ap (find (λ (x : Stop). x.ticket == u)) (stop_list-append s.routes own)
           ∙ find-append (λ (x : Stop). x.ticket == u) (stop_list s.routes) own.stops
 
-      none_behind : (o : Option Stop) → option_or o None ≡ o
-      none_behind None = refl
-      none_behind (Some x) = refl
-
       others : (u : ℕ) → u ≢ s.last + 1 → stop_of (s.routes ++ own ∷ []) u ≡ stop_of s.routes u
       others u other =
           let mine : find (λ (x : Stop). x.ticket == u) own.stops ≡ None =
@@ -205,7 +196,7 @@ pub kept_stop : (s s' : State) (places : Ordered Place)
     (record { state = s'; places = places; stops = stops'; marks = marks })
 kept_stop s s' places stops stops' marks v i g entries vacant own counter room = record {
   places = λ j n p is. (p, (is, (refl, refl)));
-  stops = stays;
+  stops = each_stays stops.counter (values_in stops) (values_in stops') i g v entries vacant;
   marks = λ j n m is. is;
   new_places = none_new _ _ _ (λ k. refl);
   new_stops = one_new stops.counter (values_in stops) (values_in stops') i g v entries own;
@@ -215,11 +206,3 @@ kept_stop s s' places stops stops' marks v i g entries vacant own counter room =
   mark_counter = refl;
   rooms = record { places = refl; stops = room; marks = refl };
 }
-  where
-    stays : (j n : ℕ) (u : StopView) → values_in stops j ≡ Some (n, u)
-        → values_in stops' j ≡ Some (n, u)
-    stays j n u is = elim (eqb_tells j i) [
-      | inl same ↦ absurd (let no : ◌≡◌ {A = Option (ℕ × StopView)} None (Some (n, u)) = sym vacant
-          ∙ sym (ap (values_in stops) same.1) ∙ is in cc)
-      | inr other ↦ entries j ∙ rw other.0 is
-    ]

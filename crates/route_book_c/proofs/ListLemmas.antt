@@ -1,10 +1,10 @@
 -- A list that is written line by line into room of the caller: a line for each item, and `end`.
-use Rattle.std.proofs.Common.{◌≡◌, ◌∙◌, sym, ap, subst, ℕ, ◌≤◌, List, [], ◌∷◌, ◌++◌, length, codes}
+use Rattle.std.proofs.Common.{◌≡◌, ◌∙◌, sym, ap, subst, ℕ, List, [], ◌∷◌, ◌++◌, codes}
 use Rattle.std.proofs.Common.{append_assoc, Option, Some, None, IfSome}
 use Rattle.route_lines.specs.Reply.{ended}
 use Rattle.route_book.proofs.ListedLemmas.{lines_of, list_text}
 use Rattle.route_book_c.specs.Lines.{Wrote}
-use Rattle.route_book_c.proofs.RoomLemmas.{Wrote-more, Wrote-none}
+use Rattle.route_book_c.proofs.RoomLemmas.{Wrote-more}
 
 module _ {X : Type 0} (line : X → List ℕ) where
   -- of the lines of all items those of the items that are left are still to be written
@@ -12,14 +12,6 @@ module _ {X : Type 0} (line : X → List ℕ) where
     pub sent : List ℕ
     pub lines : lines_of line all ≡ sent ++ lines_of line left
     pub wrote : Wrote at end sent old new
-
-  pub Listed-none : (all left : List X) (at : ℕ) (room : List ℕ) → left ≡ all → at ≤ length room
-      → Listed all left at at room room
-  Listed-none all left at room same within = record {
-    sent = [];
-    lines = ap (lines_of line) (sym same);
-    wrote = Wrote-none at room within;
-  }
 
   pub Listed-more : (all left rest : List X) (x : X) (a b c : ℕ)
       (new text before old mid room : List ℕ) → Listed all left a b old mid → left ≡ x ∷ rest

@@ -471,15 +471,17 @@ one_line first second (Place key word (Some near)) a b = a.3 ∙ sym b.3
 
 -- how long a spelling is, and which bytes it has
 
-text_of_number : (line front : List ℕ) (n : ℕ) → LineText 7 front → SpellsNumber line front n
-    → LineText 69 line
-text_of_number line front n verb spells =
+text_of_number : {line : List ℕ} (front : List ℕ) {n : ℕ} → list_all is_line_byte front ≡ true
+    → length front ≤ 7 → 1 ≤ length front → SpellsNumber line front n → LineText 69 line
+text_of_number front {n} bytes short some spells =
+    let verb : LineText 7 front = record { bytes = bytes; short = short; some = some } in
     subst (LineText 69) (sym spells.1)
     (LineText-weaker (lit≤ tt) (LineText-append verb (LineText-number n spells.0)))
 
-text_of_numbers : (line front : List ℕ) (m n : ℕ) → LineText 7 front → SpellsNumbers line front m n
-    → LineText 69 line
-text_of_numbers line front m n verb spells =
+text_of_numbers : {line : List ℕ} (front : List ℕ) {m n : ℕ} → list_all is_line_byte front ≡ true
+    → length front ≤ 7 → 1 ≤ length front → SpellsNumbers line front m n → LineText 69 line
+text_of_numbers front {m} {n} bytes short some spells =
+    let verb : LineText 7 front = record { bytes = bytes; short = short; some = some } in
     subst (LineText 69) (sym spells.2)
     (LineText-weaker (lit≤ tt)
     (LineText-append (LineText-append verb (LineText-number m spells.0))
@@ -491,44 +493,31 @@ line_text line Every spells =
 line_text line Pack spells =
     subst (LineText 69) (sym spells) (record { bytes = refl; short = lit≤ tt; some = lit≤ tt })
 line_text line (Show ticket) spells =
-    text_of_number line (codes "show ") ticket
-    (record { bytes = refl; short = lit≤ tt; some = lit≤ tt }) spells
+    text_of_number (codes "show ") refl (lit≤ tt) (lit≤ tt) spells
 line_text line (Find key) spells =
-    text_of_number line (codes "find ") key
-    (record { bytes = refl; short = lit≤ tt; some = lit≤ tt }) spells
+    text_of_number (codes "find ") refl (lit≤ tt) (lit≤ tt) spells
 line_text line (Floor key) spells =
-    text_of_number line (codes "floor ") key
-    (record { bytes = refl; short = lit≤ tt; some = lit≤ tt }) spells
+    text_of_number (codes "floor ") refl (lit≤ tt) (lit≤ tt) spells
 line_text line (After ticket) spells =
-    text_of_number line (codes "after ") ticket
-    (record { bytes = refl; short = lit≤ tt; some = lit≤ tt }) spells
+    text_of_number (codes "after ") refl (lit≤ tt) (lit≤ tt) spells
 line_text line (Before ticket) spells =
-    text_of_number line (codes "before ") ticket
-    (record { bytes = refl; short = lit≤ tt; some = lit≤ tt }) spells
+    text_of_number (codes "before ") refl (lit≤ tt) (lit≤ tt) spells
 line_text line (Remove ticket) spells =
-    text_of_number line (codes "remove ") ticket
-    (record { bytes = refl; short = lit≤ tt; some = lit≤ tt }) spells
+    text_of_number (codes "remove ") refl (lit≤ tt) (lit≤ tt) spells
 line_text line (Start place) spells =
-    text_of_number line (codes "start ") place
-    (record { bytes = refl; short = lit≤ tt; some = lit≤ tt }) spells
+    text_of_number (codes "start ") refl (lit≤ tt) (lit≤ tt) spells
 line_text line (Cut stop) spells =
-    text_of_number line (codes "cut ") stop
-    (record { bytes = refl; short = lit≤ tt; some = lit≤ tt }) spells
+    text_of_number (codes "cut ") refl (lit≤ tt) (lit≤ tt) spells
 line_text line (Walk stop) spells =
-    text_of_number line (codes "walk ") stop
-    (record { bytes = refl; short = lit≤ tt; some = lit≤ tt }) spells
+    text_of_number (codes "walk ") refl (lit≤ tt) (lit≤ tt) spells
 line_text line (Extend stop place) spells =
-    text_of_numbers line (codes "extend ") stop place
-    (record { bytes = refl; short = lit≤ tt; some = lit≤ tt }) spells
+    text_of_numbers (codes "extend ") refl (lit≤ tt) (lit≤ tt) spells
 line_text line (Join stop next) spells =
-    text_of_numbers line (codes "join ") stop next
-    (record { bytes = refl; short = lit≤ tt; some = lit≤ tt }) spells
+    text_of_numbers (codes "join ") refl (lit≤ tt) (lit≤ tt) spells
 line_text line (Swap stop other) spells =
-    text_of_numbers line (codes "swap ") stop other
-    (record { bytes = refl; short = lit≤ tt; some = lit≤ tt }) spells
+    text_of_numbers (codes "swap ") refl (lit≤ tt) (lit≤ tt) spells
 line_text line (Mark place stop) spells =
-    text_of_numbers line (codes "mark ") place stop
-    (record { bytes = refl; short = lit≤ tt; some = lit≤ tt }) spells
+    text_of_numbers (codes "mark ") refl (lit≤ tt) (lit≤ tt) spells
 line_text line (Place key word None) spells =
     let verb : LineText 6 (codes "place ") =
     record { bytes = refl; short = lit≤ tt; some = lit≤ tt } in

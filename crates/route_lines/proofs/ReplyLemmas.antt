@@ -210,37 +210,24 @@ floor_text s key sound numbered =
     (found_in PlaceParts (λ p. nat_le p.key key) (reverse s.places)
     (all_reverse PlaceParts s.places (sound_parts s sound numbered)))
 
+neighbor_text : (r : Result Place Refusal) (next : Option Place) → IfSome next PlaceParts
+    → LineText 58 (neighbor_line (and_then r (λ p. Ok (option_map (λ q. q.ticket) next))))
+neighbor_text (Ok p) next parts = found_line_text next parts
+neighbor_text (Err refusal) next parts = refusal_text refusal
+
 after_text : (s : State) (ticket : ℕ) → IsSound s → IsNumbered s
     → LineText 58 (neighbor_line (place_after s ticket))
-after_text s ticket sound numbered = at (place_holder s ticket)
-  where
-    next : Option Place
-    next = first_item (behind (λ p. p.ticket == ticket) s.places)
-
-    parts : IfSome next PlaceParts
-    parts = first_in PlaceParts (behind (λ p. p.ticket == ticket) s.places)
-        (all_behind PlaceParts (λ p. p.ticket == ticket) s.places (sound_parts s sound numbered))
-
-    at : (r : Result Place Refusal)
-        → LineText 58 (neighbor_line (and_then r (λ p. Ok (option_map (λ q. q.ticket) next))))
-    at (Ok p) = found_line_text next parts
-    at (Err refusal) = refusal_text refusal
+after_text s ticket sound numbered =
+    neighbor_text (place_holder s ticket) (first_item (behind (λ p. p.ticket == ticket) s.places))
+    (first_in PlaceParts (behind (λ p. p.ticket == ticket) s.places)
+    (all_behind PlaceParts (λ p. p.ticket == ticket) s.places (sound_parts s sound numbered)))
 
 before_text : (s : State) (ticket : ℕ) → IsSound s → IsNumbered s
     → LineText 58 (neighbor_line (place_before s ticket))
-before_text s ticket sound numbered = at (place_holder s ticket)
-  where
-    next : Option Place
-    next = last_item (before (λ p. p.ticket == ticket) s.places)
-
-    parts : IfSome next PlaceParts
-    parts = last_in PlaceParts (before (λ p. p.ticket == ticket) s.places)
-        (all_before PlaceParts (λ p. p.ticket == ticket) s.places (sound_parts s sound numbered))
-
-    at : (r : Result Place Refusal)
-        → LineText 58 (neighbor_line (and_then r (λ p. Ok (option_map (λ q. q.ticket) next))))
-    at (Ok p) = found_line_text next parts
-    at (Err refusal) = refusal_text refusal
+before_text s ticket sound numbered =
+    neighbor_text (place_holder s ticket) (last_item (before (λ p. p.ticket == ticket) s.places))
+    (last_in PlaceParts (before (λ p. p.ticket == ticket) s.places)
+    (all_before PlaceParts (λ p. p.ticket == ticket) s.places (sound_parts s sound numbered)))
 
 -- an answer that is a new ticket, or that says that a line is carried out
 ticket_text : (r : Result ℕ Refusal) → IfOk r IsNumber → LineText 58 (ticket_line r)

@@ -1,11 +1,11 @@
 -- Lists of routes that are written as they should be are equal where they have the same stops and
 -- lead alike.
-use Rattle.std.proofs.Common.{◌≡◌, ◌≢◌, ◌∙◌, sym, ap, subst, refl, Bool, true, false, ◌==◌, ◌⊎◌}
+use Rattle.std.proofs.Common.{◌≡◌, ◌≢◌, ◌∙◌, sym, ap, subst, refl, Bool, true, false, ◌⊎◌}
 use Rattle.std.proofs.Common.{inl, inr, ℕ, ◌<◌, ◌≤◌, List, [], ◌∷◌, ◌++◌, length, Option, Some}
 use Rattle.std.proofs.Common.{None, IfSome, cond, append-nil, length-append, arith}
 use Rattle.std.specs.List.{AllByRecursion}
 use Rattle.std.specs.Option.{option_map_or}
-use Rattle.std.proofs.lemmas.Bool.{false≢true, eq-eqb, eqb-true}
+use Rattle.std.proofs.lemmas.Bool.{false≢true, eq-eqb}
 use Rattle.route_lines.specs.Cuts.{before, onward, first_item}
 use Rattle.route_lines.specs.Leads.{head_or, Leads}
 use Rattle.route_lines.specs.Routes.{has_ticket, round, has_stop, route_of, first_ticket}
@@ -16,6 +16,7 @@ use Rattle.route_lines.specs.CutLaws.{found_passes, total-append, count-any}
 use Rattle.route_lines.proofs.LinkLemmas.{Leads-back, Leads-round, closing_of, Links, all_at}
 use Rattle.route_lines.proofs.LinkLemmas.{all_both, found_if_counted, own_route, counts_within}
 use Rattle.route_lines.proofs.RouteLemmas.{first_counts, all_round}
+use Rattle.route_lines.proofs.WalkLemmas.{Begins, onward_begins}
 
 -- ---- lists that lead alike
 
@@ -84,24 +85,6 @@ record IsKnown (next place : ℕ → Option ℕ) (r : Route) : Type 0 where
   fits : Fits place r.stops
   once : (s : ℕ) → count_of (has_ticket s) r.stops ≤ 1
   written : IsWritten r
-
--- a list that begins with the stop that has the ticket
-record Begins (s : ℕ) (stops : List Stop) : Type 0 where
-  first : Stop
-  rest : List Stop
-  is : stops ≡ first ∷ rest
-  ticket : first.ticket ≡ s
-
-begins_onward : (s : ℕ) (stops : List Stop) → 1 ≤ count_of (has_ticket s) stops
-    → Begins s (onward (has_ticket s) stops)
-begins_onward s [] some = absurd (omega (arith, some))
-begins_onward s (x ∷ xs) some = at (x.ticket == s) refl (begins_onward s xs)
-  where
-    at : (b : Bool) → (x.ticket == s) ≡ b
-        → (1 ≤ count_of (has_ticket s) xs → Begins s (onward (has_ticket s) xs))
-        → Begins s (cond b (x ∷ xs) (onward (has_ticket s) xs))
-    at true e h = record { first = x; rest = xs; is = refl; ticket = eqb-true x.ticket s e }
-    at false e h = h (omega (arith, some, ap {B = ℕ} (λ b. cond b 1 0) e))
 
 begins_first : (r : Route) → IsWritten r → Begins (first_ticket r) r.stops
 begins_first r is = at r.stops is.some
@@ -191,7 +174,7 @@ once_round s xs once t =
 
 begins_round : (s : ℕ) (xs : List Stop) → 1 ≤ count_of (has_ticket s) xs → Begins s (round s xs)
 begins_round s xs some =
-    let b = begins_onward s xs some in
+    let b = onward_begins s xs some in
     record {
       first = b.first;
       rest = b.rest ++ before (has_ticket s) xs;
@@ -299,7 +282,7 @@ alike next place r q known other has = at r.is_ring q.is_ring refl refl
     at false false e f = record {
       kind = e ∙ sym f;
       line = λ g. same_lists next place s None r.stops (onward (has_ticket s) q.stops) begin
-          (begins_onward s q.stops has) (own_line e) (onward_leads f) known.fits onward_fits
+          (onward_begins s q.stops has) (own_line e) (onward_leads f) known.fits onward_fits
           known.once
           onward_once (inl refl);
       circle = λ g. absurd (false≢true (sym e ∙ g));
@@ -308,7 +291,7 @@ alike next place r q known other has = at r.is_ring q.is_ring refl refl
         (never_alike next s r.stops (round s q.stops) begin (begins_round s q.stops has)
         (own_line e) (round_leads f) known.once)
     at true false e f = absurd
-        (never_alike next s (onward (has_ticket s) q.stops) r.stops (begins_onward s q.stops has)
+        (never_alike next s (onward (has_ticket s) q.stops) r.stops (onward_begins s q.stops has)
         begin (onward_leads f) (own_ring e) onward_once)
     at true true e f = record {
       kind = e ∙ sym f;

@@ -34,42 +34,12 @@ module _ (top most : ℕ) (three : 3 ≤ top) where
   -- one step pays on
   paid_on : (step : Step) (a b : Tally) (paid done : ℕ) → IsPaid top paid done a
       → IsStep top most step a b → IsPaid top (paid + swept step * d) (done + is_removal step) b
-  paid_on EndPlace a b paid done p is = record {
-    places = omega (arith, p.places, is.1.0);
-    stops = omega (arith, p.stops, is.1.1.0);
-    places_up = omega (arith, is.0, is.1.0);
-    stops_up = omega (arith, p.stops_up, is.1.1.0);
-  }
-  paid_on EndStop a b paid done p is = record {
-    places = omega (arith, p.places, is.1.1.0);
-    stops = omega (arith, p.stops, is.1.0);
-    places_up = omega (arith, p.places_up, is.1.1.0);
-    stops_up = omega (arith, is.0, is.1.0);
-  }
-  paid_on EndPlaceAfterPack a b paid done p is = record {
-    places = omega (arith, p.places, is.0, is.1.0, three);
-    stops = omega (arith, p.places, is.0, is.1.1.0, three);
-    places_up = omega (arith, is.1.0, three);
-    stops_up = omega (arith, is.1.1.0, three);
-  }
-  paid_on EndStopAfterPack a b paid done p is = record {
-    places = omega (arith, p.stops, is.0, is.1.1.0, three);
-    stops = omega (arith, p.stops, is.0, is.1.0, three);
-    places_up = omega (arith, is.1.1.0, three);
-    stops_up = omega (arith, is.1.0, three);
-  }
-  paid_on Pack a b paid done p is = record {
-    places = omega (arith, p.places, is.0);
-    stops = omega (arith, p.places, is.1.0);
-    places_up = omega (arith, is.0, three);
-    stops_up = omega (arith, is.1.0, three);
-  }
-  paid_on Other a b paid done p is = record {
-    places = omega (arith, p.places, is.0);
-    stops = omega (arith, p.stops, is.1.0);
-    places_up = omega (arith, p.places_up, is.0);
-    stops_up = omega (arith, p.stops_up, is.1.0);
-  }
+  paid_on EndPlace a b paid done p is = omega (arith, p, is, three)
+  paid_on EndStop a b paid done p is = omega (arith, p, is, three)
+  paid_on EndPlaceAfterPack a b paid done p is = omega (arith, p, is, three)
+  paid_on EndStopAfterPack a b paid done p is = omega (arith, p, is, three)
+  paid_on Pack a b paid done p is = omega (arith, p, is, three)
+  paid_on Other a b paid done p is = omega (arith, p, is, three)
 
   -- and makes so many looks
   looks_on : (step : Step) (a b : Tally) → IsStep top most step a b
@@ -87,10 +57,7 @@ module _ (top most : ℕ) (three : 3 ≤ top) where
 
   rest : (steps : List Step) (a b : Tally) (paid done : ℕ) → IsPaid top paid done a
       → AreSteps top most steps a b → Rest steps a b paid done
-  rest [] a b paid done p run = record {
-    paid_all = omega (arith, p.places);
-    looks_all = omega (arith, ap (λ (x : Tally). x.looks) run);
-  }
+  rest [] a b paid done p run = omega (arith, p, ap (λ (x : Tally). x.looks) run)
   rest (step ∷ steps) a b paid done p run =
       let r = rest steps run.0 b _ _ (paid_on step a run.0 paid done p run.1.0) run.1.1 in
       let looks = looks_on step a run.0 run.1.0 in
@@ -99,13 +66,7 @@ module _ (top most : ℕ) (three : 3 ≤ top) where
 
 pub are_few : AreFew
 are_few top most steps a b three p q run =
-    let r = rest top most three steps a b 0 0
-    (record {
-      places = omega (arith, p);
-      stops = omega (arith, q);
-      places_up = omega (arith, p, three);
-      stops_up = omega (arith, q, three);
-    }) run in
+    let r = rest top most three steps a b 0 0 (omega (arith, p, q, three)) run in
     let paid = r.paid_all in
     let few = le-div (all_swept steps) (removals steps) (top - 2) (omega (arith, three))
     (omega (arith, paid)) in

@@ -122,13 +122,14 @@ module _ (t : Stop) where
       at true e later = absurd (omega (arith, off, ap {B = ℕ} (λ b. cond b 1 0) e))
       at false e later = later (omega (arith, off, ap {B = ℕ} (λ b. cond b 1 0) e))
 
-record Begins (s : ℕ) (xs : List Stop) : Type 0 where
-  first : Stop
-  rest : List Stop
-  is : xs ≡ first ∷ rest
-  ticket : first.ticket ≡ s
+-- a list that begins with the stop that has the ticket
+pub record Begins (s : ℕ) (xs : List Stop) : Type 0 where
+  pub first : Stop
+  pub rest : List Stop
+  pub is : xs ≡ first ∷ rest
+  pub ticket : first.ticket ≡ s
 
-onward_begins : (s : ℕ) (xs : List Stop) → 1 ≤ count_of (has_ticket s) xs
+pub onward_begins : (s : ℕ) (xs : List Stop) → 1 ≤ count_of (has_ticket s) xs
     → Begins s (onward (has_ticket s) xs)
 onward_begins s [] some = absurd (omega (arith, some))
 onward_begins s (x ∷ xs) some = at (x.ticket == s) refl (onward_begins s xs)

@@ -17,7 +17,7 @@ use Rattle.triple_arena.specs.DirectContent.{live_count, no_counter, arena_capac
 use Rattle.triple_arena.specs.Entries.{generation_at, value_if, with_entry, without}
 use Rattle.triple_arena.specs.Iterators.{pointer_of}
 use Rattle.triple_arena.specs.Recaster.{pointer_in}
-use Rattle.side_table.specs.SideTable.{Rises, NeverGoesUp, IsCarried, IsTaken, with_moved}
+use Rattle.side_table.specs.SideTable.{Rises, NeverGoesUp, IsCarried, IsEntryTaken, with_moved}
 use Rattle.side_table.specs.CompressionLaws.{found, not_found}
 
 module _ {T : Type 0} where
@@ -48,7 +48,7 @@ module _ {G T : Type 0} (number : G → ℕ) where
       (old new : DirectContent T)
       → option_map (λ a. (number (value_of a).0, (value_of a).1)) answer ≡ entry_at old i
       → OnSome answer (IsRemoved entry_at live_count no_counter (λ d. d.room) last i old new)
-      → IfNone answer (new ≡ old) → IsTaken i old new
+      → IfNone answer (new ≡ old) → IsEntryTaken i old new
   taken None last i old new stood removed kept = record {
     vacant = ap (λ d. entry_at d i) kept ∙ sym stood;
     others = λ j other. ap (λ d. entry_at d j) kept;
@@ -86,7 +86,7 @@ fits_still index named (Some a) last i g old new t q down names is stood removed
     subst (λ r. index q ≤ capacity r) (sym removed.room) (omega (arith, low, within))
 
 -- an entry that is put where one was taken out replaces it
-pub put_over : {T : Type 0} {old new : DirectContent T} (i : ℕ) (e : ℕ × T) → IsTaken i old new
+pub put_over : {T : Type 0} {old new : DirectContent T} (i : ℕ) (e : ℕ × T) → IsEntryTaken i old new
     → (j : ℕ) → with_entry (entry_at new) i e j ≡ with_entry (entry_at old) i e j
 put_over {old} {new} i e t j = elim (eqb_tells j i) [
   | inl same ↦ with_same (entry_at new) i j e same.1 ∙ sym (with_same (entry_at old) i j e same.1)
@@ -94,7 +94,7 @@ put_over {old} {new} i e t j = elim (eqb_tells j i) [
       ∙ sym (with_other (entry_at old) i j e other.1)
 ]
 
-pub place_taken : {T : Type 0} {old new : DirectContent T} (i : ℕ) → IsTaken i old new → 0 < i
+pub place_taken : {T : Type 0} {old new : DirectContent T} (i : ℕ) → IsEntryTaken i old new → 0 < i
     → i ≤ arena_capacity old → IsPlace new i
 place_taken i t positive fits = record {
   positive = positive;

@@ -2,7 +2,7 @@
 use Rattle.std.specs.Prelude.{◌≡◌, ◌≢◌, ℕ, ◌<◌, ◌≤◌, List, map, Option, Some, None}
 use Rattle.triple_arena.specs.Compression.{index_of, generation_of}
 use Rattle.triple_arena.specs.DirectContent.{DirectContent, entry_at, get}
-use Rattle.triple_arena.specs.Entries.{with_entry, without}
+use Rattle.triple_arena.specs.Entries.{value_if, with_entry, without}
 
 module _ {P : Type 0} (index : P → ℕ) (named : ℕ → Option (ℕ × P)) where
   -- of two pointers that have new ones, that of the greater index has the new one of the greater
@@ -35,8 +35,16 @@ module _ {P T : Type 0} (index generation : P → ℕ) where
   with_moved entries i (Some t) (Some q)
       = with_entry (without entries i) (index q) (generation q, t)
 
+  -- the entries after the value under an old pointer went to the new one that `named` has for it,
+  -- or was dropped if there is none
+  abbrev pub with_one_followed : (ℕ → Option (ℕ × P)) → P → (ℕ → Option (ℕ × T)) → ℕ
+      → Option (ℕ × T)
+  with_one_followed named old entries = with_moved entries (index old)
+      (value_if (generation old) (entries (index old)))
+      (value_if (generation old) (named (index old)))
+
 -- a table from which the entry at an index was taken out, if there was one
-pub record IsTaken {T : Type 0} (i : ℕ) (old new : DirectContent T) : Type 0 where
+pub record IsEntryTaken {T : Type 0} (i : ℕ) (old new : DirectContent T) : Type 0 where
   pub vacant : entry_at new i ≡ None
   pub others : (j : ℕ) → j ≢ i → entry_at new j ≡ entry_at old j
   pub room : new.room ≡ old.room

@@ -10,10 +10,10 @@ ghost use Rattle.triple_arena.specs.Content.{entry_at as arena_at, get, live_cou
 ghost use Rattle.triple_arena.specs.Content.{last_index, IsWellFormed as IsArenaFormed};
 ghost use Rattle.triple_arena.specs.DirectContent.{entry_at, arena_capacity, IsWellFormed};
 ghost use Rattle.triple_arena.specs.DirectContent.{live_entries as entries_of};
-ghost use Rattle.triple_arena.specs.Entries.{value_if};
 ghost use Rattle.triple_arena.specs.LiveEntries.{live_entries};
 ghost use Rattle.triple_arena.specs.Recaster.{IsRecaster};
-ghost use Rattle.side_table.specs.SideTable.{Rises, NeverGoesUp, IsCarried, with_moved, beside};
+ghost use Rattle.side_table.specs.SideTable.{Rises, NeverGoesUp, IsCarried, with_one_followed};
+ghost use Rattle.side_table.specs.SideTable.{beside};
 
 use crate::storing::put;
 use proof_marks::recall;
@@ -33,9 +33,7 @@ where
     requires down { NeverGoesUp P.index (entry_at map.now) }
     requires no_more { ⊤ }
     ensures entries { (j : ℕ) → entry_at table.new j
-        ≡ with_moved P.index P.generation (entry_at table.old) (P.index old)
-        (value_if (P.generation old) (entry_at table.old (P.index old)))
-        (value_if (P.generation old) (entry_at map.now (P.index old))) j }
+        ≡ with_one_followed P.index P.generation (entry_at map.now) old (entry_at table.old) j }
     ensures room { table.new.room ≡ table.old.room }
     ensures formed { IsWellFormed table.new }
 {

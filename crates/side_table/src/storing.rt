@@ -10,7 +10,7 @@ ghost use Rattle.triple_arena.specs.DirectContent.{entry_at, arena_capacity, no_
 ghost use Rattle.triple_arena.specs.DirectContent.{live_count as table_count};
 ghost use Rattle.triple_arena.specs.DirectContent.{IsPlace, IsWellFormed};
 ghost use Rattle.triple_arena.specs.Entries.{with_entry, value_in};
-ghost use Rattle.side_table.specs.SideTable.{IsTaken};
+ghost use Rattle.side_table.specs.SideTable.{IsEntryTaken};
 
 use proof_marks::recall;
 use triple_arena::{
@@ -51,7 +51,7 @@ fn take_out<P: PtrCore, T: Drop, S: DirectSlots<P, T>>(
     table: &mut DirectArena<P, T, S>,
     p: P,
 ) -> Option<T>
-    ensures taken { IsTaken (P.index p) table.old table.new }
+    ensures taken { IsEntryTaken (P.index p) table.old table.new }
     ensures value { result ≡ value_in (entry_at table.old (P.index p)) }
     ensures formed { IsWellFormed table.new }
 {

@@ -14,7 +14,7 @@ use Rattle.triple_arena.specs.Compression.{index_of, pointer_of}
 use Rattle.triple_arena.specs.Entries.{look_up, generation_at, IsOneOf}
 use Rattle.triple_arena.specs.RiseLaws.{RiseFrom, rise_from, first_stands}
 use Rattle.triple_arena.specs.Walk.{Walk, IsAhead, IsFirstLive, Steps, past, given_by}
-use Rattle.triple_arena.specs.Walk.{pointers_within, pointers_ahead, GoInOrder}
+use Rattle.triple_arena.specs.Walk.{pointers_within, pointers_ahead, GoInOrder, GoesOverAll}
 
 -- one pointer more behind those that fall to it
 one_lower : (l : List (ℕ × ℕ)) (p : ℕ × ℕ) → GoInOrder true l
@@ -398,12 +398,12 @@ module _ {T : Type 0} (entries : ℕ → Option (ℕ × T)) (listed : List (ℕ 
       )
 
   -- from below the first to the last live index those are all
-  pub all_ahead : (w : Walk) → w.falls ≡ false → w.low ≡ 1
-      → ((j : ℕ) → IsSome (entries j) → j ≤ w.high)
+  pub all_ahead : (w : Walk) → GoesOverAll w entries
       → pointers_ahead w listed ≡ map pointer_of listed
-  all_ahead w rising low high =
-      rw rising (all_within w 1 listed rise (omega (arith, low))
-      (λ j some. high j (rw (entry_listed j) some)))
+  all_ahead w whole =
+      let low = whole.1 in
+      rw whole.0 (all_within w 1 listed rise (omega (arith, low))
+      (λ j some. whole.2 j (rw (entry_listed j) some)))
 
   module _ {X A : Type 0} (advances : A → X → A → Type 0) (walk : A → Walk)
       (pointer : X → Option (ℕ × ℕ))

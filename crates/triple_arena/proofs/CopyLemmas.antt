@@ -138,12 +138,6 @@ module _ {P U T A F : Type 0} (index generation : P → ℕ)
         few = omega arith;
       }
 
-  pub copying_same : {f : F} {old : List (Option (ℕ × U))} {f' f'' : F}
-      {left left' : List (Option (ℕ × U))} {new new' : List (Option (ℕ × T))}
-      {live live' : ℕ} → f'' ≡ f' → left' ≡ left → new' ≡ new → live' ≡ live
-      → Copying f old f' left new live → Copying f old f'' left' new' live'
-  copying_same state rest slots count c = rw (state, rest, slots, count) c
-
   -- a free slot more
   pub copying_free : {f : F} {old : List (Option (ℕ × U))} {f' : F}
       {left rest : List (Option (ℕ × U))} {new new' : List (Option (ℕ × T))} {live : ℕ}

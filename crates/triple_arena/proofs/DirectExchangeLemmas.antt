@@ -3,7 +3,7 @@ use Rattle.std.proofs.Common.{◌≡◌, ◌≢◌, ℕ, zero, suc, ◌-◌, Lis
 use Rattle.std.proofs.Common.{Some, None, IsSome, is_some, refl, sym, ap, ◌∙◌}
 use Rattle.std.proofs.lemmas.Bool.{ne_eqb}
 use Rattle.triple_arena_stack.specs.Room.{Room}
-use Rattle.triple_arena_stack.specs.Stack.{item_at, with_item}
+use Rattle.triple_arena_stack.specs.Stack.{item_at}
 use Rattle.triple_arena.specs.ContentLaws.{live_entry}
 use Rattle.triple_arena.specs.DirectContent.{DirectContent, as_content, entry_at, with_value}
 use Rattle.triple_arena.specs.DirectContent.{with_exchange}
@@ -11,6 +11,7 @@ use Rattle.triple_arena.specs.DirectLaws.{entry-with_value}
 use Rattle.triple_arena.specs.DirectExchangeLaws.{exchange-is}
 use Rattle.triple_arena.specs.DirectLayout.{direct_of, IsSound}
 use Rattle.triple_arena.specs.DirectSlot.{value_of, with_slot_value}
+use Rattle.triple_arena.specs.TwoValues.{HaveValuesExchanged}
 use Rattle.triple_arena.proofs.FreeListLemmas.{the_some}
 use Rattle.triple_arena.proofs.DirectLemmas.{Becomes, written}
 
@@ -44,9 +45,7 @@ module _ {T : Type 0} where
   pub exchanged : {xs xs' : List (Option (ℕ × T))} {len i j : ℕ} {room room' : Room}
       {d : DirectContent T} → IsSound xs len room
       → direct_of xs room ≡ d → IsSome (entry_at d i) → IsSome (entry_at d j) → i ≢ j
-      → ((x y : Option (ℕ × T)) (t u : T) → Some x ≡ item_at xs i → Some y ≡ item_at xs j
-      → value_of x ≡ Some t → value_of y ≡ Some u
-      → xs' ≡ with_item (with_item xs i (with_slot_value x u)) j (with_slot_value y t))
+      → HaveValuesExchanged value_of with_slot_value i j xs xs'
       → room' ≡ room → Becomes xs' len room' (with_exchange d i j)
   exchanged {xs} {xs'} {len} {i} {j} {room} {room'} {d} sound seen first second two written_to
       kept =

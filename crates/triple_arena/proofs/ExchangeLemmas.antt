@@ -5,9 +5,10 @@ use Rattle.triple_arena.specs.Content.{Content, entry_at, with_value, with_excha
 use Rattle.triple_arena.specs.ContentLaws.{entry-with_value}
 use Rattle.triple_arena.specs.ExchangeLaws.{exchange-is}
 use Rattle.triple_arena_stack.specs.Room.{Room}
-use Rattle.triple_arena_stack.specs.Stack.{item_at, with_item}
+use Rattle.triple_arena_stack.specs.Stack.{item_at}
 use Rattle.triple_arena.specs.Layout.{content_of, IsSound}
 use Rattle.triple_arena.specs.Slot.{Slot, used, value_of, with_slot_value}
+use Rattle.triple_arena.specs.TwoValues.{HaveValuesExchanged}
 use Rattle.triple_arena.proofs.FreeListLemmas.{the_some, Becomes, finds, rewritten}
 
 module _ {T : Type 0} where
@@ -27,9 +28,7 @@ module _ {T : Type 0} where
   pub exchanged : {es es' : List (Slot T)} {len i j : ℕ} {head : Option ℕ} {room room' : Room}
       {g : ℕ} {c : Content T} → IsSound es len head room
       → content_of es room g head ≡ c → IsSome (entry_at c i) → IsSome (entry_at c j) → i ≢ j
-      → ((x y : Slot T) (t u : T) → Some x ≡ item_at es i → Some y ≡ item_at es j
-      → value_of x ≡ Some t → value_of y ≡ Some u
-      → es' ≡ with_item (with_item es i (with_slot_value x u)) j (with_slot_value y t))
+      → HaveValuesExchanged value_of with_slot_value i j es es'
       → room' ≡ room → Becomes es' len head room' g (with_exchange c i j)
   exchanged {es'} {len} {i} {j} {head} {room'} {g} {c} sound seen first second two written kept =
       let e = the_some _ first in

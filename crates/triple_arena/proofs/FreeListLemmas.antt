@@ -706,13 +706,6 @@ module _ {T : Type 0} where
   slice_get_past (x ∷ es) zero past = absurd (omega arith)
   slice_get_past (x ∷ es) (suc k) past = slice_get_past es k (omega arith)
 
-  -- an index past every number of slots has no entry
-  pub entry_past : (es : List (Slot T)) (room : Room) (g : ℕ) (head : Option ℕ) (c : Content T)
-      (n i j : ℕ) → content_of es room g head ≡ c
-      → length es < n → n ≤ i → i ≡ j → entry_at c j ≡ None
-  entry_past es room g head c n i j seen few past same =
-      no_entry es head j seen (slice_get_past es (j - 1) (omega arith))
-
   -- an allocated slot has the value of its entry
   pub value_some : (s : Slot T) → IsSome (entry_of s) → IsSome (value_of s)
   value_some (free prev next) some = some

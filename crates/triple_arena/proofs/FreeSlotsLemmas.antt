@@ -3,7 +3,7 @@ use Rattle.std.proofs.Common.{◌≡◌, ◌≢◌, ◌==◌, if◌then◌else�
 use Rattle.std.proofs.Common.{[], ◌∷◌, ◌++◌, map, length, get_or, set, take, drop, filter, cond}
 use Rattle.std.proofs.Common.{Bool, true, false, true≢false, leb, ltb, IsSome, Option, Some, None}
 use Rattle.std.proofs.Common.{slice_get, is_some, count_by, inl, inr, refl, sym, ap, subst, ◌∙◌}
-use Rattle.std.proofs.Common.{arith, length-set, length-append, drop-cons, drop_of_length-le}
+use Rattle.std.proofs.Common.{arith, length-set, length-append, drop-cons}
 use Rattle.std.proofs.Common.{get_or-take, length-take-le}
 use Rattle.std.proofs.Math.Seq.{take-append_seam}
 use Rattle.std.specs.Option.{option_map, option_to_list}
@@ -31,13 +31,13 @@ use Rattle.triple_arena.specs.Content.{Content, entry_at, arena_capacity, last_i
 use Rattle.triple_arena.specs.Content.{without_free_end, vacant_from, canonicalized}
 use Rattle.triple_arena.specs.Content.{IsVacant, AllVacant}
 use Rattle.triple_arena.specs.ContentLaws.{entry_at_slot}
-use Rattle.triple_arena.specs.Walk.{Finds}
+use Rattle.triple_arena.specs.Walk.{FindsAhead}
 use Rattle.triple_arena.specs.FreeListLaws.{last_index-is, last_index-unique, vacant-counted}
 use Rattle.triple_arena.specs.FreeListLaws.{vacant-off, vacant-fit}
 use Rattle.triple_arena.proofs.FreeLinkLemmas.{below_greatest, neighbors_shown, listed_neighbors}
 use Rattle.triple_arena.proofs.FreeLinkLemmas.{head_taken}
 use Rattle.triple_arena.proofs.FreeListLemmas.{first_free, Becomes, free_at, links_of_slot}
-use Rattle.triple_arena.proofs.FreeListLemmas.{links-set, links-push, list_set, none_free}
+use Rattle.triple_arena.proofs.FreeListLemmas.{links-set, links-push, list_set}
 use Rattle.triple_arena.proofs.FreeListLemmas.{entry_of_slot, sound_of, formed}
 use Rattle.triple_arena.proofs.WalkLemmas.{none_past}
 
@@ -166,17 +166,6 @@ module _ {T : Type 0} where
         fits,
       )
 
-  pub risen_none : {es : List (Slot T)} {n : ℕ} → n ≡ length es → Risen es es None n
-  risen_none {es} {n} all =
-      let sizes = length-map es entry_of in
-      record {
-        entries = refl;
-        within = omega (arith, all);
-        listed =
-            rw (drop_of_length-le (map entry_of es) {i = n} (omega (arith, all, sizes)))
-            (none_free es);
-      }
-
   vacant_free : (xs : List (Option (ℕ × T))) (n left : ℕ) → left ≡ n + 1 → n < length xs
       → get_or xs n None ≡ None
       → vacant_from (n + 1) (drop n xs) ≡ left ∷ vacant_from (left + 1) (drop left xs)
@@ -300,7 +289,7 @@ module _ {T : Type 0} where
 
   -- the last live one of all slots is the last live index
   pub last_found : (c : Content T) {n i g : ℕ} → n ≡ length c.slots
-      → Finds (entry_at c) (record { low = 1; high = n; falls = true }) (Some (i, g))
+      → FindsAhead (entry_at c) (record { low = 1; high = n; falls = true }) (Some (i, g))
       → last_index c ≡ i
   last_found c {n} {i} {g} all finds =
       last_index-unique c i (record {
@@ -318,7 +307,7 @@ module _ {T : Type 0} where
 
   -- where none is found, there is none
   pub none_found : (c : Content T) {n : ℕ} → n ≡ length c.slots
-      → Finds (entry_at c) (record { low = 1; high = n; falls = true }) None → last_index c ≡ 0
+      → FindsAhead (entry_at c) (record { low = 1; high = n; falls = true }) None → last_index c ≡ 0
   none_found c {n} all finds =
       last_index-unique c 0 (record {
         within = omega arith;

@@ -4,7 +4,7 @@ use Rattle.std.proofs.Common.{true, Option, Some, None, IfSome, IfNone, inl, inr
 use Rattle.std.proofs.lemmas.Bool.Decides.{leb_tells}
 use Rattle.std.specs.Option.{option_map}
 use Rattle.triple_arena.specs.Content.{Content, entry_at}
-use Rattle.triple_arena.specs.Walk.{Finds}
+use Rattle.triple_arena.specs.Walk.{FindsAhead}
 
 module _ {T : Type 0} where
   -- no index past the slots is live
@@ -20,7 +20,8 @@ module _ {T : Type 0} where
   -- nothing found among all slots: nothing is live
   pub none_at_all : {P : Type 0} (c : Content T) (number : P → ℕ × ℕ) (n : ℕ) (falls : Bool)
       (given : Option P) → n ≡ length c.slots
-      → Finds (entry_at c) (record { low = 1; high = n; falls = falls }) (option_map number given)
+      → FindsAhead (entry_at c) (record { low = 1; high = n; falls = falls })
+      (option_map number given)
       → IfNone given ((j : ℕ) → entry_at c j ≡ None)
   none_at_all c number n falls (Some p) all finds = tt
   none_at_all c number n falls None all finds = each
@@ -36,7 +37,8 @@ module _ {T : Type 0} where
   -- the last one found among all slots: nothing after it is live
   pub none_after : {P : Type 0} (c : Content T) (number : P → ℕ × ℕ) (n : ℕ) (given : Option P)
       → n ≡ length c.slots
-      → Finds (entry_at c) (record { low = 1; high = n; falls = true }) (option_map number given)
+      → FindsAhead (entry_at c) (record { low = 1; high = n; falls = true })
+      (option_map number given)
       → IfSome given (λ p. (j : ℕ) → (number p).0 < j → entry_at c j ≡ None)
   none_after c number n None all finds = tt
   none_after c number n (Some p) all finds =

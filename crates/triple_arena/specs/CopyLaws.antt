@@ -16,7 +16,6 @@ use Rattle.triple_arena.specs.DirectContent.{DirectContent, as_content, entry_at
 use Rattle.triple_arena.specs.DirectContent.{live_count as direct_live_count}
 use Rattle.triple_arena.specs.DirectContent.{live_entries as direct_live_entries}
 use Rattle.triple_arena.specs.DirectContent.{arena_capacity as direct_capacity}
-use Rattle.triple_arena.specs.DirectContent.{last_index as direct_last_index}
 use Rattle.triple_arena.specs.DirectContent.{IsWellFormed as IsDirectlyWellFormed}
 use Rattle.triple_arena.specs.FreeListLaws.{IsLastIndex, last_index-is, vacant-counted}
 use Rattle.triple_arena.specs.FreeListLaws.{all_vacant_from}
@@ -127,14 +126,6 @@ module _ {T : Type 0} where
       let is = last_listed-is c in
       let within = (last_index-is c).within in
       omega (arith, is, within)
-
-  pub direct_last_listed-is : (d : DirectContent T)
-      → last_listed (direct_live_entries d) ≡ direct_last_index d
-  direct_last_listed-is d = last_listed-is (as_content d)
-
-  pub direct_last_listed-within : (d : DirectContent T)
-      → last_listed (direct_live_entries d) ≤ length d.slots
-  direct_last_listed-within d = last_listed-within (as_content d)
 
 module _ {T : Type 0} (c : Content T) (counter : Option ℕ) (entries : List (ℕ × (ℕ × T))) where
   -- a copy has these entries and no other

@@ -345,13 +345,6 @@ module _ {T : Type 0} where
       let reserved = capacity-reserved d.room in
       omega (arith, within, less, reserved, formed, indexed)
 
-  -- each live index is within the capacity
-  pub live_index-within : (d : DirectContent T) → IsWellFormed d → (j : ℕ) → IsSome (entry_at d j)
-      → j ≤ arena_capacity d
-  live_index-within d formed j some =
-      let l = live_entry (as_content d) j some in
-      omega (arith, l.positive, l.within, formed)
-
 -- what a direct insertion changes and keeps
 pub ruleset direct_insertions
     = (formed-inserted, entry-inserted, live-inserted, slots-inserted, room-inserted)

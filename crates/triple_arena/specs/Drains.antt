@@ -49,9 +49,9 @@ module _ {P T : Type 0} (index generation : P → ℕ) where
 
 module _ {P T A : Type 0} (is_removed : A → ℕ → A → Type 0) (index : P → ℕ) where
   -- the entry of an item left its index; where there is no item, nothing changed
-  abbrev pub Takes : Option (InvalidationOption (P × T)) → A → A → Type 0
-  Takes None old new = new ≡ old
-  Takes (Some item) old new = is_removed old (index (value_of item).0) new
+  abbrev pub TakesItem : Option (InvalidationOption (P × T)) → A → A → Type 0
+  TakesItem None old new = new ≡ old
+  TakesItem (Some item) old new = is_removed old (index (value_of item).0) new
 
 module _ {P T A Inx Gen Word Alloc Adv : Type 0} where
   -- the arena as the drain has it
@@ -90,7 +90,7 @@ module _ {P T A Inx Gen Word Alloc Adv : Type 0} where
     DrainSteps old item new = YieldsFirstBy (removal_of index generation)
         (drain_rest counter_of listed last) old item new × DrainKeeps left old new
         × DrainCanStep entry_of walk_of new
-        × Takes is_removed index item (drain_arena old) (drain_arena new)
+        × TakesItem is_removed index item (drain_arena old) (drain_arena new)
 
     -- each state that steps lead to keeps what the first one keeps
     abbrev pub DrainKeepsAlong : Drain P T A Inx Gen Word Alloc Adv → Type 0

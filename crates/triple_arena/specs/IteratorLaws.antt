@@ -1,7 +1,7 @@
 -- How a search over the entries of an arena goes on and ends. The entries are those that `iter`
 -- gives; of a direct arena, take its slots and room `as_content`.
 use Rattle.std.proofs.Common.{◌≡◌, ℕ, zero, suc, ◌+◌, ◌-◌, ◌<◌, ◌≤◌, List, [], ◌∷◌, ◌++◌, get_or}
-use Rattle.std.proofs.Common.{append_assoc, append-nil, Bool, true, false, Option, Some, None, refl}
+use Rattle.std.proofs.Common.{append_assoc, append-nil, Bool, true, false, Option, Some, None}
 use Rattle.std.proofs.Common.{sym, ap, subst, ◌∙◌, arith}
 use Rattle.triple_arena.specs.Content.{Content, entry_at}
 use Rattle.triple_arena.specs.Iterators.{IsFirstToPass, SearchFinds, EachFails, HasPassed}
@@ -14,10 +14,6 @@ module _ {T : Type 0} (answers : T → Bool → Type 0) where
   one_more_fails [] entry failed fails = (fails, tt)
   one_more_fails (first ∷ passed) entry failed fails
       = (failed.0, one_more_fails passed entry failed.1 fails)
-
-  -- a search begins with all left
-  pub search_begins : (all : List (ℕ × (ℕ × T))) → HasPassed answers all all
-  search_begins all = record { passed = []; split = refl; failed = tt }
 
   -- it passes an entry whose value fails the test
   pub search_passes : (all left rest : List (ℕ × (ℕ × T))) (entry : ℕ × (ℕ × T))

@@ -1,9 +1,11 @@
 -- The map of a compression from each old pointer to the new one.
 use Rattle.std.specs.Prelude.{◌≡◌, ◌↔◌, ℕ, List, map, Some, IsSome}
-use Rattle.triple_arena.specs.Compression.{value_of}
+use Rattle.triple_arena.specs.Compression.{value_of, live_values, IsCompact}
 use Rattle.triple_arena.specs.Content.{Content, get}
 use Rattle.triple_arena.specs.DirectContent.{DirectContent, get as renamed}
+use Rattle.triple_arena.specs.DirectContent.{live_entries as entries_of}
 use Rattle.triple_arena.specs.Iterators.{pointer_of}
+use Rattle.triple_arena.specs.LiveEntries.{live_entries}
 
 module _ {P : Type 0} (index generation : P → ℕ) where
   -- the index and the generation of the pointer that is stored in a listed entry
@@ -18,6 +20,13 @@ module _ {P : Type 0} (index generation : P → ℕ) where
     pub to : map pointer_in entries ≡ map pointer_of new
 
 module _ {P T : Type 0} (index generation : P → ℕ) where
+  -- the map leads from the entries of `old` to those of `new`, which has the same values, at the
+  -- first indexes
+  abbrev pub IsRecasterOf : (old new : Content T) → DirectContent P → Type 0
+  IsRecasterOf old new recaster
+      = IsRecaster index generation (live_entries old) (live_entries new) (entries_of recaster)
+      × (live_values new ≡ live_values old) × IsCompact (live_entries new)
+
   -- a map by pointers is one-to-one from the pointers that are valid in `old` to those that are
   -- valid in `new`, and each finds there what it found
   pub record IsRenaming (old new : Content T) (renaming : DirectContent P) : Type 0 where

@@ -1,5 +1,6 @@
 -- Two entries of an arena, and two values that are written.
-use Rattle.std.specs.Prelude.{◌≡◌, ◌≢◌, ℕ, zero, suc, List, [], ◌∷◌, Option, IsSome}
+use Rattle.std.specs.Prelude.{◌≡◌, ◌≢◌, ℕ, zero, suc, List, [], ◌∷◌, Option, Some, IsSome}
+use Rattle.triple_arena_stack.specs.Stack.{item_at, with_item}
 use Rattle.triple_arena.specs.Content.{Content, with_value}
 use Rattle.triple_arena.specs.DirectContent.{DirectContent, with_value as with_direct_value}
 use Rattle.triple_arena.specs.Entries.{value_if}
@@ -23,6 +24,13 @@ module _ {P T : Type 0} (index generation : P → ℕ) where
   abbrev pub FindOne : (ℕ → Option (ℕ × T)) → P → P → Type 0
   FindOne entries p q = IsSome (value_if (generation p) (entries (index p)))
       × IsSome (value_if (generation q) (entries (index q))) × (index p ≡ index q)
+
+module _ {X T : Type 0} (held : X → Option T) (with_held : X → T → X) where
+  -- if the slots at two indexes hold a value each, each has the other's, and all else stays
+  abbrev pub HaveValuesExchanged : ℕ → ℕ → (old new : List X) → Type 0
+  HaveValuesExchanged i j old new = (x y : X) (t u : T) → Some x ≡ item_at old i
+      → Some y ≡ item_at old j → held x ≡ Some t → held y ≡ Some u
+      → new ≡ with_item (with_item old i (with_held x u)) j (with_held y t)
 
 module _ {X : Type 0} where
   -- the list with another item where so many come before it

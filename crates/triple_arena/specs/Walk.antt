@@ -1,7 +1,7 @@
 -- Going over the indexes of an arena.
 use Rattle.std.specs.Prelude.{◌≡◌, ℕ, zero, suc, ◌+◌, ◌-◌, ◌<◌, ◌≤◌, ◌&&◌, List, [], ◌∷◌, map}
-use Rattle.std.specs.Prelude.{filter, reverse, Bool, true, false, Option, Some, None, nat_le}
-use Rattle.std.specs.Prelude.{if◌then◌else◌}
+use Rattle.std.specs.Prelude.{filter, reverse, Bool, true, false, Option, Some, None, IsSome}
+use Rattle.std.specs.Prelude.{if◌then◌else◌, nat_le}
 use Rattle.triple_arena.specs.Compression.{pointer_of}
 use Rattle.triple_arena.specs.Entries.{generation_at, IsOneOf}
 
@@ -19,6 +19,11 @@ walk_over start end falls = record { low = start + 1; high = end; falls = falls 
 -- an index is left to look at
 abbrev pub IsAhead : Walk → ℕ → Type 0
 IsAhead w j = (w.low ≤ j) × (j ≤ w.high)
+
+-- a walk goes over all of these entries, rising
+abbrev pub GoesOverAll : {T : Type 0} → Walk → (ℕ → Option (ℕ × T)) → Type 0
+GoesOverAll w entries
+    = (w.falls ≡ false) × (w.low ≡ 1) × ((j : ℕ) → IsSome (entries j) → j ≤ w.high)
 
 -- no index is left
 abbrev pub IsOver : Walk → Type 0
@@ -49,14 +54,14 @@ module _ {T : Type 0} where
     pub first : (j : ℕ) → IsAhead w j → ComesBefore w.falls j i → entries j ≡ None
 
   -- the first live index of those ahead and its generation, or nothing where none of them is live
-  abbrev pub Finds : (ℕ → Option (ℕ × T)) → Walk → Option (ℕ × ℕ) → Type 0
-  Finds entries w None = (j : ℕ) → IsAhead w j → entries j ≡ None
-  Finds entries w (Some p) = IsFirstLive entries w p.0 p.1
+  abbrev pub FindsAhead : (ℕ → Option (ℕ × T)) → Walk → Option (ℕ × ℕ) → Type 0
+  FindsAhead entries w None = (j : ℕ) → IsAhead w j → entries j ≡ None
+  FindsAhead entries w (Some p) = IsFirstLive entries w p.0 p.1
 
   -- a step over these entries gives the first live index ahead and passes it, or gives nothing and
   -- ends the walk
   abbrev pub Steps : (ℕ → Option (ℕ × T)) → Walk → Option (ℕ × ℕ) → Walk → Type 0
-  Steps entries before None after = Finds entries before None × IsOver after
+  Steps entries before None after = FindsAhead entries before None × IsOver after
   Steps entries before (Some p) after = IsFirstLive entries before p.0 p.1
       × (after ≡ past before p.0)
 

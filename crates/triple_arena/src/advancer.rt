@@ -6,7 +6,7 @@ ghost use Rattle.std.specs.Option.{option_map};
 ghost use Rattle.triple_arena.specs.Entries.{pointer_at, generation_at, pointer_by};
 ghost use Rattle.triple_arena.specs.Content.{Content, entry_at, last_index as last_index_of};
 ghost use Rattle.triple_arena.specs.DirectContent.{entry_at as entry_of, as_content};
-ghost use Rattle.triple_arena.specs.Walk.{past, to_come, walk_over, Finds, IsOver, Steps};
+ghost use Rattle.triple_arena.specs.Walk.{past, to_come, walk_over, FindsAhead, IsOver, Steps};
 
 use crate::{Arena, ArenaSlots, DirectArena, DirectSlots};
 use proof_marks::unreached;
@@ -129,7 +129,7 @@ pub(crate) trait LivePointers<P: PtrCore, T> {
 
     // The pointer to the first live entry at the indexes after `start`, up to `end`.
     final fn first_live(&self, start: usize, end: usize) -> Option<P>
-        ensures found { Finds (entry_at (content self.now)) (walk_over start end false)
+        ensures found { FindsAhead (entry_at (content self.now)) (walk_over start end false)
             (pointer_by P.index P.generation result) }
         ensures number { IfSome result (λ p. P.index p < 2 ^ 64) }
     {
@@ -147,7 +147,7 @@ pub(crate) trait LivePointers<P: PtrCore, T> {
 
     // The pointer to the last live entry at the indexes after `start`, up to `end`.
     final fn last_live(&self, start: usize, end: usize) -> Option<P>
-        ensures found { Finds (entry_at (content self.now)) (walk_over start end true)
+        ensures found { FindsAhead (entry_at (content self.now)) (walk_over start end true)
             (pointer_by P.index P.generation result) }
         ensures number { IfSome result (λ p. P.index p < 2 ^ 64) }
     {
@@ -201,7 +201,7 @@ pub(crate) trait LivePointers<P: PtrCore, T> {
 
     // What the next step of an advancer gives.
     final fn next_live(&self, advancer: &PtrAdvancer<P>) -> Option<P>
-        ensures found { Finds (entry_at (content self.now)) advancer.now
+        ensures found { FindsAhead (entry_at (content self.now)) advancer.now
             (pointer_by P.index P.generation result) }
         ensures number { IfSome result (λ p. P.index p < 2 ^ 64) }
     {

@@ -7,24 +7,24 @@
 //! nobody sets, resets or copies it, a pointer never comes to mean another entry.
 //!
 //! `specs/Walk.antt` has the words of the laws on walks.
-ghost use Rattle.std.specs.Prelude.{◌≡◌, ◌≤◌, ◌↔◌, ℕ, List, length, map as list_map, Option, Some};
-ghost use Rattle.std.specs.Prelude.{IsSome, false};
+ghost use Rattle.std.specs.Prelude.{◌≡◌, ◌↔◌, ℕ, List, length, map as list_map, Option, Some};
 ghost use Rattle.std.specs.List.{FoldsTo};
 ghost use Rattle.triple_arena.specs.Entries.{generation_at, pointer_by, IsOneOf};
-ghost use Rattle.triple_arena.specs.Steps.{Step, drain, write, give_up_copy, keep, AreNew, Finds};
+ghost use Rattle.triple_arena.specs.Steps.{drain, write, give_up_copy, keep, AreNew, Finds};
 ghost use Rattle.triple_arena.specs.Steps.{Takes, IsStep, Happens, History, IsReached, all_given};
 ghost use Rattle.triple_arena.specs.Steps.{reached};
-ghost use Rattle.triple_arena.specs.Walk.{Walk, IsAhead, GoInOrder, given_by, pointers_ahead};
-ghost use Rattle.triple_arena.specs.Compression.{live_values, pointer_of, IsCompact};
+ghost use Rattle.triple_arena.specs.Walk.{Walk, IsAhead, GoesOverAll, GoInOrder, given_by};
+ghost use Rattle.triple_arena.specs.Walk.{pointers_ahead};
+ghost use Rattle.triple_arena.specs.Compression.{pointer_of};
 ghost use Rattle.triple_arena.specs.Content.{Content, without_free_end, canonicalized};
 ghost use Rattle.triple_arena.specs.Content.{with_limit};
 ghost use Rattle.triple_arena.specs.Content.{grown_if_full, cleared, reallocated};
 ghost use Rattle.triple_arena.specs.Recasting.{content_recasted};
-ghost use Rattle.triple_arena.specs.DirectContent.{DirectContent, live_entries as live_entries_of};
+ghost use Rattle.triple_arena.specs.DirectContent.{DirectContent};
 ghost use Rattle.triple_arena.specs.Drains.{drained};
 ghost use Rattle.triple_arena.specs.IterMut.{with_values};
 ghost use Rattle.triple_arena.specs.LiveEntries.{live_entries};
-ghost use Rattle.triple_arena.specs.Recaster.{IsRecaster, IsRenaming};
+ghost use Rattle.triple_arena.specs.Recaster.{IsRecasterOf, IsRenaming};
 
 use crate::ArenaTrait;
 use triple_arena_ptr::PtrCore;
@@ -98,8 +98,7 @@ pub fn advancers_give_each_entry_once<P: PtrCore, T: Drop, A: ArenaTrait<P, T>>(
         ↔ (IsAhead walk p.0 × (generation_at (A.entry_at arena) p.0 ≡ Some p.1)) }
     ensures order { (arena : A) (walk : Walk)
         → GoInOrder walk.falls (pointers_ahead walk (A.live_entries arena)) }
-    ensures all { (arena : A) (walk : Walk) → walk.falls ≡ false → walk.low ≡ 1
-        → ((j : ℕ) → IsSome (A.entry_at arena j) → j ≤ walk.high)
+    ensures all { (arena : A) (walk : Walk) → GoesOverAll walk (A.entry_at arena)
         → pointers_ahead walk (A.live_entries arena) ≡ list_map pointer_of (A.live_entries arena) }
 {}
 
@@ -108,8 +107,6 @@ pub fn advancers_give_each_entry_once<P: PtrCore, T: Drop, A: ArenaTrait<P, T>>(
 /// afterwards. Each finds what its pointer found.
 pub fn recasters_rename_one_to_one<P: PtrCore, T: Drop>()
     ensures { (before after : Content T) (map : DirectContent P)
-        → IsRecaster P.index P.generation (live_entries before) (live_entries after)
-        (live_entries_of map)
-        → live_values after ≡ live_values before → IsCompact (live_entries after)
+        → IsRecasterOf P.index P.generation before after map
         → IsRenaming P.index P.generation before after map }
 {}

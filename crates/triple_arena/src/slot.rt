@@ -8,8 +8,9 @@ ghost use Rattle.triple_arena.specs.Slot.{Slot, entry_of, free, used, value_of, 
 ghost use Rattle.triple_arena.specs.Slot.{index_up_to, free_links as free_links_of, with_links};
 ghost use Rattle.triple_arena.specs.Slot.{with_prev, with_next, with_slot_value};
 ghost use Rattle.triple_arena.specs.Slot.{with_slot_generation};
-ghost use Rattle.triple_arena_stack.specs.Stack.{item_at, with_item};
+ghost use Rattle.triple_arena_stack.specs.Stack.{item_at};
 ghost use Rattle.triple_arena.specs.Entries.{value_if};
+ghost use Rattle.triple_arena.specs.TwoValues.{HaveValuesExchanged};
 
 use crate::free_inx::FreeInx;
 use crate::lent_slots::{LentValue, SlotKey};
@@ -339,13 +340,8 @@ pub(crate) fn exchange_values<T, L: ValueMut<T> + Drop, S: NonZeroInxGenericStac
     requires two { at i ≢ at j }
     requires i_is_used { (x : L) → Some x ≡ item_at (S.items slots.old) (at i) → IsSome (L.held x) }
     requires j_is_used { (y : L) → Some y ≡ item_at (S.items slots.old) (at j) → IsSome (L.held y) }
-    ensures items { (x y : L) (t u : T)
-        → Some x ≡ item_at (S.items slots.old) (at i)
-        → Some y ≡ item_at (S.items slots.old) (at j)
-        → L.held x ≡ Some t → L.held y ≡ Some u
-        → S.items slots.new ≡ with_item
-        (with_item (S.items slots.old) (at i) (L.with_held x u))
-        (at j) (L.with_held y t) }
+    ensures items { HaveValuesExchanged L.held L.with_held (at i) (at j) (S.items slots.old)
+        (S.items slots.new) }
     ensures room { S.room slots.new ≡ S.room slots.old }
 {
     let (first, second) = get_disjoint_mut(slots.as_mut_slice(), i, j);

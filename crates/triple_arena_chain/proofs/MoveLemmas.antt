@@ -109,7 +109,7 @@ module _ {T : Type 0} where
         )
 
     -- what a gap names is live
-    pub gap_live : (gap : Ends) → IsBetween (taken_out (ends_in c) n) gap → (o : Option ℕ)
+    gap_live : (gap : Ends) → IsBetween (taken_out (ends_in c) n) gap → (o : Option ℕ)
         → (gap.0 ≡ o) ⊎ (gap.1 ≡ o)
         → IfSome o (λ i. IsSome (entry_at d i))
     gap_live gap between None names = tt
@@ -134,6 +134,16 @@ module _ {T : Type 0} where
                 → IsSome (option_map entry_ends o) → IsSome (entry_at d k)
             by None at some = absurd (cc)
             by (Some e) at some = rw at refl
+
+    pub behind_live : (k : ℕ) (next : Option ℕ) → k ≢ n → IsSome (entry_at d k)
+        → next ≡ next_at (ends_in d) k → IfSome next (λ i. IsSome (entry_at d i))
+    behind_live k next differs live read =
+        gap_live (Some k, next) (behind k next differs live read).0 next (inr refl)
+
+    pub before_live : (k : ℕ) (prev : Option ℕ) → k ≢ n → IsSome (entry_at d k)
+        → prev ≡ prev_at (ends_in d) k → IfSome prev (λ i. IsSome (entry_at d i))
+    before_live k prev differs live read =
+        gap_live (prev, Some k) (before k prev differs live read).0 prev (inl refl)
 
   pub record Moved (n : ℕ) (gap : Ends) (c new : Content (IndexLink T)) : Type 0 where
     pub moved : IsMoved n gap c new

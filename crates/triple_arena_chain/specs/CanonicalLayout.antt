@@ -56,7 +56,7 @@ module _ {T : Type 0} where
 
 module _ {T : Type 0} where
   -- the links stand at other indexes, each with its chain and its value; the same indexes are live
-  pub record IsMoved (to : ℕ → ℕ) (old new : Content (IndexLink T)) : Type 0 where
+  pub record AreMoved (to : ℕ → ℕ) (old new : Content (IndexLink T)) : Type 0 where
     pub renamed : FollowsRenaming to (ends_in old) (ends_in new)
     pub values : (i : ℕ) → IsSome (ends_in old i) → values_in new (to i) ≡ values_in old i
     pub live : (i : ℕ) → IsSome (ends_in new i) → IsSome (ends_in old i)
@@ -66,7 +66,7 @@ module _ {T : Type 0} where
   -- all chains are runs from index 1 on
   pub record IsAllGathered (old new : Content (IndexLink T)) : Type 0 where
     pub to : ℕ → ℕ
-    pub moved : IsMoved to old new
+    pub moved : AreMoved to old new
     pub laid_out : IsLaidOut (ends_in new) (length old.slots)
     pub stays : (n : ℕ) → IsLaidOut (ends_in old) n → (i : ℕ) → to i ≡ i
 

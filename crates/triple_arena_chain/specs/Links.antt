@@ -7,7 +7,7 @@ use Rattle.triple_arena.specs.Content.{removed, IsWellFormed}
 use Rattle.triple_arena_ptr.specs.Generation.{next_generation}
 use Rattle.triple_arena.specs.Entries.{with_entry, without}
 use Rattle.triple_arena_chain.specs.LinkShape.{IndexLink}
-use Rattle.triple_arena_chain.specs.Kinds.{gap_of}
+use Rattle.triple_arena_chain.specs.Kinds.{gap_of, at_bridge}
 use Rattle.triple_arena_chain.specs.declared.kind.InsertKind.{InsertKind}
 use Rattle.triple_arena_chain.specs.declared.gap.Gap.{Gap}
 use Rattle.triple_arena_chain.specs.declared.gap.Gap.TheVariants.{Between, OwnRing}
@@ -101,6 +101,12 @@ module _ {T : Type 0} where
       = with_prev_of (with_next_of c before (Some i)) after (Some i)
   joined_to c OwnRing i = c
 
+  -- the links with these neighbors for the one at an index, which name it
+  abbrev pub placed_between : Content (IndexLink T) → Option ℕ → Option ℕ → ℕ
+      → Content (IndexLink T)
+  placed_between c prev next i
+      = joined_to (with_prev_of (with_next_of c (Some i) next) (Some i) prev) (Between prev next) i
+
   -- the neighbors of a link name one another over it
   abbrev pub bridged_over : Content (IndexLink T) → IndexLink T → Content (IndexLink T)
   bridged_over c link = with_prev_of (with_next_of c link.prev link.next) link.next link.prev
@@ -136,6 +142,10 @@ module _ {T : Type 0} where
     pub ends : (k : ℕ) → ends_in new k ≡ wanted k
     pub values : (k : ℕ) → values_in new k ≡ values_in old k
     pub kept : IsKept old new
+
+  -- all is as it was
+  abbrev pub IsRestored : (old new : Content (IndexLink T)) → Type 0
+  IsRestored old new = IsRelinked (ends_in old) old new
 
   -- `q` is the next of `p`, and all else is as it was
   abbrev pub Connects : ℕ → ℕ → Content (IndexLink T) → Content (IndexLink T) → Type 0
@@ -194,6 +204,13 @@ module _ {P T : Type 0} (index generation : P → ℕ) where
   -- two pointers find links that have a next
   abbrev pub HaveNexts : Content (IndexLink T) → P → P → Type 0
   HaveNexts c p q = HasNext c p × HasNext c q
+
+  -- the first pointer finds a link that has no next, the second one a link that has no previous
+  -- one
+  abbrev pub AreConnectable : Content (IndexLink T) → P → P → Type 0
+  AreConnectable c p q
+      = IsSome (at_bridge (index p) (index q) (ends_found c (index p) (generation p))
+      (ends_found c (index q) (generation q)))
 
   -- a pointer finds a link that has a previous one
   abbrev pub HasPrev : Content (IndexLink T) → P → Type 0

@@ -11,7 +11,6 @@ ghost use Rattle.triple_arena.specs.Content.{Content, get, entry_at, live_count}
 ghost use Rattle.triple_arena.specs.Content.{some_counter, removed, empty, reallocated};
 ghost use Rattle.triple_arena.specs.Content.{invalidated, cleared};
 ghost use Rattle.triple_arena.specs.Entries.{value_if};
-ghost use Rattle.triple_arena_chain.specs.declared.kind.InsertKind.TheVariants.{Bridge};
 ghost use Rattle.triple_arena_chain.specs.LinkShape.{IndexLink};
 ghost use Rattle.linked_lists.specs.LinkedLists.{next_in, next_at, prev_at};
 ghost use Rattle.triple_arena_chain.specs.Insertion.{InsertsWithinCapacity, InsertsReallocating};
@@ -19,6 +18,7 @@ ghost use Rattle.triple_arena_chain.specs.Links.{ends_in, ends_found, values_in,
 ghost use Rattle.triple_arena_chain.specs.Links.{link_removed, gap_among, bridged_over};
 ghost use Rattle.triple_arena_chain.specs.Links.{IsChained, IsTakenOut, Connects, BreaksNext};
 ghost use Rattle.triple_arena_chain.specs.Links.{BreaksPrev, ExchangesNexts, HasNext, HasPrev};
+ghost use Rattle.triple_arena_chain.specs.Links.{AreConnectable, HaveNexts};
 ghost use Rattle.linked_lists.specs.Chains.{IsAppended, IsSplit, IsExchanged};
 ghost use Rattle.triple_arena_chain.specs.Renaming.{IsCompacted};
 ghost use Rattle.triple_arena_chain.specs.Values.{IsLivePtr};
@@ -118,8 +118,7 @@ pub trait ChainArenaTrait<P: PtrCore, T: Drop>: ArenaTrait<P, T> {
     /// previous link. Else it returns `None` and changes nothing. The end and the start of one
     /// linear chain make a ring, also if `p` is `q`.
     fn connect(&mut self, p: P, q: P) -> Option<()>
-        ensures variant { IsSome result
-            ↔ IsSome (gap_among P.index P.generation P.Inx.number (links self.old) (Bridge p q)) }
+        ensures variant { IsSome result ↔ AreConnectable P.index P.generation (links self.old) p q }
         ensures relinked { OnSome result
             (Connects (P.index p) (P.index q) (links self.old) (links self.new)) }
         ensures lists { OnSome result (IsAppended (P.index p) (P.index q)
@@ -157,8 +156,7 @@ pub trait ChainArenaTrait<P: PtrCore, T: Drop>: ArenaTrait<P, T> {
     /// Two links of one ring make two rings of it, and two links of two rings one. If `q` is the
     /// next of `p`, it becomes a ring of one. If `p` is `q`, nothing changes.
     fn exchange_next(&mut self, p: P, q: P) -> Option<()>
-        ensures variant { IsSome result ↔ (HasNext P.index P.generation (links self.old) p
-            × HasNext P.index P.generation (links self.old) q) }
+        ensures variant { IsSome result ↔ HaveNexts P.index P.generation (links self.old) p q }
         ensures relinked { OnSome result
             (ExchangesNexts (P.index p) (P.index q) (links self.old) (links self.new)) }
         ensures lists { OnSome result (IsExchanged (P.index p) (P.index q)

@@ -4,7 +4,7 @@ ghost use Rattle.triple_arena.specs.Content.{Content, invalidated, with_limit};
 ghost use Rattle.triple_arena.specs.Recasting.{content_recasted};
 ghost use Rattle.triple_arena_chain.specs.CanonicalLayout.{IsCanonical};
 ghost use Rattle.triple_arena_chain.specs.CanonicalTransfer.{AreInOrder};
-ghost use Rattle.triple_arena_chain.specs.declared.kind.InsertKind.TheVariants.{Bridge, NextTo};
+ghost use Rattle.triple_arena_chain.specs.declared.kind.InsertKind.TheVariants.{NextTo};
 ghost use Rattle.triple_arena_chain.specs.declared.kind.InsertKind.TheVariants.{PrevTo};
 ghost use Rattle.triple_arena_chain.specs.LinkRecasting.{link_items, link_recasted};
 ghost use Rattle.triple_arena_chain.specs.LinkShape.{IndexLink};
@@ -12,10 +12,10 @@ ghost use Rattle.linked_lists.specs.LinkedLists.{Ends, next_at, IsLinear, IsRing
 ghost use Rattle.linked_lists.specs.Chains.{Chain, members, IsChainOf, AreChains};
 ghost use Rattle.triple_arena_chain.specs.Runs.{IsRunFrom};
 ghost use Rattle.triple_arena_chain.specs.Walks.{IsWalkFrom};
-ghost use Rattle.triple_arena_chain.specs.Links.{ends_in, gap_among, with_value_in};
-ghost use Rattle.triple_arena_chain.specs.Links.{IsChained, IsStoredAt, IsTakenOut, IsRelinked};
+ghost use Rattle.triple_arena_chain.specs.Links.{ends_in, with_value_in};
+ghost use Rattle.triple_arena_chain.specs.Links.{IsChained, IsStoredAt, IsTakenOut, IsRestored};
 ghost use Rattle.triple_arena_chain.specs.Links.{Connects, BreaksNext, ExchangesNexts, HasNext};
-ghost use Rattle.triple_arena_chain.specs.Links.{HaveNexts, SameLinks};
+ghost use Rattle.triple_arena_chain.specs.Links.{HaveNexts, AreConnectable, SameLinks};
 ghost use Rattle.linked_lists.specs.UniquenessLaws.{IsInOneChain};
 
 use triple_arena::{PtrCore, Recast};
@@ -83,23 +83,20 @@ pub fn walks_of_a_ring_are_rotations()
 /// restores all interlinks, and leaves all else as it was.
 pub fn break_next_takes_connect_back<P: PtrCore, T>()
     ensures answers { (before between : Content (IndexLink T)) (p q : P)
-        → IsSome (gap_among P.index P.generation P.Inx.number before (Bridge p q))
-        → Connects (P.index p) (P.index q) before between
-        → HasNext P.index P.generation between p }
+        → AreConnectable P.index P.generation before p q
+        → Connects (P.index p) (P.index q) before between → HasNext P.index P.generation between p }
     ensures restored { (before between after : Content (IndexLink T)) (p q : P)
-        → IsSome (gap_among P.index P.generation P.Inx.number before (Bridge p q))
-        → Connects (P.index p) (P.index q) before between
-        → BreaksNext (P.index p) between after
-        → IsRelinked (ends_in before) before after }
+        → AreConnectable P.index P.generation before p q
+        → Connects (P.index p) (P.index q) before between → BreaksNext (P.index p) between after
+        → IsRestored before after }
 {}
 
 /// A `break_next` that returns `Some`, and then `connect` of the two links, restores all
 /// interlinks, and leaves all else as it was.
 pub fn connect_takes_break_next_back<P: PtrCore, T>()
-    ensures { (before between after : Content (IndexLink T)) (p q : ℕ)
-        → IsChained before → next_at (ends_in before) p ≡ Some q
-        → BreaksNext p before between → Connects p q between after
-        → IsRelinked (ends_in before) before after }
+    ensures { (before between after : Content (IndexLink T)) (p q : ℕ) → IsChained before
+        → next_at (ends_in before) p ≡ Some q → BreaksNext p before between
+        → Connects p q between after → IsRestored before after }
 {}
 
 /// `exchange_next` twice with the same pointers, of which the first returns `Some`, returns `Some`
@@ -111,9 +108,8 @@ pub fn exchange_next_takes_itself_back<P: PtrCore, T>()
         → HaveNexts P.index P.generation between p q }
     ensures restored { (before between after : Content (IndexLink T)) (p q s t : ℕ)
         → IsChained before → next_at (ends_in before) p ≡ Some s
-        → next_at (ends_in before) q ≡ Some t
-        → ExchangesNexts p q before between → ExchangesNexts p q between after
-        → IsRelinked (ends_in before) before after }
+        → next_at (ends_in before) q ≡ Some t → ExchangesNexts p q before between
+        → ExchangesNexts p q between after → IsRestored before after }
 {}
 
 /// An insertion directly after or before a link, and then the removal of what it put in, restores

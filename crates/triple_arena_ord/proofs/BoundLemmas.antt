@@ -12,7 +12,7 @@ use Rattle.linked_lists.specs.ChainLaws.{On-back, On-first}
 use Rattle.triple_arena_chain.specs.Links.{ends_in}
 use Rattle.rank_tree.specs.Tree.{Tree, leaf, node, walk}
 use Rattle.rank_tree.specs.Shape.{root_of}
-use Rattle.rank_tree.specs.Search.{Before, IsParted, IsAnswer}
+use Rattle.rank_tree.specs.Search.{MayPrecede, IsParted, IsAnswer}
 use Rattle.rank_tree.specs.DescentLaws.{all-append, all-map, parted-after, parted-before}
 use Rattle.triple_arena_ord.specs.Bounds.{IsBound, compares_past, first_entry, way_past}
 use Rattle.triple_arena_ord.specs.Ordered.{Ordered, IsOrdered, IsAscending, asked_at, entries_at}
@@ -26,8 +26,8 @@ use Rattle.triple_arena_chain.specs.Links.{values_in}
 use Rattle.triple_arena_ord.proofs.OrderedDrainLemmas.{listed-append}
 use Rattle.triple_arena_ord.proofs.SeekLemmas.{counted-all, parts_at}
 
-before_past : (past : Bool) (a b : Ordering) → Before a b
-    → Before (way_past past a) (way_past past b)
+before_past : (past : Bool) (a b : Ordering) → MayPrecede a b
+    → MayPrecede (way_past past a) (way_past past b)
 before_past past Less Less p = record { less = λ u. refl; greater = λ u. absurd (cc) }
 before_past past Less Equal p = absurd (let no = p.less refl in cc)
 before_past past Less Greater p = absurd (let no = p.less refl in cc)
@@ -50,12 +50,12 @@ both_in L B C f [] l b = tt
 both_in L B C f (y ∷ w) l b = (f y l.0 b.0, both_in L B C f w l.1 b.1)
 
 parted_map : (f g : ℕ → Ordering) (L : ℕ → Type 0)
-    → ((x y : ℕ) → L x → L y → Before (f x) (f y) → Before (g x) (g y))
+    → ((x y : ℕ) → L x → L y → MayPrecede (f x) (f y) → MayPrecede (g x) (g y))
     → (w : List ℕ) → AllByRecursion L w → IsParted f w → IsParted g w
 parted_map f g L turn [] l p = tt
 parted_map f g L turn (x ∷ w) l p = (
-  both_in L (λ y. Before (f x) (f y)) (λ y. Before (g x) (g y)) (λ y ly b. turn x y l.0 ly b) w l.1
-      p.0,
+  both_in L (λ y. MayPrecede (f x) (f y)) (λ y. MayPrecede (g x) (g y))
+      (λ y ly b. turn x y l.0 ly b) w l.1 p.0,
   parted_map f g L turn w l.1 p.1,
 )
 
@@ -104,8 +104,8 @@ module _ {K T : Type 0} (cmp : K → K → Ordering) (key : T → K) (k : K)
   parted : IsTotalOrder cmp → IsAscending cmp key o → IsParted way (order_in o)
   parted total ascending =
       parted_map (asked_at cmp key k o) way (λ i. IsSome (entry_in o i))
-      (λ x y lx ly b. subst (λ d. Before d (way y)) (sym (live_way x lx))
-      (subst (λ d. Before (way_past past (asked_at cmp key k o x)) d) (sym (live_way y ly))
+      (λ x y lx ly b. subst (λ d. MayPrecede d (way y)) (sym (live_way x lx))
+      (subst (λ d. MayPrecede (way_past past (asked_at cmp key k o x)) d) (sym (live_way y ly))
       (before_past past _ _ b)))
       (order_in o)
       (counted-all (λ i. IsSome (entry_in o i)) (tree_in o)
@@ -193,7 +193,7 @@ module _ {K T : Type 0} (cmp : K → K → Ordering) (key : T → K) (k : K)
         let here : way i ≡ Less = answer.asked i Less refl in
         bound_cut (Some p) places.before (i ∷ places.after) places.is (places.less refl) (
           here,
-          all-map (λ y. Before (way i) (way y)) (λ y. way y ≡ Less) (λ y b. b.less here)
+          all-map (λ y. MayPrecede (way i) (way y)) (λ y. way y ≡ Less) (λ y b. b.less here)
               places.after (parted-after way places.before i places.after
               (subst (IsParted way) places.is parts)),
         )
@@ -214,7 +214,7 @@ module _ {K T : Type 0} (cmp : K → K → Ordering) (key : T → K) (k : K)
         bound_cut result (places.before ++ i ∷ []) places.after
         (places.is ∙ sym (append_assoc places.before (i ∷ []) places.after))
         (all-append (λ y. way y ≡ Greater) places.before (i ∷ [])
-        (all-map (λ y. Before (way y) (way i)) (λ y. way y ≡ Greater) (λ y b. b.greater here)
+        (all-map (λ y. MayPrecede (way y) (way i)) (λ y. way y ≡ Greater) (λ y b. b.greater here)
         places.before (parted-before way places.before i places.after
         (subst (IsParted way) places.is parts)))
         (here, tt))

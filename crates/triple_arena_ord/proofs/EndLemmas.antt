@@ -8,11 +8,11 @@ use Rattle.triple_arena_chain.specs.Links.{ends_in}
 use Rattle.linked_lists.specs.UniquenessLaws.{linear_apart}
 use Rattle.rank_tree.specs.declared.side.Side.{Side}
 use Rattle.rank_tree.specs.declared.side.Side.TheVariants.{Left, Right}
-use Rattle.triple_arena_ord.specs.Ordered.{Ordered, IsOrdered, StandsBeside, beside, moved}
-use Rattle.triple_arena_ord.specs.Ordered.{replaced, order_in}
+use Rattle.triple_arena_ord.specs.Ordered.{Ordered, IsOrdered, StandsBeside, beside, end_after}
+use Rattle.triple_arena_ord.specs.Ordered.{new_end, order_in}
 
 first_left : (before : List ℕ) (h n : ℕ) (after : List ℕ) → Apart (before ++ h ∷ after)
-    → replaced (first_or (before ++ h ∷ after) None) h n ≡ first_or (before ++ n ∷ h ∷ after) None
+    → new_end (first_or (before ++ h ∷ after) None) h n ≡ first_or (before ++ n ∷ h ∷ after) None
 first_left [] h n after apart = rw (eq-eqb h h refl) refl
 first_left (x ∷ xs) h n after apart =
     rw (ne_eqb x h (λ same. Off-not_on xs after h
@@ -39,13 +39,13 @@ after_off [] h after apart = apart.0
 after_off (x ∷ xs) h after apart = after_off xs h after apart.1
 
 last_right : (before : List ℕ) (h n : ℕ) (after : List ℕ) → Apart (before ++ h ∷ after)
-    → replaced (last_or None (before ++ h ∷ after)) h n ≡ last_or None (before ++ h ∷ n ∷ after)
+    → new_end (last_or None (before ++ h ∷ after)) h n ≡ last_or None (before ++ h ∷ n ∷ after)
 last_right before h n after apart =
     rw (last_or-append None before (h ∷ after), last_or-append None before (h ∷ n ∷ after))
     (go after (after_off before h after apart))
   where
     go : (after : List ℕ) → Off after h
-        → replaced (last_or (Some h) after) h n ≡ last_or (Some n) after
+        → new_end (last_or (Some h) after) h n ≡ last_or (Some n) after
     go [] off = rw (eq-eqb h h refl) refl
     go (y ∷ ys) off =
         let l = last_some y ys in
@@ -63,22 +63,22 @@ module _ {T : Type 0} (o p : Ordered T) (is : IsOrdered o) (side : Side)
       (linear_apart (ends_in o.chains) None (order_in o) is.linear)
 
   pub first_moved : (f : Option ℕ) → f ≡ first_or (order_in o) None
-      → moved side Left f h n ≡ first_or (order_in p) None
-  first_moved f e = ap (λ z. moved side Left z h n) (e ∙ ap (λ l. first_or l None) s.was)
+      → end_after side Left f h n ≡ first_or (order_in p) None
+  first_moved f e = ap (λ z. end_after side Left z h n) (e ∙ ap (λ l. first_or l None) s.was)
       ∙ by side s.is
     where
       by : (side : Side) → order_in p ≡ beside side s.before h n s.after
-          → moved side Left (first_or (s.before ++ h ∷ s.after) None) h n
+          → end_after side Left (first_or (s.before ++ h ∷ s.after) None) h n
           ≡ first_or (order_in p) None
       by Left w = first_left s.before h n s.after apart ∙ sym (ap (λ l. first_or l None) w)
       by Right w = first_right s.before h n s.after ∙ sym (ap (λ l. first_or l None) w)
 
   pub last_moved : (f : Option ℕ) → f ≡ last_or None (order_in o)
-      → moved side Right f h n ≡ last_or None (order_in p)
-  last_moved f e = ap (λ z. moved side Right z h n) (e ∙ ap (last_or None) s.was) ∙ by side s.is
+      → end_after side Right f h n ≡ last_or None (order_in p)
+  last_moved f e = ap (λ z. end_after side Right z h n) (e ∙ ap (last_or None) s.was) ∙ by side s.is
     where
       by : (side : Side) → order_in p ≡ beside side s.before h n s.after
-          → moved side Right (last_or None (s.before ++ h ∷ s.after)) h n
+          → end_after side Right (last_or None (s.before ++ h ∷ s.after)) h n
           ≡ last_or None (order_in p)
       by Left w = last_left s.before h n s.after ∙ sym (ap (last_or None) w)
       by Right w = last_right s.before h n s.after apart ∙ sym (ap (last_or None) w)

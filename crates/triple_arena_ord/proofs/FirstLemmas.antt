@@ -56,13 +56,7 @@ module _ {T : Type 0} (o : Ordered T)
 
   ranked : IsRanked grown
   ranked = (
-    record {
-      above_left = omega arith;
-      near_left = omega arith;
-      above_right = omega arith;
-      near_right = omega arith;
-      childless = omega arith;
-    },
+    omega arith,
     tt,
     tt,
   )

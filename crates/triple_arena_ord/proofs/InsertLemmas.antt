@@ -20,7 +20,7 @@ use Rattle.linked_lists.specs.UniquenessLaws.{linear_apart}
 use Rattle.triple_arena_ord.specs.NodeShape.{IndexNode}
 use Rattle.rank_tree.specs.NodeView.{NodeView}
 use Rattle.triple_arena_ord.specs.Node.{nodes_in, view_of, itemed}
-use Rattle.rank_tree.specs.Search.{Before, IsParted, IsAnswer}
+use Rattle.rank_tree.specs.Search.{MayPrecede, IsParted, IsAnswer}
 use Rattle.triple_arena_ord.specs.Ordered.{Ordered, IsOrdered, tree_in, order_in, asked_of}
 use Rattle.triple_arena_ord.specs.Ordered.{asked_at}
 use Rattle.triple_arena_ord.specs.Placing.{IsPlaceByKey}
@@ -147,7 +147,7 @@ module _ {T : Type 0} where
                   let parted = subst (IsParted f) s.was
                   (parts_at cmp key k total o is ascending) in (
                     here,
-                    all-map (λ y. Before (f h) (f y)) (λ y. f y ≡ Less) (λ y z. z.less here)
+                    all-map (λ y. MayPrecede (f h) (f y)) (λ y. f y ≡ Less) (λ y z. z.less here)
                         s.after (parted-after f s.before h s.after parted),
                   );
             }
@@ -165,8 +165,8 @@ module _ {T : Type 0} where
                   let parted = subst (IsParted f) s.was
                   (parts_at cmp key k total o is ascending) in
                   all-append (λ y. f y ≡ Greater) s.before (h ∷ [])
-                  (all-map (λ y. Before (f y) (f h)) (λ y. f y ≡ Greater) (λ y z. z.greater here)
-                  s.before
+                  (all-map (λ y. MayPrecede (f y) (f h)) (λ y. f y ≡ Greater)
+                  (λ y z. z.greater here) s.before
                   (parted-before f s.before h s.after parted)) (here, tt);
               less = λ ascending.
                   let places = found.places ascending h Greater at in

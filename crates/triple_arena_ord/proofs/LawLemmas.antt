@@ -5,7 +5,7 @@ use Rattle.std.specs.Ordering.{ordering_reverse}
 use Rattle.std.specs.declared.cmp.Ordering.{Ordering}
 use Rattle.std.specs.declared.cmp.Ordering.TheVariants.{Less, Equal, Greater}
 use Rattle.linked_lists.specs.LinkedLists.{On}
-use Rattle.rank_tree.specs.Search.{Before, IsParted}
+use Rattle.rank_tree.specs.Search.{MayPrecede, IsParted}
 use Rattle.triple_arena_ord.specs.Ordered.{Ordered, IsOrdered, IsAscending, tree_in, order_in}
 use Rattle.triple_arena_ord.specs.Ordered.{NoneGreater, NoneLess, entry_in, asked_of, asked_at}
 use Rattle.rank_tree.specs.DescentLaws.{before, after, all-map, parted-after, parted-before}
@@ -64,7 +64,7 @@ module _ {T : Type 0} where
     not_greater_before o ordered ascending front back i entry is at =
         let f = asked_at cmp key (key entry.1) o in
         let here : f i ≡ Equal = asked_here o i entry at in
-        all-map (λ j. Before (f j) (f i)) (λ j. f j ≢ Less)
+        all-map (λ j. MayPrecede (f j) (f i)) (λ j. f j ≢ Less)
         (λ j b less. let e : f i ≡ Less = b.less less in let no : Equal ≡ Less = sym here
         ∙ e in absurd (cc))
         front (parted-before f front i back (parted o ordered ascending front back i entry is))
@@ -76,7 +76,7 @@ module _ {T : Type 0} where
     not_less_after o ordered ascending front back i entry is at =
         let f = asked_at cmp key (key entry.1) o in
         let here : f i ≡ Equal = asked_here o i entry at in
-        all-map (λ j. Before (f i) (f j)) (λ j. f j ≢ Greater)
+        all-map (λ j. MayPrecede (f i) (f j)) (λ j. f j ≢ Greater)
         (λ j b greater. let e : f i ≡ Greater = b.greater greater in let no : Equal ≡ Greater =
         sym here ∙ e in absurd (cc))
         back (parted-after f front i back (parted o ordered ascending front back i entry is))

@@ -11,7 +11,7 @@ use Rattle.std.specs.declared.cmp.Ordering.TheVariants.{Less, Equal, Greater}
 use Rattle.linked_lists.specs.LinkedLists.{Ends, IsLinear, first_or, last_or, Off, Apart, On}
 use Rattle.linked_lists.specs.LinkedListLaws.{Off-not_on}
 use Rattle.linked_lists.specs.UniquenessLaws.{linear_apart}
-use Rattle.rank_tree.specs.Search.{Before, IsParted, EndsAt}
+use Rattle.rank_tree.specs.Search.{MayPrecede, IsParted, EndsAt}
 use Rattle.triple_arena_ord.specs.Near.{IsNear, IsEndNear, IsGapNear, HasEnd, IsWalked}
 use Rattle.triple_arena_ord.specs.Near.{IsPlaceCounted, IsKeyCounted, onward, if_onward, up_to}
 use Rattle.triple_arena_ord.specs.Near.{beyond, path_from}
@@ -225,7 +225,7 @@ module _ (e : ℕ → Option Ends) (f : ℕ → Ordering) (w : List ℕ) (start 
         low = λ u. absurd (cc);
         high = λ u parted. (
           here,
-          all-map (λ y. Before (f cur) (f y)) (λ y. f y ≡ Less)
+          all-map (λ y. MayPrecede (f cur) (f y)) (λ y. f y ≡ Less)
               (λ y z. z.less here) k.after
               (parted-after f k.before cur k.after (subst (IsParted f) k.is parted)),
         );
@@ -260,7 +260,7 @@ module _ (e : ℕ → Option Ends) (f : ℕ → Ordering) (w : List ℕ) (start 
         is = k.is ∙ ap (λ z. k.before ++ cur ∷ z) l.is
             ∙ sym (append_assoc k.before (cur ∷ []) (next ∷ l.back));
         low = λ u parted. all-append (λ y. f y ≡ Greater) k.before (cur ∷ [])
-            (all-map (λ y. Before (f y) (f cur)) (λ y. f y ≡ Greater) (λ y z. z.greater here)
+            (all-map (λ y. MayPrecede (f y) (f cur)) (λ y. f y ≡ Greater) (λ y z. z.greater here)
             k.before (parted-before f k.before cur k.after (subst (IsParted f) k.is parted)))
             (here, tt);
         high = λ u. absurd (cc);

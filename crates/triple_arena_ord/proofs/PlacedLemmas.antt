@@ -8,7 +8,7 @@ use Rattle.std.specs.declared.cmp.Ordering.{Ordering}
 use Rattle.std.specs.declared.cmp.Ordering.TheVariants.{Less, Equal, Greater}
 use Rattle.triple_arena_ptr.specs.declared.errors.OrdInsertionError.{OrdInsertionError}
 use Rattle.rank_tree.specs.declared.side.Side.TheVariants.{Left}
-use Rattle.rank_tree.specs.Search.{Before, IsParted}
+use Rattle.rank_tree.specs.Search.{MayPrecede, IsParted}
 use Rattle.triple_arena_ord.specs.Ordered.{Ordered, IsOrdered, IsAscending, StandsBeside, order_in}
 use Rattle.triple_arena_ord.specs.Ordered.{StaysAscending, asked_of, asked_at}
 use Rattle.triple_arena_ord.specs.Inserted.{StandsAt, IsInsertedAt, IsPlacedByKey, IsPlacedBetween}
@@ -52,12 +52,12 @@ module _ {T K : Type 0} (cmp : K → K → Ordering) (key : T → K)
             after = h ∷ s.after;
             was = s.was;
             is = s.is;
-            none_greater = all-map (λ y. Before (f y) (f h)) (λ y. f y ≢ Less)
+            none_greater = all-map (λ y. MayPrecede (f y) (f h)) (λ y. f y ≢ Less)
                 (λ y z d. let e : Equal ≡ Less = sym here ∙ z.less d in absurd (cc)) s.before
                 (parted-before f s.before h s.after parted);
             none_less = (
               λ d. let e : Equal ≡ Greater = sym here ∙ d in absurd (cc),
-              all-map (λ y. Before (f h) (f y)) (λ y. f y ≢ Greater)
+              all-map (λ y. MayPrecede (f h) (f y)) (λ y. f y ≢ Greater)
                   (λ y z d. let e : Equal ≡ Greater = sym here ∙ z.greater d in absurd (cc)) s.after
                   (parted-after f s.before h s.after parted),
             );

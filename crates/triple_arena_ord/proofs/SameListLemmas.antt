@@ -2,7 +2,7 @@
 use Rattle.std.proofs.Common.{◌≡◌, ℕ, zero, suc, ◌<◌, length, Option, Some, None, IsSome, refl, sym}
 use Rattle.std.proofs.Common.{ap, ◌∙◌, subst}
 use Rattle.triple_arena.specs.Content.{live_count}
-use Rattle.linked_lists.specs.LinkedLists.{IsLinear}
+use Rattle.linked_lists.specs.LinkedLists.{IsLinear, first_or, last_or}
 use Rattle.triple_arena_chain.specs.Links.{ends_in}
 use Rattle.linked_lists.specs.Chains.{Linear}
 use Rattle.linked_lists.specs.ChainLaws.{chain_where}
@@ -47,6 +47,16 @@ module _ {T : Type 0} where
     pub ordered : IsOrdered p
     pub order : order_in p ≡ order_in o
     pub tree : tree_in p ≡ tree_in o
+
+  -- and its ends are still told
+  pub still_whole : {o p : Ordered T} {first last : Option ℕ} → Reordered o p
+      → first ≡ first_or (order_in o) None → last ≡ last_or None (order_in o)
+      → IsOrdered p × (first ≡ first_or (order_in p) None) × (last ≡ last_or None (order_in p))
+  still_whole r first last = (
+    r.ordered,
+    first ∙ ap (λ l. first_or l None) (sym r.order),
+    last ∙ ap (last_or None) (sym r.order),
+  )
 
   pub same_list : (o p : Ordered T) → p.root ≡ o.root
       → ((k : ℕ) → nodes_in p.chains k ≡ nodes_in o.chains k)

@@ -18,7 +18,7 @@ use Rattle.rank_tree.specs.ComparisonLaws.{most_comparisons-greatest}
 use Rattle.rank_tree.specs.Tree.{Tree, leaf, node, walk, rank_of, size}
 use Rattle.rank_tree.specs.Shape.{count}
 use Rattle.rank_tree.specs.Store.{Store}
-use Rattle.rank_tree.specs.Search.{Before, IsParted, IsAnswer, IsFreeAt, asked_down}
+use Rattle.rank_tree.specs.Search.{MayPrecede, IsParted, IsAnswer, IsFreeAt, asked_down}
 use Rattle.triple_arena_ord.specs.Ordered.{Ordered, IsOrdered, IsAscending, tree_in, order_in}
 use Rattle.triple_arena_ord.specs.Ordered.{entry_in, size_in, asked_of, asked_at}
 use Rattle.triple_arena_ord.specs.Found.{place_by}
@@ -95,7 +95,7 @@ unequal f (node l x r_k r) (Some p) is not parted = by p.1 refl
         (all-map (λ y. f y ≡ Greater) (λ y. f y ≢ Equal) (λ y z u. absurd (cc)) places.before
         (places.less refl)) (
           (λ u. absurd (cc)),
-          all-map (λ y. Before (f p.0) (f y)) (λ y. f y ≢ Equal)
+          all-map (λ y. MayPrecede (f p.0) (f y)) (λ y. f y ≢ Equal)
               (λ y z u. let w = z.less here in absurd (cc)) places.after up,
         ))
     by Equal e = absurd (not p.0 Equal (ap (λ d. Some (p.0, d)) e) refl)
@@ -108,7 +108,7 @@ unequal f (node l x r_k r) (Some p) is not parted = by p.1 refl
         (subst (IsParted f) places.is parted) in
         subst (AllByRecursion (λ y. f y ≢ Equal)) (sym places.is)
         (all-append (λ y. f y ≢ Equal) places.before (p.0 ∷ places.after)
-        (all-map (λ y. Before (f y) (f p.0)) (λ y. f y ≢ Equal)
+        (all-map (λ y. MayPrecede (f y) (f p.0)) (λ y. f y ≢ Equal)
         (λ y z u. let w = z.greater here in absurd (cc)) places.before down) (
           (λ u. absurd (cc)),
           all-map (λ y. f y ≡ Less) (λ y. f y ≢ Equal) (λ y z u. absurd (cc))

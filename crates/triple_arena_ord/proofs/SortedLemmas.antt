@@ -9,20 +9,20 @@ use Rattle.std.specs.List.Sorted.{IsSorted}
 use Rattle.std.specs.declared.cmp.Ordering.{Ordering}
 use Rattle.std.specs.declared.cmp.Ordering.TheVariants.{Less, Equal, Greater}
 use Rattle.std.proofs.lemmas.Cmp.{alike_right}
-use Rattle.rank_tree.specs.Search.{Before, IsParted}
+use Rattle.rank_tree.specs.Search.{MayPrecede, IsParted}
 use Rattle.triple_arena_ord.specs.Ordered.{asked_of}
 use Rattle.rank_tree.specs.DescentLaws.{all-map}
 
-before-trans : (a b c : Ordering) → Before a b → Before b c → Before a c
+before-trans : (a b c : Ordering) → MayPrecede a b → MayPrecede b c → MayPrecede a c
 before-trans a b c p q =
     record { less = λ e. q.less (p.less e); greater = λ e. p.greater (q.greater e) }
 
 module _ {K : Type 0} {R : K → K → Ordering} (o : IsTotalOrder R) where
   -- what is not above something parts no later than it
-  pub parts : (k x y : K) → is_lt (R y x) ≡ false → Before (R k x) (R k y)
+  pub parts : (k x y : K) → is_lt (R y x) ≡ false → MayPrecede (R k x) (R k y)
   parts k x y h = by (R x y) refl
     where
-      by : (a : Ordering) → R x y ≡ a → Before (R k x) (R k y)
+      by : (a : Ordering) → R x y ≡ a → MayPrecede (R k x) (R k y)
       by Less e = record {
         less = λ u. o.trans k x y u e;
         greater = λ u.
@@ -77,12 +77,12 @@ module _ {K : Type 0} {R : K → K → Ordering} (o : IsTotalOrder R) where
             let later : IsParted f (j ∷ w) = next (sorted-tail (i, a) (listed_of (j ∷ w)) s2) in
             let fi : f i ≡ R k (key a.1) = ap (λ e. asked_of R key k e) at_i in
             let fj : f j ≡ R k (key b.1) = ap (λ e. asked_of R key k e) at_j in
-            let step : Before (f i) (f j) =
+            let step : MayPrecede (f i) (f j) =
             rw (fi, fj) (parts k (key a.1) (key b.1) (s3 0 (i, a) (omega arith) (omega arith)))
             in (
               (
                 step,
-                all-map (λ y. Before (f j) (f y)) (λ y. Before (f i) (f y))
+                all-map (λ y. MayPrecede (f j) (f y)) (λ y. MayPrecede (f i) (f y))
                     (λ y z. before-trans (f i) (f j) (f y) step z) w later.0,
               ),
               later,

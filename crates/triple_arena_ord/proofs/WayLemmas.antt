@@ -7,7 +7,7 @@ use Rattle.std.specs.declared.cmp.Ordering.TheVariants.{Less, Equal, Greater}
 use Rattle.linked_lists.specs.LinkedLists.{On}
 use Rattle.rank_tree.specs.Tree.{Tree, leaf, node, walk}
 use Rattle.rank_tree.specs.Shape.{root_of, count}
-use Rattle.rank_tree.specs.Search.{Before, IsParted, EndsAt, IsAnswer}
+use Rattle.rank_tree.specs.Search.{MayPrecede, IsParted, EndsAt, IsAnswer}
 use Rattle.triple_arena_ord.specs.Asked.{left_by, IsWay}
 use Rattle.rank_tree.specs.DescentLaws.{all-append, all-back, all-map, parted-after}
 use Rattle.rank_tree.specs.DescentLaws.{parted-before}
@@ -146,7 +146,7 @@ module _ (f : ℕ → Ordering) where
           let here : f a.0 ≡ Less = all.0 ∙ u in
           subst (λ l. EndsAt f l i d) (sym cut) (to_left u (subst (IsParted f) cut parted) (
             here,
-            all-map (λ y. Before (f a.0) (f y)) (λ y. f y ≡ Less) (λ y z. z.less here)
+            all-map (λ y. MayPrecede (f a.0) (f y)) (λ y. f y ≡ Less) (λ y z. z.less here)
                 (way.0.back ++ high) (parted-after f (low ++ way.0.front) a.0 (way.0.back ++ high)
                 opened),
           ))
@@ -168,7 +168,7 @@ module _ (f : ℕ → Ordering) where
           (all-append (λ y. f y ≡ Greater) low (way.0.front ++ a.0 ∷ []) below
           (all-append (λ y. f y ≡ Greater) way.0.front (a.0 ∷ [])
           (all-back (λ y. f y ≡ Greater) low way.0.front
-          (all-map (λ y. Before (f y) (f a.0)) (λ y. f y ≡ Greater) (λ y z. z.greater here)
+          (all-map (λ y. MayPrecede (f y) (f a.0)) (λ y. f y ≡ Greater) (λ y z. z.greater here)
           (low ++ way.0.front)
           (parted-before f (low ++ way.0.front) a.0 (way.0.back ++ high) opened)))
           (here, tt))))

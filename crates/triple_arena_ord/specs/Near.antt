@@ -32,7 +32,7 @@ pub record IsEndNear (num : ℕ) (f : ℕ → Ordering) (w : List ℕ) (i : ℕ)
   pub equal : f at ≡ Equal
   pub near : IsNear num w i at
 
--- each neighbor of the gap that there is is near
+-- each neighbor that the gap has is near
 pub record IsGapNear (num : ℕ) (f : ℕ → Ordering) (w : List ℕ) (i : ℕ) : Type 0 where
   pub low : List ℕ
   pub high : List ℕ

@@ -33,16 +33,16 @@ pub record StandsBeside (side : Side) (old new : List ℕ) (h n : ℕ) : Type 0 
   pub is : new ≡ beside side before h n after
 
 -- an end of the list after one more index stands beside another
-abbrev pub replaced : Option ℕ → ℕ → ℕ → Option ℕ
-replaced None h n = None
-replaced (Some i) h n = if i == h then Some n else Some i
+abbrev pub new_end : Option ℕ → ℕ → ℕ → Option ℕ
+new_end None h n = None
+new_end (Some i) h n = if i == h then Some n else Some i
 
 -- the end of the list at the second side, after one more index stands at the first side of another
-abbrev pub moved : Side → Side → Option ℕ → ℕ → ℕ → Option ℕ
-moved Left Left o h n = replaced o h n
-moved Right Right o h n = replaced o h n
-moved Left Right o h n = o
-moved Right Left o h n = o
+abbrev pub end_after : Side → Side → Option ℕ → ℕ → ℕ → Option ℕ
+end_after Left Left o h n = new_end o h n
+end_after Right Right o h n = new_end o h n
+end_after Left Right o h n = o
+end_after Right Left o h n = o
 
 -- the links with their nodes, and the root of the tree
 pub record Ordered (T : Type 0) : Type 0 where

@@ -8,8 +8,8 @@ ghost use Rattle.triple_arena_chain.specs.Kinds.{ends_by};
 ghost use Rattle.triple_arena_chain.specs.Links.{ends_in};
 ghost use Rattle.triple_arena_ord.specs.Node.{nodes_in, prev_beside, next_beside};
 ghost use Rattle.triple_arena_ord.specs.Inserted.{IsAdded};
-ghost use Rattle.triple_arena_ord.specs.Ordered.{IsOrdered, StandsBeside, order_in, moved};
-ghost use Rattle.triple_arena_ord.specs.Ordered.{replaced, ordered_by};
+ghost use Rattle.triple_arena_ord.specs.Ordered.{IsOrdered, StandsBeside, order_in, end_after};
+ghost use Rattle.triple_arena_ord.specs.Ordered.{new_end, ordered_by};
 
 use crate::{IndexNode, OrdSlots, SimpleOrdArenaNode};
 use proof_marks::unreached;
@@ -94,7 +94,7 @@ fn gap_beside<P: PtrCore, T: Drop, S: OrdSlots<P, T>>(
 // An end of the list moves if one more index stands beside another.
 pub(crate) fn move_end<I: PtrInxCore>(link: &mut Option<I>, side: Side, end: Side, from: I, to: I)
     ensures { option_map I.number link.new
-        ≡ moved side end (option_map I.number link.old) (I.number from) (I.number to) }
+        ≡ end_after side end (option_map I.number link.old) (I.number from) (I.number to) }
 {
     match side {
         Side::Left => match end {
@@ -110,7 +110,7 @@ pub(crate) fn move_end<I: PtrInxCore>(link: &mut Option<I>, side: Side, end: Sid
 
 fn replace<I: PtrInxCore>(link: &mut Option<I>, from: I, to: I)
     ensures { option_map I.number link.new
-        ≡ replaced (option_map I.number link.old) (I.number from) (I.number to) }
+        ≡ new_end (option_map I.number link.old) (I.number from) (I.number to) }
 {
     if let Some(i) = *link {
         if i == from {

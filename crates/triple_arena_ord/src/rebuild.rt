@@ -1,11 +1,10 @@
 //! The tree is written anew, in one pass along the list, as the halving tree.
-ghost use Rattle.std.specs.Prelude.{◌≡◌, ℕ, ◌+◌, List, length, None};
+ghost use Rattle.std.specs.Prelude.{◌≡◌, ℕ, ◌+◌, List, None};
 ghost use Rattle.std.specs.Option.{option_map};
-ghost use Rattle.triple_arena.specs.Content.{live_count};
-ghost use Rattle.linked_lists.specs.LinkedLists.{IsLinear, next_at, first_or};
+ghost use Rattle.linked_lists.specs.LinkedLists.{next_at};
 ghost use Rattle.triple_arena_chain.specs.Links.{ends_in};
 ghost use Rattle.triple_arena_ord.specs.Node.{nodes_in, rest};
-ghost use Rattle.triple_arena_ord.specs.Rebuilt.{IsAhead, IsRebuilt};
+ghost use Rattle.triple_arena_ord.specs.Rebuilt.{IsAhead, IsRebuilt, IsWholeList};
 ghost use Rattle.rank_tree.specs.Halving.{part_rank, IsTopRank, IsBuilt};
 
 use crate::{OrdSlots, SimpleOrdArenaNode};
@@ -95,12 +94,8 @@ pub(crate) fn rebuild<P: PtrCore, T: Drop, S: OrdSlots<P, T>>(
     chains: &mut ChainArena<P, SimpleOrdArenaNode<P, T>, S>,
     first: Option<P::Inx>,
 ) -> Option<P::Inx>
-    requires { (w : List ℕ) × IsLinear (ends_in chains.old) w
-        × (length w ≡ live_count chains.old)
-        × (option_map P.Inx.number first ≡ first_or w None) }
-    ensures rebuilt { (w : List ℕ) → IsLinear (ends_in chains.old) w
-        → length w ≡ live_count chains.old
-        → option_map P.Inx.number first ≡ first_or w None
+    requires { (w : List ℕ) × IsWholeList chains.old (option_map P.Inx.number first) w }
+    ensures rebuilt { (w : List ℕ) → IsWholeList chains.old (option_map P.Inx.number first) w
         → IsRebuilt w (option_map P.Inx.number result) (nodes_in chains.new) }
     ensures keeps { rest chains.new ≡ rest chains.old }
 {

@@ -1,7 +1,7 @@
 //! The canonical transfer: the links of a chain arena moved to another, each chain to successive
 //! indexes.
 ghost use Rattle.std.specs.Prelude.{◌≡◌, ◌≢◌, ◌↔◌, IsTrue, ◌+◌, ◌<◌, ◌≤◌, ℕ, Some, None, IsSome};
-ghost use Rattle.std.specs.Prelude.{IfSome, IfNone, ◌⊎◌, IsOk, OnOk, OnErr, []};
+ghost use Rattle.std.specs.Prelude.{IfSome, IfNone, IsOk, OnOk, OnErr, []};
 ghost use Rattle.std.specs.Fn.{iterate};
 ghost use Rattle.std.specs.Option.{option_map};
 ghost use Rattle.triple_arena_ptr.specs.Errors.{IsBeyondMaxCapacity, IsAllocError};
@@ -14,11 +14,10 @@ ghost use Rattle.triple_arena.specs.Changes.{IsRemoved};
 ghost use Rattle.triple_arena.specs.Content.{entry_at, live_count, some_counter, arena_capacity};
 ghost use Rattle.triple_arena.specs.Content.{inserted, IsWellFormed};
 ghost use Rattle.triple_arena.specs.Drains.{drained};
-ghost use Rattle.triple_arena.specs.Transfer.{IsFilled};
-ghost use Rattle.triple_arena_chain.specs.CanonicalTransfer.{IsMovedInOrder};
+ghost use Rattle.triple_arena_chain.specs.CanonicalTransfer.{IsMovedInOrder, ClosesChain};
+ghost use Rattle.triple_arena_chain.specs.CanonicalTransfer.{IsFilledWithLinks};
 ghost use Rattle.linked_lists.specs.LinkedLists.{next_at};
-ghost use Rattle.triple_arena_chain.specs.Links.{ends_in, values_in, with_prev_of, IsChained};
-ghost use Rattle.triple_arena_chain.specs.Listed.{listed_values};
+ghost use Rattle.triple_arena_chain.specs.Links.{ends_in, values_in, IsChained};
 ghost use Rattle.triple_arena_chain.specs.Values.{room_in};
 
 use crate::chain_arena::canonical_layout::{behind, chain_start, is_one};
@@ -122,10 +121,8 @@ where
     S: ChainSlots<P, T>,
     ensures on { IfSome result (λ j. (option_map J.number next ≡ Some (J.number j))
         × (J.number j ≢ J.number start) × (target.new ≡ target.old)) }
-    ensures over { IfNone result (((option_map J.number next ≡ None) × (target.new ≡ target.old))
-        ⊎ ((option_map J.number next ≡ Some (J.number start))
-        × (target.new ≡ with_prev_of target.old (Some (P.Inx.number first))
-        (Some (P.Inx.number last))))) }
+    ensures over { IfNone result (ClosesChain (option_map J.number next) (J.number start)
+        (P.Inx.number first) (P.Inx.number last) target.old target.new) }
 {
     match next {
         Some(j) => {
@@ -167,8 +164,8 @@ where
     requires fits { live_count source.old ≤ arena_capacity target.old }
     ensures moved { IsMovedInOrder Q.index Q.generation P.index P.generation
         F.step map Q.Gen.last source.old target.new }
-    ensures filled { IsFilled values_in live_count some_counter room_in listed_values
-        (live_count source.old) (P.Gen.number generation) target.old.room target.old target.new }
+    ensures filled { IsFilledWithLinks (live_count source.old) (P.Gen.number generation)
+        target.old.room target.old target.new }
     ensures formed { IsChained target.new }
     ensures source_formed { IsChained source.new }
     ensures emptied { live_count source.new ≡ 0 }
@@ -240,9 +237,9 @@ impl<P: PtrCore, T: Drop, S: ChainSlots<P, T>> ChainArena<P, T, S> {
         requires { F.IsAlwaysCallable map }
         ensures moved { OnOk result (IsMovedInOrder Q.index Q.generation P.index P.generation
             F.step map Q.Gen.last source.old self.new) }
-        ensures filled { OnOk result (IsFilled values_in live_count some_counter room_in
-            listed_values (live_count source.old) (P.Gen.number new_generation)
-            (room_with (live_count source.old) self.old.room) self.old self.new) }
+        ensures filled { OnOk result (IsFilledWithLinks (live_count source.old)
+            (P.Gen.number new_generation) (room_with (live_count source.old) self.old.room) self.old
+            self.new) }
         ensures source_exact { OnOk result (source.new ≡ drained Q.Gen.last source.old) }
         ensures formed { IsChained self.new }
         ensures source_formed { IsChained source.new }

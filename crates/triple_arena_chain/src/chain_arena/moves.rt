@@ -3,9 +3,7 @@ ghost use Rattle.std.specs.Prelude.{◌≡◌, ◌↔◌, ℕ, Some, IsSome, IfS
 ghost use Rattle.std.specs.Option.{option_map};
 ghost use Rattle.triple_arena.specs.Content.{entry_at};
 ghost use Rattle.triple_arena.specs.TwoValues.{FindTwo};
-ghost use Rattle.triple_arena_chain.specs.declared.gap.Gap.TheVariants.{Between};
-ghost use Rattle.triple_arena_chain.specs.Kinds.{gap_by};
-ghost use Rattle.triple_arena_chain.specs.Links.{with_next_of, with_prev_of, joined_to};
+ghost use Rattle.triple_arena_chain.specs.Links.{placed_between};
 ghost use Rattle.triple_arena_chain.specs.LinkShape.{IndexLink};
 ghost use Rattle.triple_arena_chain.specs.Links.{bridged_over, IsChained};
 ghost use Rattle.triple_arena_chain.specs.Moves.{gap_after, gap_before, IsMoved};
@@ -42,10 +40,9 @@ fn put_back<P: PtrCore, T: Drop, S: ChainSlots<P, T>>(
     requires own { IsSome (entry_at arena.old (P.Inx.number i)) }
     requires before { IfSome (option_map P.Inx.number prev) (λ j. IsSome (entry_at arena.old j)) }
     requires after { IfSome (option_map P.Inx.number next) (λ j. IsSome (entry_at arena.old j)) }
-    ensures { arena.new ≡ joined_to (with_prev_of
-        (with_next_of arena.old (Some (P.Inx.number i)) (option_map P.Inx.number next))
-        (Some (P.Inx.number i)) (option_map P.Inx.number prev))
-        (gap_by P.Inx.number (Between prev next)) (P.Inx.number i) }
+    ensures { arena.new
+        ≡ placed_between arena.old (option_map P.Inx.number prev) (option_map P.Inx.number next)
+        (P.Inx.number i) }
 {
     set_next(arena, Some(i), next);
     set_prev(arena, Some(i), prev);

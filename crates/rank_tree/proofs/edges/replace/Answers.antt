@@ -1,7 +1,7 @@
 use Rattle.std.specs.Option.{option_map}
 use Rattle.rank_tree.specs.SpotLaws.{write-lives, reparent-lives}
 use Rattle.rank_tree.proofs.NameLemmas.{if_live}
-use Rattle.rank_tree.specs.ChangeLaws.{replacement_lives, replacement_links, replacement_works}
+use Rattle.rank_tree.proofs.ChangeLemmas.{replacement_lives, replacement_links, replacement_works}
 use Rattle.rank_tree.specs.Repair.{Replacement, Becomes, substituted}
 use Rattle.rank_tree.proofs.edges.replace.Goals.{After-relink}
 use Rattle.rank_tree.proofs.edges.replace.Goals as goal

@@ -4,7 +4,7 @@ use Rattle.rank_tree.proofs.NameLemmas.{not_some, if_live}
 use Rattle.rank_tree.specs.Repair.{Leaning, Restored}
 use Rattle.rank_tree.specs.FrameLaws.{both_kept}
 use Rattle.rank_tree.specs.SpotLaws.{spot_low, spot_parent, spot_high, spot_child}
-use Rattle.rank_tree.specs.LeanLaws.{LeanReads, lean_spot, lean_reads, lean_once, lean_twice}
+use Rattle.rank_tree.proofs.LeanLemmas.{LeanReads, lean_spot, lean_reads, lean_once, lean_twice}
 use Rattle.rank_tree.specs.TurningLaws.{Turns, TurnsTwice, turns_kept, root-some}
 use Rattle.rank_tree.proofs.insertion_repair.lean.Goals.{After-rank_at, After-turn, In-Some-inner}
 use Rattle.rank_tree.proofs.insertion_repair.lean.Goals as goal

@@ -3,7 +3,7 @@ use Rattle.std.specs.Option.{IsSome, option_map}
 use Rattle.rank_tree.proofs.NameLemmas.{if_live, if_named}
 use Rattle.rank_tree.specs.Named.{named}
 use Rattle.rank_tree.specs.Store.{rank_in}
-use Rattle.rank_tree.specs.Repair.{Broken}
+use Rattle.rank_tree.specs.Repair.{Broken, Short}
 use Rattle.rank_tree.specs.SpotLaws.{spot_low, spot_child}
 use Rattle.rank_tree.specs.declared.side.Side.TheVariants.{Left, Right}
 use Rattle.rank_tree.specs.MendLaws.{MendReads, SiblingReads, Lowered, Higher, Sibling}
@@ -12,7 +12,7 @@ use Rattle.rank_tree.specs.MendLaws.{broken_unfit, near_lives, near_rank, near_s
 use Rattle.rank_tree.specs.MendLaws.{broken_sibling, mend_reads, mend_higher, higher_some}
 use Rattle.rank_tree.specs.MendLaws.{mend_lower, sibling_reads, sibling_short, sets_lives}
 use Rattle.rank_tree.proofs.removal_repair.mend.Goals.{After-rank_at-right, After-set_rank}
-use Rattle.rank_tree.proofs.removal_repair.mend.Goals.{After-child, In-Some}
+use Rattle.rank_tree.proofs.removal_repair.mend.Goals.{After-child, In-Some, Then-below-max}
 use Rattle.rank_tree.proofs.removal_repair.mend.Goals.{After-rank_at-low_right, After-set_rank-3}
 use Rattle.rank_tree.proofs.removal_repair.mend.Goals as goal
 
@@ -81,6 +81,21 @@ read_low g c w s =
     sibling_reads _ _ _ _ _ _ _ c.read-below.ensures c.rank_at-low_left.ensures.some
     c.rank_at-low_left.ensures.none c.rank_at-low_right.ensures.some
     c.rank_at-low_right.ensures.none w s
+
+-- or both stay, and a turn of the sibling mends the tree
+too_high : (g : _) (c : Then-below-max g) (w : List ℕ)
+    → Broken (g.K.NodeStore.nodes c.args.nodes.now)
+    (option_map g.P.Inx.PtrInxCore.number c.args.root.now)
+    (g.P.Inx.PtrInxCore.number c.args.high)
+    (option_map g.P.Inx.PtrInxCore.number c.args.near) w
+    → Short (g.K.NodeStore.nodes c.args.nodes.now)
+    (option_map g.P.Inx.PtrInxCore.number c.args.root.now)
+    (g.P.Inx.PtrInxCore.number c.in-Some.low) w
+too_high g c w h =
+    let at = goal.at.Then-below-max g c in
+    let s = sibling g at.In-Some w h in
+    let r = read_low g at.After-rank_at-low_right w s in
+    sibling_short _ _ _ _ w s (omega (arith, s, s.fits, r))
 
 -- the sibling and the node lose one rank each
 both_fall : (g : _) (c : After-set_rank-3 g) (w : List ℕ)
@@ -184,26 +199,15 @@ overflow_add-max-2 g c =
     )
 
 pub shorten-requires-clause-short : goal.shorten-requires-clause-short
-shorten-requires-clause-short g c =
-    let s = sibling g (goal.at.shorten-requires-clause-short g c).In-Some _ c.requires.1 in (
-      c.requires.0,
-      sibling_short _ _ _ _ _ s (omega (
-        arith,
-        s,
-        s.fits,
-        read_low g (goal.at.shorten-requires-clause-short g c).After-rank_at-low_right _ s,
-      )),
-    )
+shorten-requires-clause-short g c = (
+  c.requires.0,
+  too_high g (goal.at.shorten-requires-clause-short g c).Then-below-max _ c.requires.1,
+)
 
 pub returns-then-below-max-clause-pending : goal.returns-then-below-max-clause-pending
 returns-then-below-max-clause-pending g c = λ w h.
-    let s = sibling g (goal.at.returns-then-below-max-clause-pending g c).In-Some w h in
-    (c.shorten.ensures.does w (sibling_short _ _ _ _ w s (omega (
-      arith,
-      s,
-      s.fits,
-      read_low g (goal.at.returns-then-below-max-clause-pending g c).After-rank_at-low_right w s,
-    )))).0
+    let at = (goal.at.returns-then-below-max-clause-pending g c).Then-below-max in
+    (c.shorten.ensures.does w (too_high g at w h)).0
 
 pub set_rank-requires-2-clause-live : goal.set_rank-requires-2-clause-live
 set_rank-requires-2-clause-live g c =
@@ -234,13 +238,8 @@ returns-then-max-rank-clause-elsewhere g c =
 
 pub returns-then-below-max-clause-elsewhere : goal.returns-then-below-max-clause-elsewhere
 returns-then-below-max-clause-elsewhere g c = λ w h.
-    let s = sibling g (goal.at.returns-then-below-max-clause-elsewhere g c).In-Some w h in
-    (c.shorten.ensures.does w (sibling_short _ _ _ _ w s (omega (
-      arith,
-      s,
-      s.fits,
-      read_low g (goal.at.returns-then-below-max-clause-elsewhere g c).After-rank_at-low_right w s,
-    )))).1
+    let at = (goal.at.returns-then-below-max-clause-elsewhere g c).Then-below-max in
+    (c.shorten.ensures.does w (too_high g at w h)).1
 
 pub returns-clause-elsewhere : goal.returns-clause-elsewhere
 returns-clause-elsewhere g c =

@@ -2,7 +2,7 @@ use Rattle.std.proofs.Common.{◌+◌, ◌-◌, List, ℕ, sym, ◌∙◌, ap, a
 use Rattle.std.specs.Option.{option_map}
 use Rattle.rank_tree.specs.Repair.{Short, Restored}
 use Rattle.rank_tree.specs.FrameLaws.{both_kept}
-use Rattle.rank_tree.specs.ShortLaws.{short_once, short_twice}
+use Rattle.rank_tree.proofs.ShortLemmas.{short_once, short_twice}
 use Rattle.rank_tree.specs.TurningLaws.{Turns, TurnsTwice, turns_kept, root-some}
 use Rattle.rank_tree.proofs.removal_repair.shorten.Goals.{After-turn, In-Some}
 use Rattle.rank_tree.proofs.removal_repair.shorten.Goals as goal

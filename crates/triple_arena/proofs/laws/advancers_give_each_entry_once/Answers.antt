@@ -26,8 +26,8 @@ returns-clause-order g c arena walk =
     (g.met.A.ArenaTrait.entry_listed arena) (g.met.A.ArenaTrait.live_entries_increase arena) walk
 
 pub returns-clause-all : goal.returns-clause-all
-returns-clause-all g c arena walk rising low high =
+returns-clause-all g c arena walk whole =
     all_ahead (g.A.ArenaTrait.entry_at arena) (g.A.ArenaTrait.live_entries arena)
     (g.met.A.ArenaTrait.none_at_zero arena)
     (g.met.A.ArenaTrait.entry_listed arena) (g.met.A.ArenaTrait.live_entries_increase arena) walk
-    rising low high
+    whole

@@ -5,6 +5,7 @@ use Rattle.std.specs.declared.cmp.Ordering.TheVariants.{Equal}
 use Rattle.triple_arena_ord.specs.Near.{IsEndNear, EndsWithin}
 use Rattle.triple_arena_ord.specs.Ordered.{Ordered, IsOrdered, IsAscending, order_in, entry_in}
 use Rattle.triple_arena_ord.specs.Ordered.{asked_at, ordered_by}
+use Rattle.triple_arena_ord.specs.Found.{place_by}
 use Rattle.triple_arena_ord.proofs.SeekLemmas.{parts_at}
 use Rattle.triple_arena_ord.proofs.FoundLemmas.{found_from}
 use Rattle.triple_arena_ord.proofs.LinearLemmas.{pointed_lives, not_missed, on_chain, stops_live}
@@ -12,6 +13,7 @@ use Rattle.triple_arena_ord.proofs.LinearLemmas.{linear_answer, linear_missed, l
 use Rattle.triple_arena_ord.proofs.LinearLemmas.{linear_key_passed, linear_ends}
 use Rattle.triple_arena_ord.proofs.ord_arena.SimpleOrdArena.find_key_linear_counted.Given.{Over}
 use Rattle.triple_arena_ord.proofs.ord_arena.SimpleOrdArena.find_key_linear_counted.Goals.{After-inx}
+use Rattle.triple_arena_ord.proofs.ord_arena.SimpleOrdArena.find_key_linear_counted.Goals.{After-found_at}
 use Rattle.triple_arena_ord.proofs.ord_arena.SimpleOrdArena.find_key_linear_counted.Goals as goal
 
 module _ (g : Over) (c : After-inx g) where
@@ -118,33 +120,30 @@ returns-in-None-clause-counted g c = λ there on.
     (c.found_at.ensures.none c.in-None.is) c.find_key_counted-in-None.ensures.ticks
     (g.P.PtrCore.index c.args.p_init) c.inx.ensures on
 
-pub returns-in-Some-clause-ends : goal.returns-in-Some-clause-ends
-returns-in-Some-clause-ends g c = λ there i ends.
-    let number = g.P.Inx.PtrInxCore.number in
+-- where the way ends within the number that was given, the walk ended
+ended : (g : _) (c : After-found_at g) (i : ℕ)
+    → EndsWithin c.args.num
+    (asked_at g.T.Key.Ord.cmp g.T.SimpleOrdItem.key_of c.args.k.now c.args.self.now)
+    (order_in c.args.self.now) (g.P.PtrCore.index c.args.p_init) i Equal
+    → place_by g.P.Inx.PtrInxCore.number c.walk_from-place.result ≡ Some (i, Equal)
+ended g c i ends =
     let cmp = g.T.Key.Ord.cmp in
     let key = g.T.SimpleOrdItem.key_of in
     let k = c.args.k.now in
     let o = c.args.self.now in
-    let start = (goal.at.returns-in-Some-clause-ends g c).After-inx in
-    let ended = linear_ends number cmp key k o _ c.self.view_is c.self.invariant.0 _ (lives g start)
-    c.walk_from-place.result c.args.num _ _ c.walk_from-place.ensures.stops
-    c.walk_from-place.ensures.walked i Equal
+    linear_ends g.P.Inx.PtrInxCore.number cmp key k o _ c.self.view_is c.self.invariant.0 _
+    (lives g (goal.at.After-found_at g c).After-inx) c.walk_from-place.result c.args.num _ _
+    c.walk_from-place.ensures.stops c.walk_from-place.ensures.walked i Equal
     (subst (λ s. EndsWithin c.args.num (asked_at cmp key k o) (order_in o) s i Equal)
-    (sym c.inx.ensures) ends) in
+    (sym c.inx.ensures) ends)
+
+pub returns-in-Some-clause-ends : goal.returns-in-Some-clause-ends
+returns-in-Some-clause-ends g c = λ there i ends.
+    let at = (goal.at.returns-in-Some-clause-ends g c).After-found_at in
     ap (option_map {U = ℕ} (λ (p : ℕ × Ordering). p.0))
-    (sym (c.found_at.ensures.some c.in-Some.p c.in-Some.is) ∙ ended)
+    (sym (c.found_at.ensures.some c.in-Some.p c.in-Some.is) ∙ ended g at i ends)
 
 pub returns-in-None-clause-ends : goal.returns-in-None-clause-ends
 returns-in-None-clause-ends g c = λ there i ends.
-    let number = g.P.Inx.PtrInxCore.number in
-    let cmp = g.T.Key.Ord.cmp in
-    let key = g.T.SimpleOrdItem.key_of in
-    let k = c.args.k.now in
-    let o = c.args.self.now in
-    let start = (goal.at.returns-in-None-clause-ends g c).After-inx in
-    let ended = linear_ends number cmp key k o _ c.self.view_is c.self.invariant.0 _ (lives g start)
-    c.walk_from-place.result c.args.num _ _ c.walk_from-place.ensures.stops
-    c.walk_from-place.ensures.walked i Equal
-    (subst (λ s. EndsWithin c.args.num (asked_at cmp key k o) (order_in o) s i Equal)
-    (sym c.inx.ensures) ends) in
-    absurd (c.found_at.ensures.none c.in-None.is i ended)
+    let at = (goal.at.returns-in-None-clause-ends g c).After-found_at in
+    absurd (c.found_at.ensures.none c.in-None.is i (ended g at i ends))

@@ -1,7 +1,6 @@
-use Rattle.std.proofs.Common.{refl, sym, ap, ◌∙◌, None}
-use Rattle.linked_lists.specs.LinkedLists.{first_or, last_or}
+use Rattle.std.proofs.Common.{refl, ap}
 use Rattle.triple_arena_ord.specs.Ordered.{ordered_by}
-use Rattle.triple_arena_ord.proofs.SameListLemmas.{Reordered}
+use Rattle.triple_arena_ord.proofs.SameListLemmas.{Reordered, still_whole}
 use Rattle.triple_arena_ord.proofs.StateLemmas.{same_slots_list}
 use Rattle.triple_arena_ord.proofs.ord_arena.SimpleOrdArena.set_generation.Goals.{After-set_generation}
 use Rattle.triple_arena_ord.proofs.ord_arena.SimpleOrdArena.set_generation.Goals as goal
@@ -16,11 +15,8 @@ same g c =
 
 pub invariant_of-self : goal.invariant_of-self
 invariant_of-self g c =
-    let r = same g (goal.at.invariant_of-self g c).After-set_generation in (
-      r.ordered,
-      c.self.invariant.1 ∙ ap (λ l. first_or l None) (sym r.order),
-      c.self.invariant.2 ∙ ap (last_or None) (sym r.order),
-    )
+    still_whole (same g (goal.at.invariant_of-self g c).After-set_generation)
+    c.self.invariant.1 c.self.invariant.2
 
 pub returns-clause-ordered : goal.returns-clause-ordered
 returns-clause-ordered g c =

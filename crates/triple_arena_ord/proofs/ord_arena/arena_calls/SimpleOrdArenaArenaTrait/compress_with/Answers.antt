@@ -22,10 +22,12 @@ rebuild-self-inside-requires g c =
     let linear = moved_linear last c.args.reset o mid c.self.invariant.0 made.compressed
     made.exact in (
       w,
-      linear,
-      moved_long last c.args.reset o mid c.self.invariant.0 made.compressed made.exact,
-      c.ends_of_list-ends.ensures.first w linear
-          (moved_all last c.args.reset o mid c.self.invariant.0 made.compressed made.exact),
+      (
+        linear,
+        moved_long last c.args.reset o mid c.self.invariant.0 made.compressed made.exact,
+        c.ends_of_list-ends.ensures.first w linear
+            (moved_all last c.args.reset o mid c.self.invariant.0 made.compressed made.exact),
+      ),
     )
 
 done : (g : _) (c : goal.After-len g)
@@ -41,10 +43,12 @@ done g c =
     let linear = moved_linear _ _ _ _ c.self.invariant.0 made.compressed made.exact in
     compressed_by _ _ _ _ c.self.invariant.0 made.compressed made.exact _
     c.rebuild-self-inside.ensures.keeps
-    (c.rebuild-self-inside.ensures.rebuilt _ linear
-    (moved_long _ _ _ _ c.self.invariant.0 made.compressed made.exact)
-    (c.ends_of_list-ends.ensures.first _ linear
-    (moved_all _ _ _ _ c.self.invariant.0 made.compressed made.exact)))
+    (c.rebuild-self-inside.ensures.rebuilt _ (
+      linear,
+      moved_long _ _ _ _ c.self.invariant.0 made.compressed made.exact,
+      c.ends_of_list-ends.ensures.first _ linear
+          (moved_all _ _ _ _ c.self.invariant.0 made.compressed made.exact),
+    ))
 
 pub invariant_of-self : goal.invariant_of-self
 invariant_of-self g c =

@@ -1,6 +1,5 @@
-use Rattle.std.proofs.Common.{sym, ap, ◌∙◌, None}
-use Rattle.linked_lists.specs.LinkedLists.{first_or, last_or}
 use Rattle.triple_arena_ord.specs.Ordered.{Ordered, ordered_by}
+use Rattle.triple_arena_ord.proofs.SameListLemmas.{still_whole}
 use Rattle.triple_arena_ord.proofs.StateLemmas.{lent_list}
 use Rattle.triple_arena_ord.proofs.ord_arena.arena_calls.SimpleOrdArenaArenaTrait.get_inx_mut_unwrap.Goals as goal
 
@@ -10,8 +9,5 @@ invariant_of-self-lent g c w =
     let o : Ordered g.row.T.Denot =
     ordered_by number c.self.inside.chains c.self.inside.root in
     let r = lent_list o (number c.args.i) c.get_inx_mut_unwrap.result.now w
-    c.get_inx_mut_unwrap.ensures.value c.self.invariant.0 in (
-      r.ordered,
-      c.self.invariant.1 ∙ ap (λ l. first_or l None) (sym r.order),
-      c.self.invariant.2 ∙ ap (last_or None) (sym r.order),
-    )
+    c.get_inx_mut_unwrap.ensures.value c.self.invariant.0 in
+    still_whole r c.self.invariant.1 c.self.invariant.2

@@ -1,6 +1,6 @@
-use Rattle.std.proofs.Common.{refl, sym, ap, ◌∙◌, None}
-use Rattle.linked_lists.specs.LinkedLists.{first_or, last_or}
+use Rattle.std.proofs.Common.{refl}
 use Rattle.triple_arena_ord.specs.Ordered.{Ordered, ordered_by}
+use Rattle.triple_arena_ord.proofs.SameListLemmas.{still_whole}
 use Rattle.triple_arena_ord.proofs.StateLemmas.{invalidates_list}
 use Rattle.triple_arena_ord.proofs.ord_arena.arena_calls.SimpleOrdArenaArenaTrait.invalidate.Goals as goal
 
@@ -12,11 +12,8 @@ invariant_of-self g c =
     let p : Ordered g.row.T.Denot =
     ordered_by number c.invalidate.new.self c.self.inside.root in
     let r = invalidates_list g.P.Gen.PtrGenCore.last o p (g.P.PtrCore.index c.args.p) _ refl
-    c.invalidate.ensures.exact c.invalidate.ensures.invalid c.self.invariant.0 in (
-      r.ordered,
-      c.self.invariant.1 ∙ ap (λ l. first_or l None) (sym r.order),
-      c.self.invariant.2 ∙ ap (last_or None) (sym r.order),
-    )
+    c.invalidate.ensures.exact c.invalidate.ensures.invalid c.self.invariant.0 in
+    still_whole r c.self.invariant.1 c.self.invariant.2
 
 pub returns-clause-formed : goal.returns-clause-formed
 returns-clause-formed g c =

@@ -1,6 +1,5 @@
-use Rattle.std.proofs.Common.{sym, ap, ◌∙◌, None}
-use Rattle.linked_lists.specs.LinkedLists.{first_or, last_or}
 use Rattle.triple_arena_ord.specs.Ordered.{Ordered, ordered_by}
+use Rattle.triple_arena_ord.proofs.SameListLemmas.{still_whole}
 use Rattle.triple_arena_ord.proofs.KeptTreeLemmas.{limited}
 use Rattle.triple_arena_ord.proofs.ord_arena.max_capacity.SimpleOrdArenaSetMaxCapacity.set_max_capacity.Goals as goal
 
@@ -11,8 +10,5 @@ invariant_of-self g c =
     ordered_by number c.self.inside.chains c.self.inside.root in
     let call = c.set_max_capacity in
     let r = limited g.P.Inx.PtrInxCore.greatest o call.new.self c.args.max call.result
-    call.ensures.ok call.ensures.err c.self.invariant.0 in (
-      r.ordered,
-      c.self.invariant.1 ∙ ap (λ l. first_or l None) (sym r.order),
-      c.self.invariant.2 ∙ ap (last_or None) (sym r.order),
-    )
+    call.ensures.ok call.ensures.err c.self.invariant.0 in
+    still_whole r c.self.invariant.1 c.self.invariant.2

@@ -46,20 +46,7 @@ lean_once n root low j k w h less ej ek =
     let two_less = h.two_less in
     let leaning = h.leaning in
     turn_once n root low j k w (lean_spot n root low w h) (lean_ready n root low w h) ej
-    (record {
-      above_left = omega arith;
-      near_left = omega arith;
-      above_right = omega arith;
-      near_right = omega arith;
-      childless = omega arith;
-    })
-    (record {
-      above_left = omega arith;
-      near_left = omega arith;
-      above_right = omega arith;
-      near_right = omega arith;
-      childless = omega arith;
-    })
+    (omega arith) (omega arith)
 
 -- its inner child turns up, twice
 pub lean_twice : (n : Store) (root : Option ℕ) (low middle j k : ℕ) (w : List ℕ)
@@ -71,29 +58,7 @@ lean_twice n root low middle j k w h is more ej ek =
     let two_less = h.two_less in
     let leaning = h.leaning in
     turn_twice n root low middle j k w (lean_spot n root low w h) (lean_ready n root low w h) is ej
-    (λ a b p. (
-      record {
-        above_left = omega arith;
-        near_left = omega arith;
-        above_right = omega arith;
-        near_right = omega arith;
-        childless = omega arith;
-      },
-      record {
-        above_left = omega arith;
-        near_left = omega arith;
-        above_right = omega arith;
-        near_right = omega arith;
-        childless = omega arith;
-      },
-    ))
-    (record {
-      above_left = omega arith;
-      near_left = omega arith;
-      above_right = omega arith;
-      near_right = omega arith;
-      childless = omega arith;
-    })
+    (λ a b p. (omega arith, omega arith)) (omega arith)
 
 -- what the code of `lean` reads
 pub record LeanReads (n : Store) (root : Option ℕ) (low : ℕ) (w : List ℕ) (h : Leaning n root low w)

@@ -24,21 +24,8 @@ short_once n root low j k w h near ej ek =
     let f = h.fits in
     let one_less = h.one_less in
     let three_less = h.three_less in
-    turn_once n root low j k w h.spot (short_ready n root low w h) ej
-    (record {
-      above_left = omega arith;
-      near_left = omega arith;
-      above_right = omega arith;
-      near_right = omega arith;
-      childless = omega arith;
-    })
-    (record {
-      above_left = omega arith;
-      near_left = omega arith;
-      above_right = omega arith;
-      near_right = omega arith;
-      childless = omega arith;
-    })
+    turn_once n root low j k w h.spot (short_ready n root low w h) ej (omega arith)
+    (omega arith)
 
 pub short_twice : (n : Store) (root : Option ℕ) (low middle j k : ℕ) (w : List ℕ)
     (h : Short n root low w) → root_of h.spot.inner ≡ Some middle
@@ -50,26 +37,4 @@ short_twice n root low middle j k w h is low_outer ej ek =
     let three_less = h.three_less in
     let tall = h.tall in
     turn_twice n root low middle j k w h.spot (short_ready n root low w h) is ej
-    (λ a b p. (
-      record {
-        above_left = omega arith;
-        near_left = omega arith;
-        above_right = omega arith;
-        near_right = omega arith;
-        childless = omega arith;
-      },
-      record {
-        above_left = omega arith;
-        near_left = omega arith;
-        above_right = omega arith;
-        near_right = omega arith;
-        childless = omega arith;
-      },
-    ))
-    (record {
-      above_left = omega arith;
-      near_left = omega arith;
-      above_right = omega arith;
-      near_right = omega arith;
-      childless = omega arith;
-    })
+    (λ a b p. (omega arith, omega arith)) (omega arith)
