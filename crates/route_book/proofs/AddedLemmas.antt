@@ -11,7 +11,7 @@ use Rattle.ticket_book.specs.declared.entry.Kind.{Kind}
 use Rattle.ticket_book.specs.Tickets.{Entry, lookup}
 use Rattle.route_lines.specs.State.{State, Place, Stop, Mark, place_of, stop_of, mark_of}
 use Rattle.route_book.specs.Holds.{Found, place_under, stop_under, mark_under, place_at, stop_at}
-use Rattle.route_book.specs.Holds.{mark_at, IsFilled, entry, Rise, IsHeld}
+use Rattle.route_book.specs.Holds.{mark_at, HasItem, entry, Rise, IsHeld}
 use Rattle.route_book.proofs.HoldLemmas.{Rise-add, lookup_none, lookup_added, lookup_other}
 use Rattle.route_book.proofs.HoldLemmas.{lookup_kept}
 use Rattle.route_book.proofs.OptionLemmas.{some_same}
@@ -37,7 +37,7 @@ pub record Kept (f now : Found) (k : Kind) (j n : ℕ) : Type 0 where
   pub place : place_under now k j n ≡ place_under f k j n
   pub stop : stop_under now k j n ≡ stop_under f k j n
   pub mark : mark_under now k j n ≡ mark_under f k j n
-  pub filled : IsFilled now k j n
+  pub filled : HasItem now k j n
 
 -- the longer book: its last entry is that of the new item
 pub record Grows {V : Type 0} (τ : V → ℕ) (kind : Kind) (s : State) (now : Found)
@@ -52,8 +52,8 @@ pub record Grows {V : Type 0} (τ : V → ℕ) (kind : Kind) (s : State) (now : 
   pub items : ((j n : ℕ) (q : V) → was j ≡ Some (n, q)
       → lookup book (τ q) ≡ Some (entry (τ q) kind j n))
       → (j n : ℕ) (q : V) → at j ≡ Some (n, q) → lookup more (τ q) ≡ Some (entry (τ q) kind j n)
-  pub filled : IsFilled now kind i g → (t : ℕ) (x : Entry) → lookup more t ≡ Some x
-      → IsFilled now x.kind x.index x.generation
+  pub filled : HasItem now kind i g → (t : ℕ) (x : Entry) → lookup more t ≡ Some x
+      → HasItem now x.kind x.index x.generation
   pub places : (value : ℕ → Option Place)
       → ((t : ℕ) → t ≢ s.last + 1 → value t ≡ place_of s.places t)
       → ((t : ℕ) → t ≡ s.last + 1 → value t ≡ place_under now kind i g)
@@ -71,7 +71,7 @@ module _ (V : Type 0) (τ : V → ℕ) (kind : Kind) (s : State) (f now : Found)
     (ends : ℕ → Option Ends) (book : List Entry) (h : IsHeld s f order ends book)
     (was at : ℕ → Option (ℕ × V)) (i g : ℕ) (v : V)
     (entries : (k : ℕ) → at k ≡ with_entry was i (g, v) k) (next : τ v ≡ s.last + 1)
-    (kept : (k : Kind) (j n : ℕ) → IsFilled f k j n → Kept f now k j n) where
+    (kept : (k : Kind) (j n : ℕ) → HasItem f k j n → Kept f now k j n) where
   abbrev e : Entry
   e = entry (τ v) kind i g
 
@@ -118,10 +118,10 @@ module _ (V : Type 0) (τ : V → ℕ) (kind : Kind) (s : State) (f now : Found)
       let k = kept x.kind x.index x.generation (h.filled t x is) in
       record { place = sym k.place; stop = sym k.stop; mark = sym k.mark }
 
-  filled : IsFilled now kind i g → (t : ℕ) (x : Entry) → lookup more t ≡ Some x
-      → IsFilled now x.kind x.index x.generation
-  filled own t x is = by_ticket t (IsFilled now x.kind x.index x.generation)
-      (λ new. subst (λ (y : Entry). IsFilled now y.kind y.index y.generation)
+  filled : HasItem now kind i g → (t : ℕ) (x : Entry) → lookup more t ≡ Some x
+      → HasItem now x.kind x.index x.generation
+  filled own t x is = by_ticket t (HasItem now x.kind x.index x.generation)
+      (λ new. subst (λ (y : Entry). HasItem now y.kind y.index y.generation)
       (some_same (sym (newest t new) ∙ is)) own)
       (λ old. (kept x.kind x.index x.generation (h.filled t x
       (sym (lookup_other book s.last e h.rise next t old) ∙ is))).filled)

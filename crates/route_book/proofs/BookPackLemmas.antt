@@ -26,7 +26,7 @@ use Rattle.route_book.specs.Item.{StopView, MarkView}
 use Rattle.ticket_book.specs.Tickets.{Entry}
 use Rattle.route_book.specs.Holds.{Found, IsHeld}
 use Rattle.route_book.specs.Book.{found_in, in_order, IsBook}
-use Rattle.route_book.specs.Packing.{IsMoved, IsMirror, IsMirrored, IsBooked, recast_stop}
+use Rattle.route_book.specs.Packing.{AreMoved, IsMirror, IsMirrored, IsBooked, recast_stop}
 use Rattle.route_book.specs.Packing.{recast_mark}
 use Rattle.ticket_book.specs.Mirrors.{Mirror, renewed_entry}
 use Rattle.route_book.proofs.MirrorLemmas.{booked, mirror_is}
@@ -108,7 +108,7 @@ module _ (last : Option ℕ) (places places' : Ordered Place)
     (laid : IsLaidInOrder last true places places')
     (stand : (i : ℕ) → IsSome (entry_in places i) → On (order_in places) i)
     (stand' : (i : ℕ) → IsSome (entry_in places' i) → On (order_in places') i) where
-  pub places_moved : IsMoved laid.to (second_generation last) (entry_in places) (entry_in places')
+  pub places_moved : AreMoved laid.to (second_generation last) (entry_in places) (entry_in places')
   places_moved = record {
     into = λ i h p is. laid.entries i (stand i (ap is_some is))
         ∙ ap (option_map (λ (e : ℕ × Place). (let z : ℕ × Place = (second_generation last, e.1) in
@@ -158,7 +158,7 @@ module _ (last : Option ℕ) (places places' : Ordered Place)
 module _ {T : Type 0} where
   pub stops_moved : (last : Option ℕ) (old new : Content (IndexLink T))
       (c : IsCanonical last true old new)
-      → IsMoved c.to (second_generation last) (values_in old) (values_in new)
+      → AreMoved c.to (second_generation last) (values_in old) (values_in new)
   stops_moved last old new c = record {
     into = λ i h t is. c.values i (live_ends old i (ap is_some is))
         ∙ ap (option_map (λ (e : ℕ × T). (let z : ℕ × T = (second_generation last, e.1) in z))) is;
@@ -190,7 +190,7 @@ module _ (last : Option ℕ) (old new : Content MarkView)
       (second_generation last) (entry-listed old) (entry-listed new)
       (live_entries-increase old) (live_entries-increase new) values compressed.generations
 
-  pub marks_moved : IsMoved marks_to (second_generation last) (entry_at old) (entry_at new)
+  pub marks_moved : AreMoved marks_to (second_generation last) (entry_at old) (entry_at new)
   marks_moved = listed_moved (entry_at old) (entry_at new) (live_entries old) (live_entries new)
       (second_generation last) (entry-listed old) (entry-listed new)
       (live_entries-increase old) (live_entries-increase new) values compressed.generations
@@ -210,16 +210,16 @@ module _ (last : Option ℕ) (rooms : Rooms) (given : ℕ) (s : State)
   abbrev g : ℕ
   g = second_generation last
 
-  moved_p : IsMoved laid.to g (entry_in places) (entry_in places')
+  moved_p : AreMoved laid.to g (entry_in places) (entry_in places')
   moved_p = places_moved last places places' laid stand stand'
 
-  moved_s : IsMoved canon.to g (values_in stops) (values_in stops1)
+  moved_s : AreMoved canon.to g (values_in stops) (values_in stops1)
   moved_s = stops_moved last stops stops1 canon
 
   abbrev to_m : ℕ → ℕ
   to_m = marks_to last marks marks1 values compressed
 
-  moved_m : IsMoved to_m g (entry_at marks) (entry_at marks1)
+  moved_m : AreMoved to_m g (entry_at marks) (entry_at marks1)
   moved_m = marks_moved last marks marks1 values compressed
 
   -- the book has each item, so a mirror with the room can be filled

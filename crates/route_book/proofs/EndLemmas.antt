@@ -13,7 +13,7 @@ use Rattle.ticket_book.specs.Tickets.{Entry, lookup, without_ticket}
 use Rattle.route_lines.specs.Calls.{unless_is}
 use Rattle.route_lines.specs.State.{State, Place, Stop, Mark, place_of, stop_of, mark_of}
 use Rattle.route_book.specs.Holds.{Found, found_by, place_under, stop_under, mark_under, place_at}
-use Rattle.route_book.specs.Holds.{stop_at, mark_at, IsFilled, Rise, IsHeld, entry}
+use Rattle.route_book.specs.Holds.{stop_at, mark_at, HasItem, Rise, IsHeld, entry}
 use Rattle.route_book.proofs.HoldLemmas.{booked_once}
 use Rattle.route_book.proofs.OptionLemmas.{some_same, stands_under}
 
@@ -172,7 +172,7 @@ pub record IsKept (f now : Found) (on_stop : Option Stop → Option Stop)
   pub place : place_under now k j n ≡ place_under f k j n
   pub stop : stop_under now k j n ≡ on_stop (stop_under f k j n)
   pub mark : mark_under now k j n ≡ on_mark (mark_under f k j n)
-  pub filled : IsFilled now k j n
+  pub filled : HasItem now k j n
 
 -- the shorter book, `left`: it lacks the ticket of the item that ends
 pub record Shrinks {V : Type 0} (τ : V → ℕ) (kind : Kind) (s : State) (f now : Found)
@@ -180,7 +180,7 @@ pub record Shrinks {V : Type 0} (τ : V → ℕ) (kind : Kind) (s : State) (f no
     (on_stop : Option Stop → Option Stop) (on_mark : Option Mark → Option Mark) : Type 0 where
   pub rise : (last : ℕ) → last ≡ s.last → Rise 0 left last
   pub filled : (u : ℕ) (e : Entry) → lookup left u ≡ Some e
-      → IsFilled now e.kind e.index e.generation
+      → HasItem now e.kind e.index e.generation
   -- an item that is left stood there
   pub stood : (j n : ℕ) (w : V) → at j ≡ Some (n, w) → was j ≡ Some (n, w)
   pub items : (j n : ℕ) (w : V) → at j ≡ Some (n, w)
@@ -214,12 +214,12 @@ module _ (V : Type 0) (τ : V → ℕ) (kind : Kind) (s : State) (f now : Found)
     (entries : (k : ℕ) → at k ≡ without was i k)
     (known : (j n : ℕ) (w : V) → was j ≡ Some (n, w)
     → lookup book (τ w) ≡ Some (entry (τ w) kind j n))
-    (filled_is : (j n : ℕ) → IsFilled f kind j n → IsSome (value_if n (was j)))
+    (filled_is : (j n : ℕ) → HasItem f kind j n → IsSome (value_if n (was j)))
     (ticket_is : (u : ℕ) (e : Entry) (w : V) → lookup book u ≡ Some e → e.kind ≡ kind
     → value_if e.generation (was e.index) ≡ Some w → τ w ≡ u)
     (on_stop : Option Stop → Option Stop) (on_mark : Option Mark → Option Mark)
     (no_stop : on_stop None ≡ None) (no_mark : on_mark None ≡ None)
-    (kept : (k : Kind) (j n : ℕ) → IsFilled f k j n → (k ≡ kind → at j ≡ was j)
+    (kept : (k : Kind) (j n : ℕ) → HasItem f k j n → (k ≡ kind → at j ≡ was j)
     → IsKept f now on_stop on_mark k j n) where
   abbrev t : ℕ
   t = τ v
@@ -241,7 +241,7 @@ module _ (V : Type 0) (τ : V → ℕ) (kind : Kind) (s : State) (f now : Found)
       beside : e.kind ≡ kind → at e.index ≡ was e.index
       beside own =
           let w = stands_under was e.index e.generation (filled_is e.index e.generation
-          (subst (λ k. IsFilled f k e.index e.generation) own (h.filled u e is))) in
+          (subst (λ k. HasItem f k e.index e.generation) own (h.filled u e is))) in
           others_stay τ kind was at i g v stood entries book known e.index e.generation w.0 w.1.1
           (λ same. other (sym (ticket_is u e w.0 is own w.1.0) ∙ same)) ∙ sym w.1.1
 
@@ -256,10 +256,10 @@ module _ (V : Type 0) (τ : V → ℕ) (kind : Kind) (s : State) (f now : Found)
   ]
 
   still_filled : (u : ℕ) (e : Entry) → lookup left u ≡ Some e
-      → IsFilled now e.kind e.index e.generation
+      → HasItem now e.kind e.index e.generation
   still_filled u e is = by (look u)
     where
-      by : Look u → IsFilled now e.kind e.index e.generation
+      by : Look u → HasItem now e.kind e.index e.generation
       by (ended same none) =
           absurd (let no : ◌≡◌ {A = Option Entry} None (Some e) = sym none ∙ is in cc)
       by (stays other same) = (still u e (sym same ∙ is) other).filled

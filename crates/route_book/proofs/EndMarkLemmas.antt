@@ -22,7 +22,7 @@ use Rattle.route_lines.specs.State.{State, Rooms, Place, Mark, place_of, stop_of
 use Rattle.route_lines.specs.State.{stop_list}
 use Rattle.route_book.specs.Book.{found_in, in_order, IsBook}
 use Rattle.route_book.specs.Item.{StopView, MarkView}
-use Rattle.route_book.specs.Holds.{Found, state_mark, mark_under, mark_at, IsFilled, IsHeld}
+use Rattle.route_book.specs.Holds.{Found, state_mark, mark_under, mark_at, HasItem, IsHeld}
 use Rattle.route_book.proofs.EndLemmas.{IsKept, Shrinks, shrinks, others_stay, length_without}
 use Rattle.route_book.proofs.OrderLemmas.{differ_of_rise}
 use Rattle.route_book.proofs.OptionLemmas.{found_has, stands_at}
@@ -45,7 +45,7 @@ module _ (s s' : State) (f : Found) (order : List Place) (ends : ℕ → Option 
   abbrev τ : MarkView → ℕ
   τ w = w.ticket
 
-  kept : (k : Kind) (j n : ℕ) → IsFilled f k j n → (k ≡ OfMark → at j ≡ f.marks j)
+  kept : (k : Kind) (j n : ℕ) → HasItem f k j n → (k ≡ OfMark → at j ≡ f.marks j)
       → IsKept f now (λ o. o) (λ o. o) k j n
   kept OfPlace j n filled same = record { place = refl; stop = refl; mark = refl; filled = filled }
   kept OfStop j n filled same = record { place = refl; stop = refl; mark = refl; filled = filled }

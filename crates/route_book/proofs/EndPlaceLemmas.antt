@@ -27,7 +27,7 @@ use Rattle.route_lines.specs.State.{State, Rooms, Place, place_of, stop_of, mark
 use Rattle.route_book.specs.Book.{found_in, in_order, IsBook}
 use Rattle.route_book.specs.Item.{StopView, MarkView}
 use Rattle.route_book.specs.Holds.{Found, found_by, state_stop, state_mark, place_under, place_at}
-use Rattle.route_book.specs.Holds.{IsFilled, IsSettled, IsHeld}
+use Rattle.route_book.specs.Holds.{HasItem, IsSettled, IsHeld}
 use Rattle.route_book.proofs.SettledLemmas.{settled_left, up_to_left}
 use Rattle.route_book.proofs.EndLemmas.{IsKept, Shrinks, shrinks, own, unnamed, others_stay}
 use Rattle.route_book.proofs.EndLemmas.{each_mapped, length_without}
@@ -112,7 +112,7 @@ module _ (s s' : State) (f : Found) (order order' : List Place) (ends : ℕ → 
     stop = option_map (λ (q : StopView). q.ticket) (found_by f.stops v.stop);
   }) (forgot v.place)
 
-  kept : (k : Kind) (j n : ℕ) → IsFilled f k j n → (k ≡ OfPlace → at j ≡ f.places j)
+  kept : (k : Kind) (j n : ℕ) → HasItem f k j n → (k ≡ OfPlace → at j ≡ f.places j)
       → IsKept f now (option_map (clear_stop t)) (option_map (clear_mark t)) k j n
   kept OfPlace j n filled same =
       let found = ap (value_if n) (same refl) in

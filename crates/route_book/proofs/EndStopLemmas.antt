@@ -28,7 +28,7 @@ use Rattle.route_book.specs.Book.{found_in, in_order, IsBook}
 use Rattle.route_book.specs.Follows.{ticket_at, LeadAs}
 use Rattle.route_book.specs.Item.{StopView, MarkView}
 use Rattle.route_book.specs.Holds.{Found, found_by, state_stop, state_mark, stop_under, stop_at}
-use Rattle.route_book.specs.Holds.{IsFilled, IsSettled, IsHeld}
+use Rattle.route_book.specs.Holds.{HasItem, IsSettled, IsHeld}
 use Rattle.route_book.proofs.FollowLemmas.{next_with_prev}
 use Rattle.route_book.proofs.LinkLemmas.{live_ends}
 use Rattle.route_book.proofs.SettledLemmas.{settled_left, up_to_left}
@@ -149,7 +149,7 @@ module _ (s s' : State) (f : Found) (order : List Place) (ends ends' : ℕ → O
     stop = r;
   }) (forgot w.stop)
 
-  kept : (k : Kind) (j n : ℕ) → IsFilled f k j n → (k ≡ OfStop → at j ≡ f.stops j)
+  kept : (k : Kind) (j n : ℕ) → HasItem f k j n → (k ≡ OfStop → at j ≡ f.stops j)
       → IsKept f now (λ o. o) (option_map (clear_mark_stop t)) k j n
   kept OfPlace j n filled same = record { place = refl; stop = refl; mark = refl; filled = filled }
   kept OfStop j n filled same =

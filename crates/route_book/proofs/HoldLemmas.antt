@@ -17,7 +17,7 @@ use Rattle.route_book.specs.Item.{StopView, MarkView}
 use Rattle.route_lines.specs.State.{State, Place, Item, place, stop, mark, living, holder, place_of}
 use Rattle.route_lines.specs.State.{stop_of, mark_of}
 use Rattle.route_book.specs.Holds.{Found, state_stop, state_mark, place_under, stop_under}
-use Rattle.route_book.specs.Holds.{mark_under, item_under, place_at, stop_at, mark_at, IsFilled}
+use Rattle.route_book.specs.Holds.{mark_under, item_under, place_at, stop_at, mark_at, HasItem}
 use Rattle.route_book.specs.Holds.{IsItem, entry, Rise, IsHeld}
 use Rattle.route_book.proofs.OptionLemmas.{none_behind, some_same}
 
@@ -61,7 +61,7 @@ module _ (s : State) (f : Found) (order : List Place) (ends : ℕ → Option End
       by None = refl
       by (Some x) = refl
 
-  some_under : (k : Kind) (i g : ℕ) → IsFilled f k i g
+  some_under : (k : Kind) (i g : ℕ) → HasItem f k i g
       → (item : Item) × (item_under f k i g ≡ Some item)
   some_under OfPlace i g filled = by (value_if g (f.places i)) filled
     where

@@ -25,7 +25,7 @@ use Rattle.route_lines.specs.declared.refusal.Refusal.TheVariants.{Unknown, Gone
 use Rattle.route_lines.specs.declared.refusal.Refusal.TheVariants.{Kind as Refused}
 use Rattle.route_book.specs.Item.{StopView, MarkView}
 use Rattle.route_book.specs.Holds.{Found, entry, state_mark, place_at, stop_at, mark_at}
-use Rattle.route_book.specs.Holds.{IsFilled, IsLive, IsSettled}
+use Rattle.route_book.specs.Holds.{HasItem, IsLive, IsSettled}
 use Rattle.route_book.specs.Holds.{IsHeld}
 use Rattle.route_book.specs.Book.{MarksDiffer, found_in, in_order, IsBook, KeepsItems}
 use Rattle.route_book.proofs.AddedLemmas.{Grows, Kept, grows}
@@ -52,7 +52,7 @@ module _ (s : State) (f : Found) (order : List Place) (ends : ℕ → Option End
   abbrev pub after_marked : State
   after_marked = record s { last = s.last + 1; marks = s.marks ++ m ∷ [] }
 
-  kept : (k : Kind) (j n : ℕ) → IsFilled f k j n → Kept f now k j n
+  kept : (k : Kind) (j n : ℕ) → HasItem f k j n → Kept f now k j n
   kept OfPlace j n filled = record { place = refl; stop = refl; mark = refl; filled = filled }
   kept OfStop j n filled = record { place = refl; stop = refl; mark = refl; filled = filled }
   kept OfMark j n filled =

@@ -7,7 +7,7 @@ use Rattle.triple_arena.specs.Entries.{value_if}
 use Rattle.ticket_book.specs.declared.entry.Kind.{Kind}
 use Rattle.ticket_book.specs.Tickets.{Entry, lookup}
 use Rattle.route_book.specs.Holds.{found_by, entry, IsLive}
-use Rattle.route_book.specs.Packing.{IsMoved, IsMirror, IsMirrored, IsBooked}
+use Rattle.route_book.specs.Packing.{AreMoved, IsMirror, IsMirrored, IsBooked}
 use Rattle.ticket_book.specs.Mirrors.{Mirror, renewed_pointer}
 use Rattle.route_book.proofs.OptionLemmas.{some_same}
 
@@ -15,7 +15,7 @@ use Rattle.route_book.proofs.OptionLemmas.{some_same}
 module _ {T : Type 0} (ticket : T → ℕ) (kind : Kind) (book : List Entry) (to : ℕ → ℕ) (g : ℕ)
     (old new : ℕ → Option (ℕ × T))
     (held : (i h : ℕ) (t : T) → old i ≡ Some (h, t)
-    → lookup book (ticket t) ≡ Some (entry (ticket t) kind i h)) (moved : IsMoved to g old new)
+    → lookup book (ticket t) ≡ Some (entry (ticket t) kind i h)) (moved : AreMoved to g old new)
   where
     -- what the book has for the ticket of a moved item
     was : (k h : ℕ) (t : T) (e : Entry) → new k ≡ Some (h, t) → lookup book (ticket t) ≡ Some e
@@ -61,7 +61,7 @@ module _ {T : Type 0} (ticket : T → ℕ) (kind : Kind) (book : List Entry) (to
 
 -- what a mirror makes of a reference
 module _ {T : Type 0} (to : ℕ → ℕ) (g : ℕ) (old new : ℕ → Option (ℕ × T)) (m : Mirror)
-    (moved : IsMoved to g old new) (mirror : IsMirror to g old m) where
+    (moved : AreMoved to g old new) (mirror : IsMirror to g old m) where
   -- a pointer that finds an item
   pub mirror_live : (i h : ℕ) (t : T) → value_if h (old i) ≡ Some t
       → (value_if h (m i) ≡ Some (to i, g)) × (value_if g (new (to i)) ≡ Some t)

@@ -24,11 +24,11 @@ use Rattle.ticket_book.specs.Moving.{entry_over}
 use Rattle.ticket_book.specs.Tickets.{Entry, lookup}
 use Rattle.route_lines.specs.State.{Place, Rooms, State, in_rooms, stop_list}
 use Rattle.route_book.specs.Book.{Book, found_in, in_order, IsBook}
-use Rattle.route_book.specs.Holds.{Found, found_by, IsFilled, IsHeld, IsLive, Rise}
+use Rattle.route_book.specs.Holds.{Found, found_by, HasItem, IsHeld, IsLive, Rise}
 use Rattle.route_book.specs.Item.{StopView, MarkView}
 use Rattle.route_book.specs.Moving.{mark_over, over, stop_over}
 use Rattle.route_book.specs.Removals.{AreFirst, IsPacked}
-use Rattle.route_book.specs.Packing.{IsMirror, IsMoved, recast_mark, recast_stop}
+use Rattle.route_book.specs.Packing.{IsMirror, AreMoved, recast_mark, recast_stop}
 use Rattle.route_book.proofs.BookPackLemmas.{found_under, held_in_order}
 use Rattle.route_book.proofs.HoldLemmas.{lookup_given}
 use Rattle.route_book.proofs.OptionLemmas.{mapped_some, stands_under}
@@ -47,7 +47,7 @@ module _ {T : Type 0} (g : ℕ) (old : ℕ → Option (ℕ × T)) where
   mirror_over i = option_map (leads i) (old i)
 
   moved_over : (new : ℕ → Option (ℕ × T)) → ((k : ℕ) → new k ≡ option_map under (old k))
-      → IsMoved (λ i. i) g old new
+      → AreMoved (λ i. i) g old new
   moved_over new same = record {
     into = λ i h t is. same i ∙ ap (option_map under) is;
     onto = λ k h t is. (let x = mapped_some under (old k) (h, t) (sym (same k) ∙ is) in
@@ -98,21 +98,21 @@ module _ (greatest g : ℕ) (f : Found)
   abbrev renew : Entry → Entry
   renew = renewed_entry (mirror_over g f.places) (mirror_over g f.stops) (mirror_over g f.marks)
 
-  pointer_same : (k : Kind) (i h : ℕ) → IsFilled f k i h
+  pointer_same : (k : Kind) (i h : ℕ) → HasItem f k i h
       → (min greatest i, g)
       ≡ renewed_under (mirror_over g f.places) (mirror_over g f.stops) (mirror_over g f.marks) k i h
   pointer_same OfPlace i h some = over_renewed g f.places greatest places i h some
   pointer_same OfStop i h some = over_renewed g f.stops greatest stops i h some
   pointer_same OfMark i h some = over_renewed g f.marks greatest marks i h some
 
-  entry_same : (e : Entry) → IsFilled f e.kind e.index e.generation
+  entry_same : (e : Entry) → HasItem f e.kind e.index e.generation
       → entry_over greatest g e ≡ renew e
   entry_same e filled =
       ap (λ (q : ℕ × ℕ). record e { index = q.0; generation = q.1 })
       (pointer_same e.kind e.index e.generation filled)
 
   book_same : (l : List Entry) (low last : ℕ) → Rise low l last
-      → ((t : ℕ) (e : Entry) → lookup l t ≡ Some e → IsFilled f e.kind e.index e.generation)
+      → ((t : ℕ) (e : Entry) → lookup l t ≡ Some e → HasItem f e.kind e.index e.generation)
       → map (entry_over greatest g) l ≡ map renew l
   book_same [] low last rise filled = refl
   book_same (e ∷ l) low last rise filled =

@@ -13,7 +13,7 @@ use Rattle.ticket_book.specs.Tickets.{Entry}
 use Rattle.route_lines.specs.Calls.{put}
 use Rattle.route_lines.specs.State.{State, Place, place_of, stop_of, mark_of}
 use Rattle.route_book.specs.Holds.{Found, found_by, state_stop, state_mark, place_at, stop_at}
-use Rattle.route_book.specs.Holds.{mark_at, IsFilled, entry, IsSettled, IsHeld}
+use Rattle.route_book.specs.Holds.{mark_at, HasItem, entry, IsSettled, IsHeld}
 use Rattle.route_book.specs.Item.{StopView}
 use Rattle.route_book.proofs.AddedLemmas.{Grows, Kept, grows, shown_still}
 use Rattle.route_book.proofs.SettledLemmas.{found_added, settled_added, up_to_added}
@@ -92,7 +92,7 @@ module _ (s : State) (f : Found) (order order' : List Place) (ends : ℕ → Opt
       }))
       (found_kept v.place (h.mark_place j n v is)))
 
-  kept : (k : Kind) (j h' : ℕ) → IsFilled f k j h' → Kept f now k j h'
+  kept : (k : Kind) (j h' : ℕ) → HasItem f k j h' → Kept f now k j h'
   kept OfPlace j h' filled =
       let same = found_kept (Some (j, h')) (inl filled) in
       record { place = same; stop = refl; mark = refl; filled = subst IsSome (sym same) filled }

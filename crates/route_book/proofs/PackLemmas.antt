@@ -13,11 +13,11 @@ use Rattle.ticket_book.specs.declared.entry.Kind.TheVariants.{Mark as OfMark}
 use Rattle.route_book.specs.Item.{StopView, MarkView}
 use Rattle.ticket_book.specs.Tickets.{Entry, lookup}
 use Rattle.route_book.specs.Holds.{Found, found_by, state_stop, state_mark, place_under, stop_under}
-use Rattle.route_book.specs.Holds.{mark_under, place_at, stop_at, mark_at, IsFilled, entry, Rise}
+use Rattle.route_book.specs.Holds.{mark_under, place_at, stop_at, mark_at, HasItem, entry, Rise}
 use Rattle.route_book.specs.Holds.{IsLive, IsHeld}
 use Rattle.route_lines.specs.Routes.{next_stop}
 use Rattle.route_book.specs.Follows.{ticket_at, LeadAs}
-use Rattle.route_book.specs.Packing.{IsMoved, IsMirror, recast_stop, recast_mark}
+use Rattle.route_book.specs.Packing.{AreMoved, IsMirror, recast_stop, recast_mark}
 use Rattle.ticket_book.specs.Mirrors.{Mirror, renewed_pointer, renewed_under, renewed_entry}
 use Rattle.route_book.proofs.MirrorLemmas.{found_recast, live_recast, renewed_live}
 use Rattle.route_book.proofs.SettledLemmas.{live_settled}
@@ -54,8 +54,8 @@ module _ (s : State) (f : Found) (order : List Place) (ends ends' : ℕ → Opti
     (to_p to_s to_m : ℕ → ℕ) (gp gs gm : ℕ) (at_p : ℕ → Option (ℕ × Place))
     (at_s : ℕ → Option (ℕ × StopView)) (at_m : ℕ → Option (ℕ × MarkView))
     (m n o : Mirror)
-    (places : IsMoved to_p gp f.places at_p) (stops : IsMoved to_s gs f.stops at_s)
-    (marks : IsMoved to_m gm f.marks at_m)
+    (places : AreMoved to_p gp f.places at_p) (stops : AreMoved to_s gs f.stops at_s)
+    (marks : AreMoved to_m gm f.marks at_m)
     (mirror_p : IsMirror to_p gp f.places m) (mirror_s : IsMirror to_s gs f.stops n)
     (mirror_m : IsMirror to_m gm f.marks o)
     (new_s : ℕ → Option (ℕ × StopView)) (new_m : ℕ → Option (ℕ × MarkView))
@@ -128,13 +128,13 @@ module _ (s : State) (f : Found) (order : List Place) (ends ends' : ℕ → Opti
         ≡ stop_under f k i g
     mark : mark_under now k (renewed_under m n o k i g).0 (renewed_under m n o k i g).1
         ≡ mark_under f k i g
-    filled : IsFilled now k (renewed_under m n o k i g).0 (renewed_under m n o k i g).1
+    filled : HasItem now k (renewed_under m n o k i g).0 (renewed_under m n o k i g).1
 
   at_own : {T : Type 0} (at : ℕ → Option (ℕ × T)) (j g : ℕ) (t : T) → at j ≡ Some (g, t)
       → value_if g (at j) ≡ Some t
   at_own at j g t is = ap (value_if g) is ∙ rw (eq-eqb g g refl) refl
 
-  kept : (k : Kind) (i g : ℕ) → IsFilled f k i g → Kept k i g
+  kept : (k : Kind) (i g : ℕ) → HasItem f k i g → Kept k i g
   kept OfPlace i g filled =
       let st = stands_under f.places i g filled in
       let name = renewed_live to_p gp f.places at_p m places mirror_p i g st.0 st.1.0 in
@@ -272,11 +272,11 @@ module _ (s : State) (f : Found) (order : List Place) (ends ends' : ℕ → Opti
       )
         where
           filled : (t : ℕ) (e : Entry) → lookup (map renew book) t ≡ Some e
-              → IsFilled now e.kind e.index e.generation
+              → HasItem now e.kind e.index e.generation
           filled t e is =
               let w = mapped_some renew (lookup book t) e (sym (lookup_renewed m n o book t) ∙ is)
               in
-              subst (λ (x : Entry). IsFilled now x.kind x.index x.generation) w.1.1
+              subst (λ (x : Entry). HasItem now x.kind x.index x.generation) w.1.1
               (kept w.0.kind w.0.index w.0.generation (h.filled t w.0 w.1.0)).filled
 
           place_in : (k g : ℕ) (p : Place) → at_p k ≡ Some (g, p)

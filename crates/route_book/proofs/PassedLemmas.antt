@@ -12,7 +12,7 @@ use Rattle.triple_arena.specs.Entries.{look_up, value_if, with_value_at}
 use Rattle.triple_arena.specs.Walk.{Steps, Walk}
 use Rattle.triple_arena.specs.Compression.{index_of, value_of, generation_of}
 use Rattle.triple_arena.specs.RiseLaws.{RiseFrom, low_none, rise_from}
-use Rattle.route_book.specs.Packing.{IsMoved}
+use Rattle.route_book.specs.Packing.{AreMoved}
 use Rattle.triple_arena_chain.specs.Renaming.{live_below}
 use Rattle.ticket_book.specs.WalkLaws.{IsCasting, cast_on, stands_at, value_written}
 
@@ -243,7 +243,7 @@ module _ {T : Type 0} where
         ∙ ap (option_map (λ (e : ℕ × (ℕ × T)). g)) is in
         let same : y.1.0 ≡ g = cc in same
 
-    pub listed_moved : IsMoved listed_to g at at'
+    pub listed_moved : AreMoved listed_to g at at'
     listed_moved = record { into = into; onto = onto }
       where
         into : (i h : ℕ) (t : T) → at i ≡ Some (h, t) → at' (listed_to i) ≡ Some (g, t)

@@ -16,7 +16,7 @@ use Rattle.route_lines.specs.Calls.{reworded}
 use Rattle.route_lines.specs.State.{State, Place, place_of}
 use Rattle.route_book.specs.Item.{StopView, MarkView}
 use Rattle.route_book.specs.Holds.{Found, found_by, state_stop, state_mark, place_under, stop_under}
-use Rattle.route_book.specs.Holds.{mark_under, place_at, stop_at, mark_at, IsFilled, entry}
+use Rattle.route_book.specs.Holds.{mark_under, place_at, stop_at, mark_at, HasItem, entry}
 use Rattle.route_book.specs.Holds.{IsSettled, IsHeld}
 use Rattle.route_book.proofs.HoldLemmas.{booked_once}
 use Rattle.route_book.proofs.OptionLemmas.{some_same}
@@ -164,7 +164,7 @@ module _ (s : State) (f : Found) (order order' : List Place) (ends : ℕ → Opt
   map_marks None = refl
   map_marks (Some v) = ap Some (mark_same v)
 
-  filled_at : (k : Kind) (j n : ℕ) → IsFilled f k j n → IsFilled now k j n
+  filled_at : (k : Kind) (j n : ℕ) → HasItem f k j n → HasItem now k j n
   filled_at OfPlace j n filled = live_at n j filled
   filled_at OfStop j n filled = filled
   filled_at OfMark j n filled = filled

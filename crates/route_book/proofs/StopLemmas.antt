@@ -14,7 +14,7 @@ use Rattle.route_lines.specs.Routes.{next_stop}
 use Rattle.route_lines.specs.State.{State, Place, Route, place_of, stop_of, mark_of}
 use Rattle.route_book.specs.Follows.{LeadAs}
 use Rattle.route_book.specs.Holds.{Found, found_by, state_stop, state_mark, place_at, stop_at}
-use Rattle.route_book.specs.Holds.{mark_at, IsFilled, entry, IsLive, IsSettled, IsHeld}
+use Rattle.route_book.specs.Holds.{mark_at, HasItem, entry, IsLive, IsSettled, IsHeld}
 use Rattle.route_book.proofs.AddedLemmas.{Grows, Kept, grows, shown_still}
 use Rattle.route_book.proofs.SettledLemmas.{found_added, settled_added, up_to_added, live_settled}
 
@@ -62,7 +62,7 @@ module _ (s : State) (f : Found) (order : List Place) (ends ends' : ℕ → Opti
       }))
       (found_kept x.stop (h.mark_stop j n x is)))
 
-  kept : (k : Kind) (j h' : ℕ) → IsFilled f k j h' → Kept f now k j h'
+  kept : (k : Kind) (j h' : ℕ) → HasItem f k j h' → Kept f now k j h'
   kept OfPlace j h' filled = record { place = refl; stop = refl; mark = refl; filled = filled }
   kept OfStop j h' filled =
       let same = found_kept (Some (j, h')) (inl filled) in

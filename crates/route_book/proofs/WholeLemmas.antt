@@ -20,7 +20,7 @@ use Rattle.ticket_book.specs.Tickets.{Entry}
 use Rattle.route_book.specs.Book.{Book, IsBook, as_book}
 use Rattle.route_book.specs.Removals.{HaveGeneration, IsPacked}
 use Rattle.route_book.specs.Compressed.{IsAllCompressed}
-use Rattle.route_book.specs.Packing.{IsMoved, IsMirrored, IsBooked, StandAs, recast_stop}
+use Rattle.route_book.specs.Packing.{AreMoved, IsMirrored, IsBooked, StandAs, recast_stop}
 use Rattle.route_book.specs.Packing.{recast_mark}
 use Rattle.ticket_book.specs.Mirrors.{Mirror, renewed_entry}
 use Rattle.route_book.proofs.BookPackLemmas.{places_moved, stops_moved, marks_moved}
@@ -83,7 +83,7 @@ have_all {U = U} g f old new each i h x is =
     sym (ap (λ (z : ℕ × U). z.0) was.1.1)
 
 -- what was moved has one generation, and what is written in place keeps its own
-moved_to : {T : Type 0} (to : ℕ → ℕ) (g : ℕ) (old new : ℕ → Option (ℕ × T)) → IsMoved to g old new
+moved_to : {T : Type 0} (to : ℕ → ℕ) (g : ℕ) (old new : ℕ → Option (ℕ × T)) → AreMoved to g old new
     → HaveGeneration g new
 moved_to to g old new moved i h x is = (moved.onto i h x is).1.1.1.1
 

@@ -87,10 +87,10 @@ mark_at f None = None
 mark_at f (Some e) = mark_under f e.kind e.index e.generation
 
 -- the pointer of an entry finds an item
-abbrev pub IsFilled : Found → Kind → ℕ → ℕ → Type 0
-IsFilled f OfPlace i g = IsSome (value_if g (f.places i))
-IsFilled f OfStop i g = IsSome (value_if g (f.stops i))
-IsFilled f OfMark i g = IsSome (value_if g (f.marks i))
+abbrev pub HasItem : Found → Kind → ℕ → ℕ → Type 0
+HasItem f OfPlace i g = IsSome (value_if g (f.places i))
+HasItem f OfStop i g = IsSome (value_if g (f.stops i))
+HasItem f OfMark i g = IsSome (value_if g (f.marks i))
 
 abbrev pub entry : ℕ → Kind → ℕ → ℕ → Entry
 entry t kind i g = record { ticket = t; kind = kind; index = i; generation = g }
@@ -121,7 +121,7 @@ pub record IsHeld (s : State) (f : Found) (order : List Place) (ends : ℕ → O
     (book : List Entry) : Type 0 where
   pub rise : Rise 0 book s.last
   -- each ticket of the book finds its item
-  pub filled : (t : ℕ) (e : Entry) → lookup book t ≡ Some e → IsFilled f e.kind e.index e.generation
+  pub filled : (t : ℕ) (e : Entry) → lookup book t ≡ Some e → HasItem f e.kind e.index e.generation
   -- each item is in the book under its ticket
   pub places_in : (i g : ℕ) (p : Place) → f.places i ≡ Some (g, p)
       → lookup book p.ticket ≡ Some (entry p.ticket OfPlace i g)

@@ -29,7 +29,7 @@ StandAs old new = (i : ℕ) (e : Entry) → old i ≡ Some e
 
 module _ {T : Type 0} where
   -- each item stands at another index, all under one generation
-  pub record IsMoved (to : ℕ → ℕ) (g : ℕ) (old new : ℕ → Option (ℕ × T)) : Type 0 where
+  pub record AreMoved (to : ℕ → ℕ) (g : ℕ) (old new : ℕ → Option (ℕ × T)) : Type 0 where
     pub into : (i h : ℕ) (t : T) → old i ≡ Some (h, t) → new (to i) ≡ Some (g, t)
     pub onto : (k h : ℕ) (t : T) → new k ≡ Some (h, t) → (i : ℕ)
         × ((n : ℕ) × ((old i ≡ Some (n, t)) × ((to i ≡ k) × (h ≡ g))))

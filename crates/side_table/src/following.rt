@@ -79,6 +79,8 @@ where
 /// for the next compression, it grows only where the last live index is past its capacity. It
 /// returns `BeyondMaxCapacity` if the map cannot have so many slots, and `AllocError` if the memory
 /// was refused. An error leaves the arena, the table and the map as they were.
+///
+/// Whether the step of the counter wrapped is not returned: the counter before the call tells it.
 pub fn compress_beside<P, T, U, S, R, M>(
     arena: &mut Arena<P, T, S>,
     table: &mut DirectArena<P, U, R>,

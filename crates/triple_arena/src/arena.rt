@@ -148,7 +148,7 @@ impl<P: PtrCore, T: Drop, S: ArenaSlots<P, T>> Arena<P, T, S> {
     pub(crate) fn recall_formed(&self)
         ensures { IsWellFormed self.now }
     {
-        let _live = self.live();
+        recall!(self.live());
     }
 
     // The number of slots.

@@ -226,10 +226,11 @@ pub trait ArenaTrait<P: PtrCore, T: Drop> {
         ensures exact { is_removed self.old (P.Inx.number i) self.new }
         ensures formed { is_formed self.new };
 
-    /// Ends `p` and gives the entry another pointer, with the stepped generation, so that `p` finds
-    /// nothing if generations are counted. If they are not, the pointer is equal to `p`. It returns
-    /// `InvalidPtr`, and changes nothing, if `p` points to no entry. The step is the counter's, or
-    /// that of the entry's own generation in an arena without a counter.
+    /// Ends `p` and gives the entry another pointer, with the stepped generation. Then `p` finds
+    /// nothing, unless the counter wrapped or was set back. If generations are not counted, the
+    /// pointer is equal to `p`. It returns `InvalidPtr`, and changes nothing, if `p` points to no
+    /// entry. The step is the counter's, or that of the entry's own generation in an arena without
+    /// a counter.
     fn invalidate(&mut self, p: P) -> InvalidationResult<P>
         ensures variant { IsSome (answer_of result)
             ↔ IsSome (value_if (P.generation p) (entry_at self.old (P.index p))) }

@@ -21,6 +21,7 @@ mod transfer;
 
 use crate::{DirectSlot, DirectSlots};
 pub use entry::ArenaDirectInsertEntry;
+use proof_marks::recall;
 use std::marker::{Model, PhantomData};
 use triple_arena_ptr::PtrCore;
 use triple_arena_stack::{
@@ -97,7 +98,7 @@ impl<P: PtrCore, T: Drop, S: DirectSlots<P, T>> DirectArena<P, T, S> {
     pub(crate) fn recall_formed(&self)
         ensures { IsWellFormed self.now }
     {
-        let _live = self.live();
+        recall!(self.live());
     }
 
     /// The stack that the slots are kept in.

@@ -15,7 +15,8 @@ use Rattle.triple_arena_chain.specs.Links.{ends_in}
 use Rattle.linked_lists.specs.UniquenessLaws.{linear_apart}
 use Rattle.triple_arena_ord.specs.Ordered.{Ordered, IsOrdered, order_in, entry_in, size_in}
 use Rattle.triple_arena_ord.specs.Ordered.{counter_in, ordered_entries, entries_at}
-use Rattle.triple_arena_ord.specs.OrderedDrains.{emptied_after, IsTaken, IsFirstTaken, IsLastTaken}
+use Rattle.triple_arena_ord.specs.OrderedDrains.{emptied_after, IsItemTaken, IsFirstTaken}
+use Rattle.triple_arena_ord.specs.OrderedDrains.{IsLastTaken}
 use Rattle.triple_arena_ord.specs.OrderedDrains.{TakesFirst}
 use Rattle.triple_arena_ord.specs.OrderedDrains.{drain_arena, drain_lender, drain_rest, IsOn}
 use Rattle.triple_arena_ord.specs.OrderedDrains.{DrainSteps, DrainKeepsAlong}
@@ -131,7 +132,7 @@ module _ {T : Type 0} where
 
   module _ {P : Type 0} (last : Option ℕ) (index generation : P → ℕ)
       (o p : Ordered T) (h : ℕ) (item : InvalidationOption (P × T)) (is : IsOrdered o)
-      (taken : IsTaken last index generation h item o p) where
+      (taken : IsItemTaken last index generation h item o p) where
     -- a removal at an end of the list
     pub first_taken : first_or (order_in o) None ≡ Some h
         → IsFirstTaken last index generation item o p

@@ -185,8 +185,9 @@ module _ {T : Type 0} where
 
     module _ {P : Type 0} (index generation : P → ℕ) (allows : Option OrdInsertionError
         → Type 0) where
-      -- an insertion by key: an item with an equal key is replaced, whether or not there is room;
-      -- else there is one more entry, where the room allows it
+      -- an insertion by key: an item that is replaced has an equal key, and takes no room; else
+      -- there is one more entry, where the room allows it. If keys ascend and one is equal, its
+      -- item is replaced
       pub record IsKeyInserted (t : T) (result : Result (P × Option T) OrdInsertionError)
           (old new : Ordered T) : Type 0 where
         pub replaced : (p : P) (u : T) → result ≡ Ok (p, Some u) → (cmp (key t) (key u) ≡ Equal)

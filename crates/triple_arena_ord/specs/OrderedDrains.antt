@@ -27,7 +27,7 @@ steps_made (Some item) = 1
 module _ {P T : Type 0} (last : Option ℕ) (index generation : P → ℕ) where
   -- an item is the removal of the entry at an index, and whether its step started the generations
   -- again
-  pub record IsTaken (h : ℕ) (item : InvalidationOption (P × T)) (old new : Ordered T)
+  pub record IsItemTaken (h : ℕ) (item : InvalidationOption (P × T)) (old new : Ordered T)
       : Type 0 where
     pub at : index (value_of item).0 ≡ h
     pub was : entry_in old h ≡ Some (generation (value_of item).0, (value_of item).1)

@@ -12,7 +12,7 @@ ghost use Rattle.triple_arena_ord.specs.Ordered.{IsOrdered, StandsBeside, order_
 ghost use Rattle.triple_arena_ord.specs.Ordered.{new_end, ordered_by};
 
 use crate::{IndexNode, OrdSlots, SimpleOrdArenaNode};
-use proof_marks::unreached;
+use proof_marks::{recall, unreached};
 use rank_tree::{Side, bring_in};
 use triple_arena::{ArenaTrait, PtrCore, PtrInxCore};
 use triple_arena_chain::{ChainArena, ChainArenaTrait};
@@ -41,7 +41,7 @@ pub(crate) fn insert_leaf<P: PtrCore, T: Drop, S: OrdSlots<P, T>>(
     ensures counter { chains.new.counter ≡ chains.old.counter }
     ensures room { chains.new.room ≡ chains.old.room }
 {
-    let _capacity = chains.capacity();
+    recall!(chains.capacity());
     let (prev, next) = gap_beside(chains, *root, holder, side);
     let node: SimpleOrdArenaNode<P, T> = IndexNode::under(Some(holder), t);
     let p = chains.insert_in_gap_unwrap(prev, next, node);
@@ -98,17 +98,17 @@ pub(crate) fn move_end<I: PtrInxCore>(link: &mut Option<I>, side: Side, end: Sid
 {
     match side {
         Side::Left => match end {
-            Side::Left => replace(link, from, to),
+            Side::Left => replace_end(link, from, to),
             Side::Right => {}
         },
         Side::Right => match end {
             Side::Left => {}
-            Side::Right => replace(link, from, to),
+            Side::Right => replace_end(link, from, to),
         },
     }
 }
 
-fn replace<I: PtrInxCore>(link: &mut Option<I>, from: I, to: I)
+fn replace_end<I: PtrInxCore>(link: &mut Option<I>, from: I, to: I)
     ensures { option_map I.number link.new
         ≡ new_end (option_map I.number link.old) (I.number from) (I.number to) }
 {

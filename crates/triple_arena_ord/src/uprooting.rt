@@ -11,6 +11,7 @@ ghost use Rattle.triple_arena_ord.specs.Ordered.{IsOrdered, order_in, ordered_by
 ghost use Rattle.triple_arena_ord.specs.Removal.{Loses, IsUprooted};
 
 use crate::{OrdSlots, SimpleOrdArenaNode};
+use proof_marks::recall;
 use rank_tree::{NodeStore, bring_out, replace};
 use triple_arena::{ArenaTrait, PtrCore, PtrInxCore};
 use triple_arena_chain::ChainArena;
@@ -43,7 +44,7 @@ fn uproot<P: PtrCore, T: Drop, S: OrdSlots<P, T>>(
         (ordered_by P.Inx.number chains.new root.new) (P.Inx.number gone) }
     ensures keeps { rest chains.new ≡ rest chains.old }
 {
-    let _count = chains.len();
+    recall!(chains.len());
     let links = chains.read(gone);
     let moved = moved_up(links.right, next);
     // There is one call of it, so that it is inlined.

@@ -71,6 +71,8 @@ pub fn compress_recaster<P: PtrCore, T: Drop, S: ArenaSlots<P, T>, R: DirectSlot
 ///
 /// It returns `BeyondMaxCapacity` if the map cannot have so many slots, and `AllocError` if the
 /// memory was refused. An error leaves the arena and the map as they were.
+///
+/// Whether the step of the counter wrapped is not returned: the counter before the call tells it.
 pub fn compress_recaster_into<P: PtrCore, T: Drop, S, R>(
     arena: &mut Arena<P, T, S>,
     reset: bool,

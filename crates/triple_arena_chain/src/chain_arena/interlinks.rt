@@ -9,6 +9,7 @@ ghost use Rattle.triple_arena_chain.specs.Kinds.{gap_by};
 
 use crate::gap::Gap;
 use crate::{ChainSlots, LinkNoGen};
+use proof_marks::recall;
 use triple_arena::{Arena, ArenaTrait, PtrCore};
 use triple_arena_ptr::OptionalInx;
 
@@ -19,7 +20,7 @@ pub(crate) fn recall_formed<P: PtrCore, T: Drop, S: ChainSlots<P, T>>(
 )
     ensures { IsWellFormed arena.now }
 {
-    let _len = arena.len();
+    recall!(arena.len());
 }
 
 // The next index of the link at a live index.

@@ -40,7 +40,7 @@ impl<P: PtrCore, T: Drop, S: OrdSlots<P, T>> SimpleOrdArena<P, T, S> {
     fn recall_formed(&self)
         ensures { IsFormed self.now }
     {
-        let _len = self.chains.len();
+        recall!(self.chains.len());
     }
 }
 

@@ -1,7 +1,7 @@
 //! Removals at the ends of the list.
 ghost use Rattle.std.specs.Prelude.{IsSome};
 ghost use Rattle.triple_arena_ord.specs.Node.{nodes_in};
-ghost use Rattle.triple_arena_ord.specs.OrderedDrains.{IsTaken, TakesFirst, TakesLast};
+ghost use Rattle.triple_arena_ord.specs.OrderedDrains.{IsItemTaken, TakesFirst, TakesLast};
 
 use crate::ord_arena::removal::neighbors;
 use crate::{OrdSlots, SimpleOrdArena};
@@ -11,8 +11,8 @@ impl<P: PtrCore, T: Drop, S: OrdSlots<P, T>> SimpleOrdArena<P, T, S> {
     // The entry at a live index leaves, and is given with the pointer to it.
     fn take_live(&mut self, i: P::Inx) -> InvalidationOption<(P, T)>
         requires { IsSome (nodes_in self.old.chains (P.Inx.number i)) }
-        ensures { IsTaken P.Gen.last P.index P.generation (P.Inx.number i) result
-            self.old self.new }
+        ensures { IsItemTaken P.Gen.last P.index P.generation (P.Inx.number i) result self.old
+            self.new }
     {
         let (prev, next) = neighbors(&self.chains, i);
         let ((generation, t), wrapped) = self.remove_live(i, prev, next);

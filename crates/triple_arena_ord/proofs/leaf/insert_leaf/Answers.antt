@@ -38,8 +38,8 @@ linked : (g : _) (c : After-inx g)
       rank = 1;
     })
 linked g c =
-    let bound : c.capacity-capacity.result < 2 ^ 64 = search rules in
-    let capacity_is = c.capacity-capacity.ensures.value in
+    let bound : c.capacity.result < 2 ^ 64 = search rules in
+    let capacity_is = c.capacity.ensures.value in
     let room = c.requires.room in
     record {
       is = c.requires.ordered;

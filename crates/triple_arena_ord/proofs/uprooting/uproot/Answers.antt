@@ -27,7 +27,7 @@ way g c =
     subst (λ i. Way (old g c) (number c.args.gone) (number i)
     (option_map number c.moved_up-moved.result)) (sym c.unwrap_or-out.ensures)
     (way_up number (old g c) c.requires.ordered c.args.gone
-    (small _ _ c.len-count.ensures.value (search rules)) c.requires.lives _ c.read-links.ensures
+    (small _ _ c.len.ensures.value (search rules)) c.requires.lives _ c.read-links.ensures
     c.read-links.result.right c.moved_up-moved.result c.args.next refl
     c.moved_up-moved.ensures.none c.moved_up-moved.ensures.some c.requires.next)
 
